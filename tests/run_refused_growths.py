@@ -34,6 +34,7 @@ SOME_CASES = "code-run", "check-two-leaves", "check-client-and-server", "check-t
 OF_DESIGNERS = (
     "list-every-statement", "list-a-program-given-as-code", "list-numbers-of-blocks",
     "tree-inits", "graph-inits", "tree-version-2", "graph-a-leaf-after-another",
+    "offer-deep-tree", "offer-tree-dot",
 )
 OF_SIZES = "size-servers-of-servers", "size-of-an-open-that-gives-too-little", "why-every-statement", "why-a-server-of-two"
 OF_FITS = "fit-servers-of-servers", "fit-donations-of-servers-of-servers"
@@ -46,7 +47,8 @@ RULES = TOP / "tests" / "tables" / "rule.toml"
 FAULTS = TOP / "tests" / "tables" / "faults.toml"
 # Of each kind one: of no TOML, of tables, of counts and names, of texts and codes, of rules, of routes, of budgets and of turns.
 SOME_FAULTS = {
-    "S1", "S2", "S3", "S4", "S5", "S6", "S7", "M1", "C2", "V12", "V13", "V14", "V18", "V19", "S8", "S9", "S10", "S11", "S12", "S13", "S14", "B1", "B2", "B3", "U1",
+    "S1", "S2", "S3", "S4", "S5", "S6", "S7", "M1", "C2", "V12", "V13", "V14", "V18", "V19", "S8", "S9", "S10", "S11", "S12", "S13", "S14", "S15", "B1", "B2",
+    "B3", "U1",
 }
 SOURCE = TOP / "tests" / "refuse_growth.c"
 SECONDS = 120

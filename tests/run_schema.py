@@ -40,7 +40,7 @@ RIGHT = re.compile(rb"trade: (S[589]|S1\d|U\d|[\w-]+: [MCVB]\d+) |trade: no comp
 INTERFACE = "properties", "interface", "additionalProperties"
 NODE = "properties", "start", "items"
 ROUTE = "properties", "default-route", "items"
-NODE_KEYS = "name quantum caps route start default-route provides after inputs program code"
+NODE_KEYS = "name quantum caps route start default-route offers provides after inputs program code"
 ROUTE_KEYS = "service any-service child any-child parent"
 TABLES = [
     ((), "version ram caps default-route interface start"),
@@ -51,9 +51,9 @@ TABLES = [
     ((*NODE, "properties", "route", "items"), ROUTE_KEYS),
     ((*NODE, "properties", "default-route", "items"), ROUTE_KEYS),
 ]
-OPTIONAL = {"default-route", "interface", "object", "upgrades", "upgrade-caps", "buffer", "route", "provides", "after", "inputs"}
+OPTIONAL = {"default-route", "interface", "object", "upgrades", "upgrade-caps", "buffer", "route", "provides", "after", "inputs", "offers"}
 # The keys that each version lacks.
-LACKING = {1: {"caps", "need-caps", "upgrade-caps", "inputs"}, 2: {"inputs"}, 3: set()}
+LACKING = {1: {"caps", "need-caps", "upgrade-caps", "inputs", "offers"}, 2: {"inputs", "offers"}, 3: set()}
 
 # Quantities: the place, the least value, the greatest one, and of what it is a multiple.
 QUANTITIES = [
@@ -96,6 +96,8 @@ VALUES = [
     ((*NODE, "properties", "name"), NAMES[0], [*NAMES[1], "init"]),
     ((*NODE, "properties", "route"), *ROUTES),
     ((*NODE, "properties", "default-route"), *ROUTES),
+    ((*NODE, "properties", "offers"), [{}, {"e": "a"}, {"e": "a", "f": "a"}], [[], ["a"], "a", 1, {"e": 1}, {"e": ["a"]}, {"a b": "a"}, {"": "a"}]),
+    ((*NODE, "properties", "offers", "additionalProperties"), *NAMES),
     ((*NODE, "properties", "provides"), *NAMES),
     ((*NODE, "properties", "after"), *NAMES),
     ((*NODE, "properties", "inputs"), [[], [0, 1], [4294967295] * 8], [0, {}, "1", ["1"], [-1], [4294967296], [0] * 9]),
@@ -149,6 +151,15 @@ MISTAKES = [
     (NODE_3.format("inputs = [1, 4294967296], code = ''"), [("start.0.inputs.1", "4294967296")]),
     (NODE_3.format("inputs = [1, 1, 1, 1, 1, 1, 1, 1, 1], code = ''"), [("start.0.inputs", "")]),
     (NODE_3.format("inputs = [1], code = ''").replace("caps = 0, ", ""), [("start.0", "'caps'")]),
+    (NODE_1.format("offers = {}, start = []"), [("start.0.offers", "in version 1")]),
+    (NODE_2.format("offers = { log = 'b' }, start = []"), [("start.0.offers", "in version 2")]),
+    (NODE_3.format("offers = {}, code = ''"), [("start.0.offers", "on a leaf")]),
+    (NODE_3.format("offer = {}, start = []"), [("start.0", "'offer'")]),
+    (NODE_3.format("offers = ['log'], start = []"), [("start.0.offers", "['log']")]),
+    (NODE_3.format("offers = { log = 1 }, start = []"), [("start.0.offers.log", "1")]),
+    (NODE_3.format("offers = { log = 'a b' }, start = []"), [("start.0.offers.log", "'a b'")]),
+    (NODE_3.format("offers = { 'a b' = 'b' }, start = []"), [("start.0.offers", "'a b'")]),
+    (THREE + "start = []\noffers = {}", [("", "'offers'")]),
     (NODE_1.format("provides = 'log'"), [("start.0", "'program'")]),
     (NODE_1.format("program = '', code = '00'"), [("start.0.code", "beside program")]),
     (NODE_1.format("code = '0'"), [("start.0.code", "'0'")]),
@@ -257,7 +268,7 @@ def of_descriptions(schema):
 def nodes(depth):
     """Two nodes at this depth, which have all keys of a node."""
     node = {"name": f"a{depth}", "quantum": 0, "caps": 0, "route": []}
-    init = {**node, "start": nodes(depth + 1) if depth < 4 else [], "default-route": []}
+    init = {**node, "start": nodes(depth + 1) if depth < 4 else [], "default-route": [], "offers": {}}
     return [{**node, "provides": "e", "after": "a", "inputs": [], "program": ""}, init]
 
 

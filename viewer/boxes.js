@@ -127,7 +127,8 @@ class BoxView {
     const full = `${free} of ${bytes(node.quantum)}${two ? `, ${account.caps} of ${caps(node.caps)}` : ""} left`;
     setText(left, firstFit([full, `${free}${some} left`, `${free} left`, free], room));
     const capsTitle = two ? `, and ${account.caps} of ${caps(node.caps)}` : "";
-    setText(title, `${node.label}: ${counted(account.quota, "byte")} of ${counted(node.quantum, "byte")}${capsTitle} not handed to children`);
+    const offers = node.offers.map(({ service, child }) => `\noffers ${service} from ${child}`).join("");
+    setText(title, `${node.label}: ${counted(account.quota, "byte")} of ${counted(node.quantum, "byte")}${capsTitle} not handed to children${offers}`);
   }
   updateLeaf(part, account, acts, chosen) {
     const { node, width } = part, most = this.run.greatest[node.number].quota, room = width - 18;

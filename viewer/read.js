@@ -151,6 +151,7 @@ class Scanner {
 
 const NAME = "[A-Za-z0-9_-]+", LABEL = `${NAME}(?: -> ${NAME})*`;
 const OPENS = new RegExp(`^opens (${NAME}) of (${LABEL})$`);
+const OFFERS = new RegExp(`^offers (${NAME}) from (${NAME})$`);
 const INIT = new RegExp(`^(${NAME}) quantum (\\d+) left (\\d+)(?: caps (\\d+) left (\\d+))?$`);
 const GREATEST = `\\d+(?: \\d+){0,${INPUTS - 1}}`;
 const LEAF = new RegExp(`^(${NAME}) quantum (\\d+)(?: caps (\\d+))?(?: provides (${NAME}))?(?: after (${NAME}))?(?: inputs (${GREATEST}))?`
@@ -168,16 +169,21 @@ function nodeOf(line) {
   return m ? { leaf: false, name: m[1], quantum: +m[2], left: +m[3], caps: optional(m[4]), capsLeft: optional(m[5]) } : undefined;
 }
 
-/** Whether a route can lead from a leaf to a node: to another leaf beside it, or beside an init around it. */
-function isRouted(client, server) {
-  let around = client.parent;
-  while (server && around && around !== server.parent) around = around.parent;
-  return server !== undefined && server.leaf && server !== client && around !== undefined;
+/** Whether a service can lead from a leaf to a node: to another leaf beside it or beside an init around it, or by offers to a leaf below such a node. */
+function isRouted(client, server, service) {
+  if (!server?.leaf || server === client) return false;
+  const around = new Set();
+  for (let init = client.parent; init; init = init.parent) around.add(init);
+  for (let node = server; node.parent; node = node.parent) {
+    if (around.has(node.parent)) return true;
+    if (!node.parent.offers.some(offer => offer.service === service && offer.child === node.name)) return false;
+  }
+  return false;
 }
 
-/** The text of `trade tree`: the nodes in preorder, each with its number, label, depth, parent, children and the services that it opens. */
+/** The text of `trade tree`: the nodes in preorder, each with its number, label, depth, parent, children and the services that it opens or offers. */
 function readTree(text) {
-  const scanner = new Scanner("tree", bytesOf(text)), nodes = [], above = [], opened = [];
+  const scanner = new Scanner("tree", bytesOf(text)), nodes = [], above = [], opened = [], offered = [];
   while (scanner.nextLine()) {
     const indented = scanner.rest(), line = indented.trimStart(), depth = (indented.length - line.length) / 2, opens = OPENS.exec(line);
     if (opens && nodes.length && nodes.at(-1).leaf && depth === nodes.at(-1).depth + 1) {
@@ -185,20 +191,29 @@ function readTree(text) {
       opened.push([scanner.end, nodes.at(-1), nodes.at(-1).opens.at(-1)]);
       continue;
     }
+    const offers = OFFERS.exec(line), last = nodes.at(-1);
+    if (offers && last && !last.leaf && last.depth > 0 && depth === last.depth + 1) {
+      last.offers.push({ service: offers[1], child: offers[2] });
+      offered.push([scanner.end, last, last.offers.at(-1)]);
+      continue;
+    }
     const node = nodeOf(line), parent = above[depth - 1];
     if (!node || (nodes.length ? !parent || parent.leaf || depth > above.length : depth !== 0)) scanner.refuse();
     above.length = depth;
     above.push(node);
-    Object.assign(node, { number: nodes.length, depth, parent, children: [], opens: [], label: above.map(n => n.name).join(" -> ") });
+    Object.assign(node, { number: nodes.length, depth, parent, children: [], opens: [], offers: [], label: above.map(n => n.name).join(" -> ") });
     parent?.children.push(node);
     nodes.push(node);
   }
   if (!nodes.length) throw new Malformed("tree: the text is empty");
   const byLabel = new Map(nodes.map(n => [n.label, n.number]));
   if (byLabel.size < nodes.length || nodes.length >= NOBODY) throw new Malformed("tree: a name stands twice");
+  for (const [end, init, { child }] of offered) {
+    if (!init.children.some(node => node.name === child)) { scanner.end = end; scanner.refuse(); }
+  }
   for (const [end, client, opens] of opened) {
     opens.server = byLabel.get(opens.label);
-    if (!isRouted(client, nodes[opens.server])) { scanner.end = end; scanner.refuse(); }
+    if (!isRouted(client, nodes[opens.server], opens.service)) { scanner.end = end; scanner.refuse(); }
   }
   return nodes;
 }

@@ -383,6 +383,19 @@ test("names that are words of the formats, carriage returns, lines that look lik
   assert.deepEqual([run.last, run.turns, v.nextOf(run, 2, 0, 1), v.nextOf(run, 2, 3, -1)], [3, 4, 3, 0]);
 });
 
+test("services that inits offer: routes lead through offers alone, and an offer names a child", () => {
+  const tree = (outer, inner) => v.readTree(["init quantum 65536 left 0", "  hw quantum 8192 left 0", `    offers echo from ${outer}`,
+    "    nic quantum 8192 left 0", `      offers ${inner} from srv`, "      srv quantum 4096 provides echo own 0 steps 1",
+    "  cli quantum 4096 own 0 steps 1", "    opens echo of init -> hw -> nic -> srv"].join("\n"));
+  const nodes = tree("nic", "echo");
+  assert.deepEqual(nodes.map(n => n.offers), [[], [{ service: "echo", child: "nic" }], [{ service: "echo", child: "srv" }], [], []]);
+  assert.equal(nodes[4].opens[0].server, 3);
+  assert.throws(() => tree("srv", "echo"), /line 3/);
+  assert.throws(() => tree("nic", "log"), /line 8/);
+  assert.throws(() => v.readTree("init quantum 4096 left 0\n  offers echo from a\n  a quantum 4096 own 0 steps 1\n"), /line 2/);
+  assert.throws(() => v.readTree("init quantum 4096 left 0\n  a quantum 4096 own 0 steps 1\n    offers echo from a\n"), /line 3/);
+});
+
 test("texts that are none are refused with their line", () => {
   const tree = "init quantum 8192 left 4096\n  a quantum 4096 own 0 steps 9\n", nodes = v.readTree(tree);
   const end = "end after 1 turns\naccount init quota 4096\naccount init -> a quota 4096 used 0 steps 0/9 running\n";

@@ -20,7 +20,7 @@ use Rattle.std.proofs.lemmas.Bool.{and_parts}
 use Rattle.gq_model.specs.texts.Letters.{is_name}
 use Rattle.gq_scenario.specs.Document.{list_of, walk_fault}
 use Rattle.gq_scenario.specs.Keys.{items_of, is_list, required, optional, either, other, is_number, is_quantity, is_text, is_hex, is_name_text}
-use Rattle.gq_scenario.specs.Tables.{are_named_tables, is_named_tables, is_total, is_declared, is_inputs, greatest_caps}
+use Rattle.gq_scenario.specs.Tables.{are_named_tables, is_named_tables, is_named_names, is_total, is_declared, is_inputs, greatest_caps}
 use Rattle.gq_reader.specs.internal.Walk.{own_fault}
 use Rattle.gq_reader.proofs.Kept.{kept, fits_or_none}
 use Rattle.gq_reader.proofs.Passed.{absent}
@@ -121,8 +121,10 @@ node_keys_by two rest =
     (required (codes "name") is_name_text ∷ required (codes "quantum") (is_quantity 0 1099511627776)
     ∷ cond two (required (codes "caps") (is_number 0 greatest_caps) ∷ []) [] ++ optional (codes "route") (is_list is_table) ∷ []) ++ rest
 
-abbrev init_rest : List KeyRule
-init_rest = required (codes "start") (is_list is_table) ∷ optional (codes "default-route") (is_list is_table) ∷ []
+abbrev init_rest : Bool → List KeyRule
+init_rest three =
+    required (codes "start") (is_list is_table) ∷ optional (codes "default-route") (is_list is_table)
+    ∷ cond three (optional (codes "offers") is_named_names ∷ []) []
 
 abbrev leaf_rest : Bool → List (List ℕ) → List KeyRule
 leaf_rest three services =
@@ -135,7 +137,7 @@ leaf_keys_by two three services =
     ++ either (codes "program") (codes "code" ∷ []) is_text ∷ other (codes "code") (codes "program" ∷ []) is_hex ∷ []
 
 abbrev keys_by : Bool → Bool → Bool → List (List ℕ) → List KeyRule
-keys_by inner two three services = cond inner (node_keys_by two init_rest) (leaf_keys_by two three services)
+keys_by inner two three services = cond inner (node_keys_by two (init_rest three)) (leaf_keys_by two three services)
 
 -- a leaf has no nodes, and no routes for some
 no_nodes : (two three : Bool) (services : List (List ℕ)) (entries : Members) → unknown_key (leaf_keys_by two three services) entries ≡ None
@@ -162,14 +164,14 @@ leaf_lists two three services entries routes e =
 lists_by : (inner two three : Bool) (services : List (List ℕ)) (entries : Members) → table_fault (keys_by inner two three services) entries ≡ None
     → HasLists entries
 lists_by true true three services entries e =
-    let (known, k) = kept (node_keys_by true init_rest) entries e in
+    let (known, k) = kept (node_keys_by true (init_rest three)) entries e in
     record {
       routes = tables_at entries (codes "route") k.1.1.1.0.fits;
       start = tables_at entries (codes "start") k.1.1.1.1.0.fits;
       default_routes = tables_at entries (codes "default-route") k.1.1.1.1.1.0.fits;
     }
 lists_by true false three services entries e =
-    let (known, k) = kept (node_keys_by false init_rest) entries e in
+    let (known, k) = kept (node_keys_by false (init_rest three)) entries e in
     record {
       routes = tables_at entries (codes "route") k.1.1.0.fits;
       start = tables_at entries (codes "start") k.1.1.1.0.fits;

@@ -5,19 +5,20 @@ use Rattle.std.specs.Prelude.{codes, nat_le}
 use Rattle.gq_model.specs.machine.Amounts.{Resource, Ram, Caps, part}
 use Rattle.gq_model.specs.machine.Lists.{or_first}
 use Rattle.gq_model.specs.machine.Routes.{route}
-use Rattle.gq_model.specs.machine.Scenario.{Scenario, Nodes, End, Leaf_node, Init_node, Component, System, components, system}
+use Rattle.gq_model.specs.machine.Scenario.{Scenario, Interfaces, Offers, Nodes, End, Leaf_node, Init_node, Component, System, components, system}
 use Rattle.gq_model.specs.rules.Accept.{Refusal, Over_own, Over_steps, Budget, bad_program, budgets, program_refusal, not_resolved, own_refusal, steps_refusal}
 use Rattle.gq_model.specs.rules.Accept.{refusal, Not_resolved}
-use Rattle.gq_model.specs.rules.Resolve.{Unresolved, Bad_after, Cycle, exceeds, first_exceeding, quanta_fault, is_bad_after, with_name, after_fault, unrouted}
-use Rattle.gq_model.specs.rules.Resolve.{services_fault, routes_fault, cycle_fault, unresolved}
+use Rattle.gq_model.specs.rules.Resolve.{Unresolved, Bad_offer, Bad_after, Cycle, exceeds, first_exceeding, quanta_fault, is_offer, offers_fault}
+use Rattle.gq_model.specs.rules.Resolve.{first_bad_offer, offer_fault, is_bad_after, with_name, after_fault, unrouted, services_fault, routes_fault}
+use Rattle.gq_model.specs.rules.Resolve.{cycle_fault, unresolved}
 use Rattle.gq_model.specs.rules.Use.{services, reaches, subject}
 use Rattle.gq_model.specs.rules.Verdict.{program_fault, greatest_cost}
 use Rattle.gq_resolve.specs.Served.{once}
 use Rattle.gq_resolve.proofs.Each_once.{fault_once}
 use Rattle.gq_load.specs.Load.{Refused_for, source_fault, sources_fault, refused, scenario_fault}
 use Rattle.gq_faults.specs.Lists.{listed_if, all_found, or_else, first}
-use Rattle.gq_faults.specs.Scenario_faults.{sources_faults, rules_faults, all_exceeding, quanta_faults, after_faults, services_lost, routes_lost, cycles}
-use Rattle.gq_faults.specs.Scenario_faults.{unresolved_all, over_own, over_steps, over_budgets, scenario_faults}
+use Rattle.gq_faults.specs.Scenario_faults.{sources_faults, rules_faults, all_exceeding, quanta_faults, offers_bad, all_bad_offers, after_faults, services_lost}
+use Rattle.gq_faults.specs.Scenario_faults.{routes_lost, cycles, unresolved_all, over_own, over_steps, over_budgets, scenario_faults}
 use Rattle.gq_faults.proofs.Firsts.{first_both, first_when, first_listed, first_else, first_map, or_assoc}
 
 first_of_each : {A B : Type 0} (f : A → Option B) (a : A) (rest : List A) (o : Option B) → first (all_found (λ a. listed_if (f a)) rest) ≡ o
@@ -55,6 +56,26 @@ first_of_quanta r s =
     let e = exceeds r (codes "init") s.total s.nodes in
     first_both (listed_if e) (all_exceeding r s.nodes) e (first_exceeding r s.nodes) (first_listed e) (first_below r s.nodes)
 
+first_of_offers : (interfaces : Interfaces) (name : List ℕ) (children : Nodes) (offers : Offers)
+    → first (offers_bad interfaces name children offers) ≡ offers_fault interfaces name children offers
+first_of_offers interfaces name children [] = refl
+first_of_offers interfaces name children (o ∷ rest) =
+    first_when (not (is_offer interfaces children o.0 o.1)) (Bad_offer name) (offers_bad interfaces name children rest)
+    (offers_fault interfaces name children rest) (first_of_offers interfaces name children rest)
+    ∙ flipped (is_offer interfaces children o.0 o.1) (Bad_offer name) (offers_fault interfaces name children rest)
+
+first_of_bad : (interfaces : Interfaces) (nodes : Nodes) → first (all_bad_offers interfaces nodes) ≡ first_bad_offer interfaces nodes
+first_of_bad interfaces End = refl
+first_of_bad interfaces (Leaf_node node rest) = first_of_bad interfaces rest
+first_of_bad interfaces (Init_node node children rest) =
+    let o = offers_fault interfaces node.name children node.offers in
+    let b = first_bad_offer interfaces children in
+    let r = first_bad_offer interfaces rest in
+    first_both (offers_bad interfaces node.name children node.offers ++ all_bad_offers interfaces children) (all_bad_offers interfaces rest) (or_first o b) r
+    (first_both (offers_bad interfaces node.name children node.offers) (all_bad_offers interfaces children) o b
+    (first_of_offers interfaces node.name children node.offers) (first_of_bad interfaces children)) (first_of_bad interfaces rest)
+    ∙ or_assoc o b r
+
 first_of_after : (all : List Component) (earlier : List (List ℕ)) (cs : List Component) → first (after_faults all earlier cs) ≡ after_fault all earlier cs
 first_of_after all earlier [] = refl
 first_of_after all earlier (c ∷ rest) =
@@ -83,16 +104,21 @@ first_of_unresolved s =
     let all = system s in
     let q = quanta_fault Ram s in
     let k = quanta_fault Caps s in
+    let o = offer_fault s in
     let a = after_fault all.components [] all.components in
     let r = routes_fault all.components in
     let c = cycle_fault all 0 all.components in
-    first_both (quanta_faults Ram s ++ quanta_faults Caps s ++ after_faults all.components [] all.components ++ routes_lost all.components) _
-    (or_first (or_first (or_first q k) a) r) c
-    (first_both (quanta_faults Ram s ++ quanta_faults Caps s ++ after_faults all.components [] all.components) _ (or_first (or_first q k) a) r
-    (first_both (quanta_faults Ram s ++ quanta_faults Caps s) _ (or_first q k) a
-    (first_both (quanta_faults Ram s) (quanta_faults Caps s) q k (first_of_quanta Ram s) (first_of_quanta Caps s))
+    let qs = quanta_faults Ram s in
+    let ks = quanta_faults Caps s in
+    let os = all_bad_offers s.interfaces s.nodes in
+    let afters = after_faults all.components [] all.components in
+    first_both (qs ++ ks ++ os ++ afters ++ routes_lost all.components) _ (or_first (or_first (or_first (or_first q k) o) a) r) c
+    (first_both (qs ++ ks ++ os ++ afters) _ (or_first (or_first (or_first q k) o) a) r
+    (first_both (qs ++ ks ++ os) _ (or_first (or_first q k) o) a
+    (first_both (qs ++ ks) os (or_first q k) o (first_both qs ks q k (first_of_quanta Ram s) (first_of_quanta Caps s)) (first_of_bad s.interfaces s.nodes))
     (first_of_after all.components [] all.components)) (first_of_routes all.components)) (first_of_cycles all 0 all.components)
-    ∙ (or_assoc (or_first (or_first q k) a) r c ∙ (or_assoc (or_first q k) a (or_first r c) ∙ or_assoc q k (or_first a (or_first r c))))
+    ∙ (or_assoc (or_first (or_first (or_first q k) o) a) r c ∙ (or_assoc (or_first (or_first q k) o) a (or_first r c)
+    ∙ (or_assoc (or_first q k) o (or_first a (or_first r c)) ∙ or_assoc q k (or_first o (or_first a (or_first r c))))))
 
 -- BUDGETS
 

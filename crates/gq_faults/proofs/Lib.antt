@@ -3,6 +3,7 @@ pub mod First_of_counts
 pub mod Telling
 pub mod Values
 pub mod Known_keys
+pub mod Unknown_keys
 pub mod Counted
 pub mod First_of_texts
 pub mod Texts
@@ -12,7 +13,7 @@ pub mod Turn_lines
 pub mod Both
 pub mod First_of_scenarios
 pub mod Adding
-pub mod Exceeding
+pub mod Inits
 pub mod Over
 pub mod Staged
 pub mod Reached

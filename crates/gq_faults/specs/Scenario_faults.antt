@@ -2,9 +2,9 @@
 use Rattle.std.specs.Prelude.{ℕ, suc, nat_le, not, List, [], ◌∷◌, ◌++◌, length, map, codes}
 use Rattle.gq_model.specs.machine.Amounts.{Resource, Ram, Caps, part}
 use Rattle.gq_model.specs.machine.Routes.{route}
-use Rattle.gq_model.specs.machine.Scenario.{Scenario, Nodes, End, Leaf_node, Init_node, Component, System, components, system}
+use Rattle.gq_model.specs.machine.Scenario.{Scenario, Interfaces, Offers, Nodes, End, Leaf_node, Init_node, Component, System, components, system}
 use Rattle.gq_model.specs.rules.Accept.{Refusal, Not_resolved, Over_own, Over_steps, Budget, bad_program, budgets}
-use Rattle.gq_model.specs.rules.Resolve.{Unresolved, Bad_after, Cycle, exceeds, is_bad_after, with_name, unrouted}
+use Rattle.gq_model.specs.rules.Resolve.{Unresolved, Bad_offer, Bad_after, Cycle, exceeds, is_offer, is_bad_after, with_name, unrouted}
 use Rattle.gq_model.specs.rules.Use.{services, reaches, subject}
 use Rattle.gq_model.specs.rules.Verdict.{program_fault, greatest_cost}
 use Rattle.gq_resolve.specs.Served.{once}
@@ -33,6 +33,17 @@ all_exceeding r (Init_node node children rest) =
 abbrev pub quanta_faults : Resource → Scenario → List Unresolved
 quanta_faults r s = listed_if (exceeds r (codes "init") s.total s.nodes) ++ all_exceeding r s.nodes
 
+-- each of an init's offers that is none
+abbrev pub offers_bad : Interfaces → List ℕ → Nodes → Offers → List Unresolved
+offers_bad interfaces name children = all_found (λ o. when (not (is_offer interfaces children o.0 o.1)) (Bad_offer name))
+
+-- the same of each of these inits in preorder
+abbrev pub all_bad_offers : Interfaces → Nodes → List Unresolved
+all_bad_offers interfaces End = []
+all_bad_offers interfaces (Leaf_node node rest) = all_bad_offers interfaces rest
+all_bad_offers interfaces (Init_node node children rest) =
+    offers_bad interfaces node.name children node.offers ++ all_bad_offers interfaces children ++ all_bad_offers interfaces rest
+
 -- each leaf that may not start after the one that it names
 abbrev pub after_faults : List Component → List (List ℕ) → List Component → List Unresolved
 after_faults all earlier [] = []
@@ -55,7 +66,8 @@ cycles all x (c ∷ rest) = when (reaches (length all.components) all x x) (Cycl
 abbrev pub unresolved_all : Scenario → List Unresolved
 unresolved_all s =
     let all = system s in
-    quanta_faults Ram s ++ quanta_faults Caps s ++ after_faults all.components [] all.components ++ routes_lost all.components ++ cycles all 0 all.components
+    quanta_faults Ram s ++ quanta_faults Caps s ++ all_bad_offers s.interfaces s.nodes ++ after_faults all.components [] all.components
+    ++ routes_lost all.components ++ cycles all 0 all.components
 
 -- BUDGETS
 

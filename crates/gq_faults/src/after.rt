@@ -181,7 +181,7 @@ fn detail_of(
 // A component that may not start after the leaf that it names, at the end of what was found.
 fn push_bad(
     alloc: Global,
-    found: &mut Vec<Found<'static>>,
+    found: &mut Vec<Found<'_>>,
     all: &[Component<'_>],
     earlier: &[Component<'_>],
     component: &Component<'_>,
@@ -202,7 +202,7 @@ fn push_bad(
 /// Each leaf, in preorder, that may not start after the one that it names.
 pub(crate) fn push_after(
     alloc: Global,
-    found: &mut Vec<Found<'static>>,
+    found: &mut Vec<Found<'_>>,
     components: &[Component<'_>],
     leaves: &[Vec<Step<'static>>],
 ) -> Result<(), AllocError>

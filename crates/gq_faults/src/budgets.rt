@@ -44,7 +44,7 @@ fn compared(fault: &LoadFault, budget: &Budget) -> (Key, Detail<'static>) {
 // A leaf that uses more than a limit.
 fn push_over(
     alloc: Global,
-    found: &mut Vec<Found<'static>>,
+    found: &mut Vec<Found<'_>>,
     limit: Limit,
     component: &Component<'_>,
     budget: &Budget,
@@ -65,7 +65,7 @@ fn push_over(
 // All leaves that use more than a limit.
 fn push_all_over(
     alloc: Global,
-    found: &mut Vec<Found<'static>>,
+    found: &mut Vec<Found<'_>>,
     limit: Limit,
     components: &[Component<'_>],
     budgets: &[Budget],
@@ -106,7 +106,7 @@ fn routes_of(
 /// time in preorder. The scenario is resolved.
 pub(crate) fn push_budgets(
     alloc: Global,
-    found: &mut Vec<Found<'static>>,
+    found: &mut Vec<Found<'_>>,
     scenario: &Scenario,
     components: &[Component<'_>],
     surveys: &Surveys,

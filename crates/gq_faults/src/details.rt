@@ -4,7 +4,7 @@ use crate::found::{
     BadAfter, Compared, Crowd, Detail, Holder, Needed, SessionCost, TableKind, Unit,
 };
 use crate::meant::{Nearest, keys_of, near_keys};
-use crate::route_details::{push_hops, push_round};
+use crate::route_details::{push_hops, push_offer, push_round};
 use crate::text_details::push_mistake;
 use crate::words::{Details, crowd_word, holder_word, needed_word, table_word, unit_words};
 use gq_caps::Kind;
@@ -30,6 +30,7 @@ pub fn push_detail(told: &mut Details, detail: &Detail<'_>) -> Result<(), AllocE
         Detail::Rule(compared) => push_compared(told, compared),
         Detail::Handed { key, handed, has } => handed_out(told, key, *handed, *has),
         Detail::After(cause) => after(told, cause),
+        Detail::Offer(service, cause) => push_offer(told, service, cause),
         // On which line that is, is known to `tell` alone.
         Detail::NamedFirst(_) => Ok(()),
         Detail::RootName => told.line("init is the name of the root"),
@@ -151,7 +152,7 @@ fn bad(told: &mut Details, value: &Value, rule: ValueRule<'_>) -> Result<(), All
     }
 }
 
-// An entry among the interfaces whose key is no name, or whose value is no table.
+// An entry among the interfaces or the offers whose key is no name, or among the interfaces whose value is no table.
 fn bad_entry(told: &mut Details, name: &str, is_name: bool) -> Result<(), AllocError> {
     told.quoted(name)?;
     told.text(": wanted is ")?;

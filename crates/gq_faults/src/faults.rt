@@ -177,9 +177,9 @@ fn faults_of_document<W: Write>(
 
 /// Writes all that is wrong with a scenario and can be told at once, each fault as `PATH:LINE:COLUMN: FAULT` with its details below it: the faults of the first
 /// stage that has any. These are: that the text is no document; all faults of its tables, counts and names; the first of each program's text or code; the rule
-/// that each program breaks first; all of quanta, leaves that start after others, routes and cycles; all of budgets. Answers why the scenario is refused, if it
-/// is: the fault that `check` prints, which is the first of these (`laws`). Nothing is written where it is accepted. Ends early where host memory is refused or
-/// a write fails; then a prefix of the text was written.
+/// that each program breaks first; all of quanta, offers, leaves that start after others, routes and cycles; all of budgets. Answers why the scenario is
+/// refused, if it is: the fault that `check` prints, which is the first of these (`laws`). Nothing is written where it is accepted. Ends early where host
+/// memory is refused or a write fails; then a prefix of the text was written.
 pub fn faults<W: Write>(
     alloc: Global,
     file: File<'_>,

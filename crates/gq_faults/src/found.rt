@@ -69,7 +69,7 @@ pub enum Detail<'d> {
     Missing(TableKind, Key),
     /// A value at a key, and the values that fit.
     Bad(&'d Value, ValueRule<'d>),
-    /// An entry among the interfaces: whether its key is a name; then its value is no table.
+    /// An entry among the interfaces or the offers: whether its key is a name; then its value is no table.
     BadEntry(&'d str, bool),
     /// A key, and another that is there and beside which it can not stand.
     Beside(Key, Key),
@@ -93,6 +93,8 @@ pub enum Detail<'d> {
     },
     /// Why a leaf may not start after the one that it names.
     After(BadAfter),
+    /// A service that an init offers, and why it may not.
+    Offer(Name, BadOffer),
     /// How a route led, from the leaf's own init on.
     Routed(Vec<Hop>),
     /// The way round from a leaf to itself: each leaf, with the service that it opens of the next one.
@@ -258,6 +260,19 @@ pub enum BadAfter {
     Round(Vec<Name>),
 }
 
+/// Why an init may not offer a service.
+#[derive(Drop)]
+pub enum BadOffer {
+    /// There is no interface of the service; these have names like it.
+    NoInterface(Vec<Name>),
+    /// No child has this name; these have names like it.
+    NoChild(Name, Vec<Name>),
+    /// The child of this name is a leaf, which provides this service or none.
+    Leaf(Name, Option<Name>),
+    /// The child of this name is an init, which offers these services.
+    Init(Name, Vec<Name>),
+}
+
 /// Whose routes are followed at one init.
 #[derive(Drop)]
 pub struct Owner {
@@ -286,12 +301,14 @@ pub enum Where {
     Parent,
     /// No child has this name; these have names like it.
     NoChild(Name, Vec<Name>),
-    /// The child of this name is an init, or a leaf that does not provide the service.
-    Differs(Name),
-    /// None of the children provides the service.
-    NoProvider,
-    /// These children provide it.
-    Providers(Vec<Name>),
+    /// The child of this name is a leaf that does not provide the service, or an init that offers these instead.
+    Differs(Name, Vec<Name>),
+    /// The child of this name is an init that offers the service, and its offer leads to no server.
+    Astray(Name),
+    /// None of the children serves the service; these are inits, each with what it offers.
+    NoProvider(Vec<(Name, Vec<Name>)>),
+    /// These children serve it, and whether one of them is an init.
+    Providers(Vec<Name>, bool),
 }
 
 /// Puts a fault at the end of those that were found.

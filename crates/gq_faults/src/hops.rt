@@ -6,8 +6,8 @@ use crate::lines::nth_word;
 use crate::meant::Nearest;
 use gq_model::program::Name;
 use gq_resolve::component::Component;
-use gq_resolve::routing::{Level, fits, provider};
-use gq_scenario::scenario::{Node, Nodes, Route, Target};
+use gq_resolve::routing::{Level, fits, offer_of, provider};
+use gq_scenario::scenario::{Init, Node, Nodes, Route, Target};
 use std::alloc::{AllocError, Global};
 
 // The first route that fits, with its number from 1.
@@ -35,8 +35,8 @@ fn has_routes(node: &Node) -> bool {
     }
 }
 
-// The child of this name.
-fn child<'a>(siblings: &'a Nodes, name: &Name) -> Option<&'a Node> {
+/// The child of this name.
+pub(crate) fn child<'a>(siblings: &'a Nodes, name: &Name) -> Option<&'a Node> {
     for node in siblings.nodes() {
         if is_same(name_of(node), name) {
             return Some(node);
@@ -45,8 +45,12 @@ fn child<'a>(siblings: &'a Nodes, name: &Name) -> Option<&'a Node> {
     None
 }
 
-// The children with names like this one.
-fn near_children(alloc: Global, siblings: &Nodes, name: &Name) -> Result<Vec<Name>, AllocError> {
+/// The children with names like this one.
+pub(crate) fn near_children(
+    alloc: Global,
+    siblings: &Nodes,
+    name: &Name,
+) -> Result<Vec<Name>, AllocError> {
     let mut nearest = Nearest::new(alloc);
     for node in siblings.nodes() {
         nearest.compare(name.as_bytes(), name_of(node).as_bytes())?;
@@ -65,15 +69,74 @@ fn near_services(alloc: Global, routes: &[Route], service: &Name) -> Result<Vec<
     Ok(nearest.names())
 }
 
-// The children that provide a service.
-fn providers(alloc: Global, siblings: &Nodes, service: &Name) -> Result<Vec<Name>, AllocError> {
-    let mut names = Vec::new(alloc);
+/// The services that an init offers.
+pub(crate) fn offered(alloc: Global, init: &Init) -> Result<Vec<Name>, AllocError> {
+    let mut services = Vec::new(alloc);
+    for (service, _) in init.offers() {
+        services.push(service.copied())?;
+    }
+    Ok(services)
+}
+
+// The inits among these that offer something, each with what it offers.
+fn offering(alloc: Global, siblings: &Nodes) -> Result<Vec<(Name, Vec<Name>)>, AllocError> {
+    let mut inits = Vec::new(alloc);
     for node in siblings.nodes() {
-        if let Some(name) = provider(node, service) {
-            names.push(name.copied())?;
+        if let Node::Init(init, _) = node {
+            if !init.offers().is_empty() {
+                inits.push((init.name().copied(), offered(alloc, init)?))?;
+            }
         }
     }
-    Ok(names)
+    Ok(inits)
+}
+
+// The children that serve a service.
+fn servers<'a>(
+    alloc: Global,
+    siblings: &'a Nodes,
+    service: &Name,
+) -> Result<Vec<&'a Node>, AllocError> {
+    let mut nodes = Vec::new(alloc);
+    for node in siblings.nodes() {
+        if provider(node, service).is_some() {
+            nodes.push(node)?;
+        }
+    }
+    Ok(nodes)
+}
+
+// Where a child leads that a route names, and that refuses.
+fn by_name(alloc: Global, node: &Node, service: &Name) -> Result<Where, AllocError> {
+    let name = name_of(node).copied();
+    match node {
+        Node::Leaf(_) => Ok(Where::Differs(name, Vec::new(alloc))),
+        Node::Init(init, _) if offer_of(init.offers(), service).is_some() => {
+            Ok(Where::Astray(name))
+        }
+        Node::Init(init, _) => Ok(Where::Differs(name, offered(alloc, init)?)),
+    }
+}
+
+// Where any child leads that serves the service, and that refuses.
+fn by_service(alloc: Global, siblings: &Nodes, service: &Name) -> Result<Where, AllocError> {
+    let servers = servers(alloc, siblings, service)?;
+    match servers.as_slice() {
+        [] => Ok(Where::NoProvider(offering(alloc, siblings)?)),
+        [node] => Ok(Where::Astray(name_of(node).copied())),
+        nodes => several(alloc, nodes),
+    }
+}
+
+// These children all serve the service.
+fn several(alloc: Global, nodes: &[&Node]) -> Result<Where, AllocError> {
+    let mut names = Vec::new(alloc);
+    let mut has_init = false;
+    for node in nodes {
+        names.push(name_of(node).copied())?;
+        has_init = has_init || matches!(node, Node::Init(_, _));
+    }
+    Ok(Where::Providers(names, has_init))
 }
 
 // Where a target leads that refuses.
@@ -85,21 +148,14 @@ fn led(
 ) -> Result<Where, AllocError> {
     match target {
         Target::Parent => Ok(Where::Parent),
-        Target::Child(name) if child(siblings, name).is_some() => {
-            Ok(Where::Differs(name.copied()))
-        }
-        Target::Child(name) => Ok(Where::NoChild(
-            name.copied(),
-            near_children(alloc, siblings, name)?,
-        )),
-        Target::AnyChild => {
-            let names = providers(alloc, siblings, service)?;
-            if names.is_empty() {
-                Ok(Where::NoProvider)
-            } else {
-                Ok(Where::Providers(names))
+        Target::Child(name) => match child(siblings, name) {
+            Some(node) => by_name(alloc, node, service),
+            None => {
+                let near = near_children(alloc, siblings, name)?;
+                Ok(Where::NoChild(name.copied(), near))
             }
-        }
+        },
+        Target::AnyChild => by_service(alloc, siblings, service),
     }
 }
 

@@ -14,7 +14,8 @@
 //! - Faults of a document (`document`, by `walk`, `tables`, `nodes`, `counts` and `names`) are written as they are found.
 //! - Faults of a scenario that was read (`stages`) are few. They are values first, each with the line that `check` prints, a way into the document (`path`),
 //!   and what was compared (`found`). The stages are: the first fault of each program's text or code, and then the rule that each program breaks first
-//!   (`sources`, with `lines` and `leaves`); quanta, leaves that start after others, routes and cycles (`quanta`, `after`, `routes`); budgets (`budgets`).
+//!   (`sources`, with `lines` and `leaves`); quanta, offers, leaves that start after others, routes and cycles (`quanta`, `offers`, `after`, `routes`); budgets
+//!   (`budgets`).
 //!   Just the lines of the definition are found (`specs/Scenario_faults`), in its order.
 //! - Faults of turns (`turns`).
 //!
@@ -42,6 +43,7 @@ mod lines;
 mod meant;
 mod names;
 mod nodes;
+mod offers;
 pub mod path;
 mod pushers;
 mod quanta;

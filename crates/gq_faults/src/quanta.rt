@@ -64,7 +64,7 @@ struct Given {
 // An init of this name that hands out more than it has, at the end of what was found.
 fn push_exceeding(
     alloc: Global,
-    found: &mut Vec<Found<'static>>,
+    found: &mut Vec<Found<'_>>,
     given: Given,
     name: &Name,
     children: &Nodes,
@@ -99,7 +99,7 @@ fn push_exceeding(
 #[cycle(below)]
 fn push_below(
     alloc: Global,
-    found: &mut Vec<Found<'static>>,
+    found: &mut Vec<Found<'_>>,
     resource: Resource,
     nodes: &[Node],
     list: &[Step<'static>],
@@ -117,7 +117,7 @@ fn push_below(
 #[cycle(below)]
 fn push_node(
     alloc: Global,
-    found: &mut Vec<Found<'static>>,
+    found: &mut Vec<Found<'_>>,
     resource: Resource,
     node: &Node,
     index: usize,
@@ -155,7 +155,7 @@ fn root_name() -> Name
 /// Each init, in preorder, the root before all, that hands out more of a resource than it has.
 pub(crate) fn push_quanta(
     alloc: Global,
-    found: &mut Vec<Found<'static>>,
+    found: &mut Vec<Found<'_>>,
     resource: Resource,
     scenario: &Scenario,
 ) -> Result<(), AllocError>

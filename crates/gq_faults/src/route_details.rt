@@ -1,6 +1,6 @@
 // The details of services that lead nowhere, and of leaves that reach themselves.
 // No contract: its results are details alone. Tests show them.
-use crate::found::{Hop, Owner, Where};
+use crate::found::{BadOffer, Hop, Owner, Where};
 use crate::words::Details;
 use gq_model::program::Name;
 use std::alloc::AllocError;
@@ -101,17 +101,90 @@ fn led(told: &mut Details, target: &Where) -> Result<(), AllocError> {
             told.text(", which is not there")?;
             told.meant(near.as_slice())
         }
-        Where::Differs(name) => {
+        Where::Differs(name, offers) => {
             told.text(" leads to child ")?;
             told.name(name)?;
-            told.text(", which does not provide it")
+            told.text(", which does not provide it")?;
+            if offers.is_empty() {
+                return Ok(());
+            }
+            told.text(", but offers ")?;
+            told.names(offers.as_slice())
         }
-        Where::NoProvider => told.text(" leads to any child, and none provides it"),
-        Where::Providers(names) => {
-            told.text(" leads to any child, and these provide it: ")?;
+        Where::Astray(name) => {
+            told.text(" leads to child ")?;
+            told.name(name)?;
+            told.text(", whose offer of it leads nowhere")
+        }
+        Where::NoProvider(inits) => {
+            told.text(" leads to any child, and none provides it")?;
+            also_offered(told, inits.as_slice())
+        }
+        Where::Providers(names, has_init) => {
+            told.text(if *has_init {
+                " leads to any child, and these provide or offer it: "
+            } else {
+                " leads to any child, and these provide it: "
+            })?;
             told.names(names.as_slice())
         }
     }
+}
+
+// What each of these inits offers.
+fn also_offered(told: &mut Details, inits: &[(Name, Vec<Name>)]) -> Result<(), AllocError> {
+    for (init, services) in inits {
+        told.text("; ")?;
+        told.name(init)?;
+        told.text(" offers ")?;
+        told.names(services.as_slice())?;
+    }
+    Ok(())
+}
+
+/// Puts why an init may not offer a service at the end of details.
+pub(crate) fn push_offer(
+    told: &mut Details,
+    service: &Name,
+    cause: &BadOffer,
+) -> Result<(), AllocError> {
+    told.name(service)?;
+    match cause {
+        BadOffer::NoInterface(near) => {
+            told.text(" is no interface")?;
+            told.meant(near.as_slice())?;
+        }
+        BadOffer::NoChild(name, near) => {
+            offered_by(told, name)?;
+            told.text("is not there")?;
+            told.meant(near.as_slice())?;
+        }
+        BadOffer::Leaf(name, provided) => {
+            offered_by(told, name)?;
+            told.text("provides ")?;
+            match provided {
+                Some(provided) => told.name(provided)?,
+                None => told.text("nothing")?,
+            }
+        }
+        BadOffer::Init(name, services) => {
+            offered_by(told, name)?;
+            told.text("offers ")?;
+            if services.is_empty() {
+                told.text("nothing")?;
+            } else {
+                told.names(services.as_slice())?;
+            }
+        }
+    }
+    told.end()
+}
+
+// The child that an offer names.
+fn offered_by(told: &mut Details, name: &Name) -> Result<(), AllocError> {
+    told.text(" leads to child ")?;
+    told.name(name)?;
+    told.text(", which ")
 }
 
 /// Puts the way round from a leaf to itself at the end of details.

@@ -39,7 +39,7 @@ struct Use {
 // A service of a component that leads nowhere, at the end of what was found.
 fn push_lost(
     alloc: Global,
-    found: &mut Vec<Found<'static>>,
+    found: &mut Vec<Found<'_>>,
     component: &Component<'_>,
     service: &Name,
     leaves: &[Vec<Step<'static>>],
@@ -62,7 +62,7 @@ fn push_lost(
 // Each of these services of a component that leads nowhere.
 fn push_services(
     alloc: Global,
-    found: &mut Vec<Found<'static>>,
+    found: &mut Vec<Found<'_>>,
     component: &Component<'_>,
     services: &[Name],
     leaves: &[Vec<Step<'static>>],
@@ -80,7 +80,7 @@ fn push_services(
 // Each service of a component, which opens these, that leads nowhere.
 fn push_leaf(
     alloc: Global,
-    found: &mut Vec<Found<'static>>,
+    found: &mut Vec<Found<'_>>,
     component: &Component<'_>,
     opened: &[Name],
     leaves: &[Vec<Step<'static>>],
@@ -97,7 +97,7 @@ fn push_leaf(
 /// Each service, leaves in preorder, services in the order in which they are first opened, that leads nowhere.
 pub(crate) fn push_routes(
     alloc: Global,
-    found: &mut Vec<Found<'static>>,
+    found: &mut Vec<Found<'_>>,
     components: &[Component<'_>],
     opened: &[Vec<Name>],
     leaves: &[Vec<Step<'static>>],
@@ -280,7 +280,7 @@ fn forwards(alloc: Global, way: &[(Name, Name)]) -> Result<Vec<(Name, Name)>, Al
 // A leaf that reaches itself, at the end of what was found.
 fn push_cycle(
     alloc: Global,
-    found: &mut Vec<Found<'static>>,
+    found: &mut Vec<Found<'_>>,
     components: &[Component<'_>],
     uses: &[Vec<Use>],
     leaves: &[Vec<Step<'static>>],
@@ -300,7 +300,7 @@ fn push_cycle(
 // Where a component reaches itself, it is put at the end of what was found.
 fn push_reached(
     alloc: Global,
-    found: &mut Vec<Found<'static>>,
+    found: &mut Vec<Found<'_>>,
     components: &[Component<'_>],
     used: &[Vec<u32>],
     uses: &[Vec<Use>],
@@ -320,7 +320,7 @@ fn push_reached(
 // Each leaf, in preorder, that reaches itself, where these leaves serve each.
 fn push_all_reached(
     alloc: Global,
-    found: &mut Vec<Found<'static>>,
+    found: &mut Vec<Found<'_>>,
     components: &[Component<'_>],
     used: &[Vec<u32>],
     uses: &[Vec<Use>],
@@ -339,7 +339,7 @@ fn push_all_reached(
 /// Each leaf, in preorder, that reaches itself by the services that lead somewhere.
 pub(crate) fn push_cycles(
     alloc: Global,
-    found: &mut Vec<Found<'static>>,
+    found: &mut Vec<Found<'_>>,
     components: &[Component<'_>],
     opened: &[Vec<Name>],
     leaves: &[Vec<Step<'static>>],

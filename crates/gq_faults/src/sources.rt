@@ -114,7 +114,7 @@ fn read_fault(alloc: Global, leaf: &Leaf) -> Result<Option<LoadFault>, AllocErro
 // A fault of the text or the code of a leaf at the end of those that were found.
 fn push_of_text(
     alloc: Global,
-    found: &mut Vec<Found<'static>>,
+    found: &mut Vec<Found<'_>>,
     leaf: &Leaf,
     fault: &LoadFault,
     way: Vec<Step<'static>>,
@@ -128,7 +128,7 @@ fn push_of_text(
 // The same at the end of those that were found.
 fn push_source(
     alloc: Global,
-    found: &mut Vec<Found<'static>>,
+    found: &mut Vec<Found<'_>>,
     component: &Component<'_>,
     leaves: &[Vec<Step<'static>>],
     place: usize,
@@ -149,7 +149,7 @@ fn push_source(
 /// The first fault of each text and code.
 pub(crate) fn push_sources(
     alloc: Global,
-    found: &mut Vec<Found<'static>>,
+    found: &mut Vec<Found<'_>>,
     components: &[Component<'_>],
     leaves: &[Vec<Step<'static>>],
 ) -> Result<(), AllocError>
@@ -252,7 +252,7 @@ fn broken(component: &Component<'_>, program: &Program, interfaces: &Interfaces)
 // The same at the end of those that were found.
 fn push_judged(
     alloc: Global,
-    found: &mut Vec<Found<'static>>,
+    found: &mut Vec<Found<'_>>,
     component: &Component<'_>,
     program: &Program,
     interfaces: &Interfaces,
@@ -282,7 +282,7 @@ fn push_judged(
 // The same of a leaf whose text or code is a program.
 fn push_rule(
     alloc: Global,
-    found: &mut Vec<Found<'static>>,
+    found: &mut Vec<Found<'_>>,
     component: &Component<'_>,
     interfaces: &Interfaces,
     leaves: &[Vec<Step<'static>>],
@@ -301,7 +301,7 @@ fn push_rule(
 /// The rule that each program breaks first, where all texts and codes are programs.
 pub(crate) fn push_rules(
     alloc: Global,
-    found: &mut Vec<Found<'static>>,
+    found: &mut Vec<Found<'_>>,
     components: &[Component<'_>],
     interfaces: &Interfaces,
     leaves: &[Vec<Step<'static>>],

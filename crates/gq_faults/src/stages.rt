@@ -14,6 +14,7 @@ use crate::after::push_after;
 use crate::budgets::push_budgets;
 use crate::found::Found;
 use crate::leaves::push_leaves;
+use crate::offers::push_bad_offers;
 use crate::quanta::push_quanta;
 use crate::routes::{push_cycles, push_routes};
 use crate::sources::{push_rules, push_sources};
@@ -27,11 +28,11 @@ use gq_scenario::scenario::Scenario;
 use gq_toml_places::Step;
 use std::alloc::{AllocError, Global};
 
-// All faults of quanta, leaves that start after others, routes and cycles. The components are those of the scenario, which open these services.
-fn push_unresolved(
+// All faults of quanta, offers, leaves that start after others, routes and cycles. The components are those of the scenario, which open these services.
+fn push_unresolved<'s>(
     alloc: Global,
-    found: &mut Vec<Found<'static>>,
-    scenario: &Scenario,
+    found: &mut Vec<Found<'s>>,
+    scenario: &'s Scenario,
     components: &[Component<'_>],
     opened: &[Vec<Name>],
     leaves: &[Vec<Step<'static>>],
@@ -43,6 +44,7 @@ fn push_unresolved(
     let _count = scenario.leaf_count();
     push_quanta(alloc, found, Resource::Ram, scenario)?;
     push_quanta(alloc, found, Resource::Caps, scenario)?;
+    push_bad_offers(alloc, found, scenario)?;
     push_after(alloc, found, components, leaves)?;
     push_routes(alloc, found, components, opened, leaves)?;
     push_cycles(alloc, found, components, opened, leaves)
@@ -65,11 +67,11 @@ fn surveys_of(
     }
 }
 
-// All faults of quanta, leaves that start after others, routes and cycles; where there is none, all of budgets.
-fn push_rest(
+// All faults of quanta, offers, leaves that start after others, routes and cycles; where there is none, all of budgets.
+fn push_rest<'s>(
     alloc: Global,
-    found: &mut Vec<Found<'static>>,
-    scenario: &Scenario,
+    found: &mut Vec<Found<'s>>,
+    scenario: &'s Scenario,
     components: &[Component<'_>],
     leaves: &[Vec<Step<'static>>],
 ) -> Result<(), AllocError>
@@ -95,10 +97,10 @@ fn push_rest(
 }
 
 // The first fault of each text and code; where there is none, the rule that each program breaks first; where there is none, the rest.
-fn push_all(
+fn push_all<'s>(
     alloc: Global,
-    found: &mut Vec<Found<'static>>,
-    scenario: &Scenario,
+    found: &mut Vec<Found<'s>>,
+    scenario: &'s Scenario,
     components: &[Component<'_>],
     leaves: &[Vec<Step<'static>>],
 ) -> Result<(), AllocError>
@@ -123,7 +125,7 @@ fn no_ways(alloc: Global) -> Vec<Vec<Step<'static>>> {
 }
 
 // The same of faults.
-fn none_found(alloc: Global) -> Vec<Found<'static>>
+fn none_found<'s>(alloc: Global) -> Vec<Found<'s>>
     ensures { result.items ≡ [] }
 {
     Vec::new(alloc)
@@ -137,12 +139,12 @@ fn all_leaves(alloc: Global, scenario: &Scenario) -> Result<Vec<Vec<Step<'static
 }
 
 // The faults of a scenario, which has these components.
-fn found_in(
+fn found_in<'s>(
     alloc: Global,
-    scenario: &Scenario,
+    scenario: &'s Scenario,
     components: &[Component<'_>],
     leaves: &[Vec<Step<'static>>],
-) -> Result<Vec<Found<'static>>, AllocError>
+) -> Result<Vec<Found<'s>>, AllocError>
     requires { components.now ≡ model.components scenario.now }
     ensures { IfOk result (λ found. lines_found found.items ≡ map fault_text (spec.scenario_faults scenario.now)) }
 {
@@ -152,11 +154,11 @@ fn found_in(
 }
 
 /// The faults of a scenario: the first of each text and code that is no program; where there is none, the rule that each program breaks first; then all of
-/// quanta, leaves that start after others, routes and cycles; then all of budgets. None where the scenario is accepted.
-pub fn scenario_faults(
+/// quanta, offers, leaves that start after others, routes and cycles; then all of budgets. None where the scenario is accepted.
+pub fn scenario_faults<'s>(
     alloc: Global,
-    scenario: &Scenario,
-) -> Result<Vec<Found<'static>>, AllocError>
+    scenario: &'s Scenario,
+) -> Result<Vec<Found<'s>>, AllocError>
     ensures { IfOk result (λ found. lines_found found.items ≡ map fault_text (spec.scenario_faults scenario.now)) }
 {
     let leaves = all_leaves(alloc, scenario)?;

@@ -127,18 +127,34 @@ fn tell_missing_keys<W: Write>(
     Ok(())
 }
 
-// The first entry of a table of tables by names that has another key or another value.
-fn bad_entry<'d>(rule: ValueRule<'_>, value: &'d Value) -> Option<&'d str> {
+// Whether a value may be that of an entry of a table by names.
+fn is_entry(rule: ValueRule<'_>, value: &Value) -> bool {
+    match rule {
+        ValueRule::NamedNames => fits(ValueRule::NameText, value),
+        _ => value.is_table(),
+    }
+}
+
+// The first entry of a table by names that has another key or another value.
+fn bad_entry<'d>(rule: ValueRule<'_>, value: &'d Value) -> Option<(&'d str, &'d Value)> {
     match (rule, value.as_table()) {
-        (ValueRule::NamedTables, Some(table)) => {
+        (ValueRule::NamedTables | ValueRule::NamedNames, Some(table)) => {
             for (key, value) in table.iter() {
-                if !is_name(key.as_str().as_bytes()) || !value.is_table() {
-                    return Some(key.as_str());
+                if !is_name(key.as_str().as_bytes()) || !is_entry(rule, value) {
+                    return Some((key.as_str(), value));
                 }
             }
             None
         }
         _ => None,
+    }
+}
+
+// What is wrong with such an entry.
+fn entry_detail<'d>(rule: ValueRule<'_>, name: &'d str, value: &'d Value) -> Detail<'d> {
+    match (rule, is_name(name.as_bytes())) {
+        (ValueRule::NamedNames, true) => Detail::Bad(value, ValueRule::NameText),
+        (_, is_name) => Detail::BadEntry(name, is_name),
     }
 }
 
@@ -157,8 +173,8 @@ fn bad_detail<'d>(rule: &KeyRule<'d>, table: &'d Table) -> (Option<&'d str>, Det
     let Some(value) = value_at(table, rule.key) else {
         return (None, Detail::Nothing);
     };
-    if let Some(name) = bad_entry(rule.value, value) {
-        return (Some(name), Detail::BadEntry(name, is_name(name.as_bytes())));
+    if let Some((name, entry)) = bad_entry(rule.value, value) {
+        return (Some(name), entry_detail(rule.value, name, entry));
     }
     match first_of(table, rule.beside) {
         Some(beside) if fits(rule.value, value) => (None, Detail::Beside(rule.key, beside)),

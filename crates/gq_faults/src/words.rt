@@ -272,6 +272,9 @@ impl Details {
                 self.text("a table for each service, and for the service ")?;
                 self.text(NAME)
             }
+            ValueRule::NamedNames => {
+                self.text("a table with the name of a child for each service that is offered")
+            }
             ValueRule::Upgrades => { self.range("a list of at most 3 quantities", 0, 4294967295) }
             ValueRule::Counts(count) => {
                 self.text("a list of ")?;

@@ -7,7 +7,7 @@ use Rattle.gq_model.specs.machine.Program.{text_eq}
 use Rattle.gq_model.specs.machine.Scenario.{LeafNode, Nodes, End, Leaf_node, Init_node, Scenario, Component, components}
 use Rattle.gq_scenario.specs.Keys.{DocumentFault, KeyRule, required, optional, either, other, text_of, members_of, passes, is_number, is_quantity, is_text}
 use Rattle.gq_scenario.specs.Keys.{is_hex, is_name_text, is_table, is_list, table_fault}
-use Rattle.gq_scenario.specs.Tables.{greatest_caps, is_declared, is_inputs, leaf_keys, init_keys}
+use Rattle.gq_scenario.specs.Tables.{greatest_caps, is_declared, is_inputs, is_named_names, leaf_keys, init_keys}
 use Rattle.gq_scenario.specs.Document.{value_of, list_at, leaf_of, is_init, init_of, nodes_by, node_onto, first_of, routes_fault, node_fault}
 use Rattle.gq_scenario.specs.Sizes.{leaves_in}
 use Rattle.gq_scenario.proofs.Preorder.{components-leaves_in}
@@ -44,10 +44,22 @@ leaf_keys_by two three services =
     ∷ cond three (optional (codes "inputs") is_inputs ∷ []) [])
     ++ either (codes "program") (codes "code" ∷ []) is_text ∷ other (codes "code") (codes "program" ∷ []) is_hex ∷ []
 
+-- those of an init
+abbrev init_keys_by : Bool → Bool → List KeyRule
+init_keys_by two three =
+    (required (codes "name") is_name_text ∷ required (codes "quantum") (is_quantity 0 1099511627776)
+    ∷ cond two (required (codes "caps") (is_number 0 greatest_caps) ∷ []) [] ++ optional (codes "route") (is_list is_table) ∷ [])
+    ++ required (codes "start") (is_list is_table) ∷ optional (codes "default-route") (is_list is_table)
+    ∷ cond three (optional (codes "offers") is_named_names ∷ []) []
+
 -- no key of capabilities before version 2
 no_caps_key : (three : Bool) (services : List (List ℕ)) → any_of (λ (a : KeyRule). text_eq (codes "caps") a.key) (leaf_keys_by false three services) ≡ false
 no_caps_key true services = refl
 no_caps_key false services = refl
+
+no_caps_of_inits : (three : Bool) → any_of (λ (a : KeyRule). text_eq (codes "caps") a.key) (init_keys_by false three) ≡ false
+no_caps_of_inits true = refl
+no_caps_of_inits false = refl
 
 provides_fits : (two three : Bool) (services : List (List ℕ)) (entries : Members) → AreKept (leaf_keys_by two three services) entries
     → fits_or_none (is_declared services) (get_member (codes "provides") entries) ≡ true
@@ -100,7 +112,9 @@ module _ (version : ℕ) (services : List (List ℕ)) where
       let k = kept (init_keys version) entries e in
       record {
         plain = λ one. (
-          no_number (codes "caps") entries (absent (init_keys version) entries (codes "caps") k.0 (rw one refl)),
+          no_number (codes "caps") entries (absent (init_keys version) entries (codes "caps") k.0
+              (subst (λ b. any_of (λ (a : KeyRule). text_eq (codes "caps") a.key) (init_keys_by b (nat_le 3 version)) ≡ false) (sym one)
+              (no_caps_of_inits (nat_le 3 version)))),
           below.plain one,
           h.plain one,
         );

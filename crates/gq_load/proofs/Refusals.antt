@@ -138,3 +138,10 @@ pub refuses_so : {A : Type 0} (text : List ℕ) (s : Scenario) (r : Result A Loa
     IfErr r (λ e. Refuses e (loaded text))
 refuses_so text s (Ok a) is h = tt
 refuses_so text s (Err e) is h = subst (λ (l : Result Scenario Fault). Refuses e l) (sym (ap loaded_from is)) (gives_refuses s (scenario_fault s) e h)
+
+-- a text is refused by the first fault of its scenario
+pub refuses_or : (s : Scenario) (e : LoadError) (o : Option Fault) → PrintsFault e o → Refuses e (loaded_or s o)
+refuses_or s error.Memory None h = tt
+refuses_or s error.Memory (Some fault) h = tt
+refuses_or s (error.Fault f) None h = h
+refuses_or s (error.Fault f) (Some fault) h = h

@@ -43,7 +43,7 @@ abbrev pub any_to : Target → Option (List Route)
 any_to target = Some (record { service = None; target = target } ∷ [])
 
 abbrev pub init_node : List ℕ → ℕ → InitNode
-init_node name ram = record { name = name; quantum = amount ram 0; routes = None; default_routes = any_to Parent }
+init_node name ram = record { name = name; quantum = amount ram 0; routes = None; default_routes = any_to Parent; offers = [] }
 
 -- SCENARIOS
 

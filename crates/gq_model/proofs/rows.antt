@@ -3,6 +3,7 @@
 -- So a wrong definition is found here, before any body stands on it.
 mod Leaves
 mod Sessions
+mod Offers
 mod Budgets
 mod Refusals
 mod Text

@@ -15,7 +15,7 @@ use Rattle.gq_model.specs.machine.Scenario.{LeafNode, Nodes, End, Leaf_node, Ini
 use Rattle.gq_model.specs.machine.World.{World, first_phase, start_leaves, start}
 use Rattle.gq_model.specs.machine.Sums.{handed as handed_in}
 use Rattle.gq_model.specs.machine.Program.{text_eq}
-use Rattle.gq_model.specs.rules.Resolve.{first_handed, leaf_child, sibling, quanta_fault, after_fault, unresolved}
+use Rattle.gq_model.specs.rules.Resolve.{first_handed, leaf_child, sibling, quanta_fault, offer_fault, after_fault, unresolved}
 use Rattle.gq_model.proofs.Small.{some_same, none_some, get_within, or_first_none, text_is}
 use Rattle.gq_laws.specs.Resolved.{IsResolved}
 use Rattle.gq_laws.proofs.paying.Places.{starts_after}
@@ -43,7 +43,8 @@ use Rattle.gq_scenario.specs.Sizes.{node_count}
 pub afters_fit : (s : Scenario) → unresolved s ≡ None → after_fault (components s) [] (components s) ≡ None
 afters_fit s e =
     let one = or_first_none (quanta_fault Ram s) _ e in
-    let two = or_first_none (quanta_fault Caps s) _ one.1 in (or_first_none (after_fault (components s) [] (components s)) _ two.1).0
+    let two = or_first_none (quanta_fault Caps s) _ one.1 in
+    let three = or_first_none (offer_fault s) _ two.1 in (or_first_none (after_fault (components s) [] (components s)) _ three.1).0
 
 -- WHAT IS HANDED OUT AT FIRST
 

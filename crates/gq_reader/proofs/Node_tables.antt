@@ -1,16 +1,20 @@
 -- What is known of the tables of nodes and of routes without faults.
-use Rattle.std.proofs.Common.{◌≡◌, ℕ, ◌≤◌, nat_le, Bool, true, false, cond, List, [], ◌∷◌, ◌++◌, length, None, refl, arith}
+use Rattle.std.proofs.Common.{◌≡◌, ℕ, ◌≤◌, nat_le, Bool, true, false, ◌&&◌, cond, List, [], ◌∷◌, ◌++◌, length, Option, Some, None, refl, ap, ◌∙◌}
+use Rattle.std.proofs.Common.{append_assoc, arith}
 use Rattle.std.specs.Prelude.{codes}
-use Rattle.toml.specs.Data.{Members, get_member}
+use Rattle.std.proofs.lemmas.Bool.{and_parts}
+use Rattle.toml.specs.Data.{Data, string, integer, float, boolean, datetime, array, table, Members, member, get_member}
 use Rattle.gq_model.specs.machine.Lists.{all_of, between}
 use Rattle.gq_model.specs.texts.Letters.{is_name}
 use Rattle.gq_model.specs.texts.Operands.{greatest_number}
 use Rattle.gq_scenario.specs.Keys.{KeyRule, required, optional, either, other, has, is_number, is_quantity, is_text, is_hex, is_name_text, is_table, is_list}
 use Rattle.gq_scenario.specs.Keys.{items_of, list_length, unknown_key, table_fault}
-use Rattle.gq_scenario.specs.Tables.{is_declared, is_inputs, greatest_caps, route_keys}
-use Rattle.gq_scenario.specs.Document.{text_at, list_at, number_at, quantity_at}
+use Rattle.gq_scenario.specs.Keys.{text_of}
+use Rattle.gq_scenario.specs.Tables.{is_declared, is_inputs, are_named_names, is_named_names, greatest_caps, route_keys}
+use Rattle.gq_scenario.specs.Document.{or_empty, text_at, list_at, number_at, quantity_at, table_of, offers_of}
 use Rattle.gq_scenario.specs.Sizes.{IsQuantum}
-use Rattle.gq_reader.specs.internal.Sound.{is_name_or_none, has_source, IsLeafTable, IsInitTable}
+use Rattle.gq_model.specs.machine.Scenario.{Offers}
+use Rattle.gq_reader.specs.internal.Sound.{is_name_or_none, has_source, offers_at, IsLeafTable, IsInitTable}
 use Rattle.gq_reader.proofs.Passed.{absent}
 use Rattle.gq_reader.proofs.Kept.{AreKept, fits_or_none, kept, kept_parts, one_there, some_there, last_there, number_small, quantity_small, name_or_none}
 use Rattle.gq_reader.proofs.Kept.{name_there, declared_name, source_there, all_at, few_at}
@@ -35,8 +39,14 @@ own_keys three services = optional (codes "provides") (is_declared services) ∷
 abbrev leaf_keys_by : Bool → Bool → List (List ℕ) → List KeyRule
 leaf_keys_by two three services = (node_keys_by two ++ own_keys three services) ++ source_keys
 
-abbrev init_keys_by : Bool → List KeyRule
-init_keys_by two = node_keys_by two ++ required (codes "start") (is_list is_table) ∷ optional (codes "default-route") (is_list is_table) ∷ []
+abbrev offers_key : Bool → List KeyRule
+offers_key three = cond three (optional (codes "offers") is_named_names ∷ []) []
+
+abbrev init_rest : Bool → List KeyRule
+init_rest three = required (codes "start") (is_list is_table) ∷ optional (codes "default-route") (is_list is_table) ∷ offers_key three
+
+abbrev init_keys_by : Bool → Bool → List KeyRule
+init_keys_by two three = node_keys_by two ++ init_rest three
 
 pub record IsSoundLeaf (entries : Members) : Type 0 where
   pub name : is_name_or_none (text_at (codes "name") entries) ≡ true
@@ -52,6 +62,7 @@ pub record IsSoundInit (entries : Members) : Type 0 where
   pub name : is_name_or_none (text_at (codes "name") entries) ≡ true
   pub named : text_at (codes "name") entries ≡ None → ⊥
   pub quantum : IsQuantum (quantity_at (codes "quantum") entries) (number_at (codes "caps") entries)
+  pub offers : are_named_names (offers_at entries) ≡ true
 
 -- CAPABILITIES
 
@@ -67,10 +78,11 @@ leaf_caps true three services entries known k = kept_caps entries k.0.fits
 leaf_caps false true services entries known k = no_caps entries (absent (leaf_keys_by false true services) entries (codes "caps") known refl)
 leaf_caps false false services entries known k = no_caps entries (absent (leaf_keys_by false false services) entries (codes "caps") known refl)
 
-init_caps : (two : Bool) (entries : Members) → unknown_key (init_keys_by two) entries ≡ None → AreKept (caps_rest two) entries
+init_caps : (two three : Bool) (entries : Members) → unknown_key (init_keys_by two three) entries ≡ None → AreKept (caps_rest two) entries
     → number_at (codes "caps") entries ≤ 65536
-init_caps true entries known k = kept_caps entries k.0.fits
-init_caps false entries known k = no_caps entries (absent (init_keys_by false) entries (codes "caps") known refl)
+init_caps true three entries known k = kept_caps entries k.0.fits
+init_caps false true entries known k = no_caps entries (absent (init_keys_by false true) entries (codes "caps") known refl)
+init_caps false false entries known k = no_caps entries (absent (init_keys_by false false) entries (codes "caps") known refl)
 
 -- INPUTS
 
@@ -82,6 +94,43 @@ inputs_fit : (two three : Bool) (services : List (List ℕ)) (entries : Members)
 inputs_fit two true services entries known k = k.0.fits
 inputs_fit true false services entries known k = no_inputs entries (absent (leaf_keys_by true false services) entries (codes "inputs") known refl)
 inputs_fit false false services entries known k = no_inputs entries (absent (leaf_keys_by false false services) entries (codes "inputs") known refl)
+
+-- OFFERS
+
+table_named : (d : Data) → is_named_names d ≡ true → are_named_names (table_of (Some d)) ≡ true
+table_named (string s) e = refl
+table_named (integer z) e = refl
+table_named (float x) e = refl
+table_named (boolean b) e = refl
+table_named (datetime x) e = refl
+table_named (array ds) e = refl
+table_named (table ms) e = e
+
+names_named : (o : Option Data) → fits_or_none is_named_names o ≡ true → are_named_names (table_of o) ≡ true
+names_named None e = refl
+names_named (Some d) e = table_named d e
+
+no_offers : (entries : Members) → get_member (codes "offers") entries ≡ None → are_named_names (offers_at entries) ≡ true
+no_offers entries e = rw e refl
+
+offers_named : (two three : Bool) (entries : Members) → unknown_key (init_keys_by two three) entries ≡ None
+    → AreKept (offers_key three) entries → are_named_names (offers_at entries) ≡ true
+offers_named two true entries known k = names_named (get_member (codes "offers") entries) k.0.fits
+offers_named true false entries known k = no_offers entries (absent (init_keys_by true false) entries (codes "offers") known refl)
+offers_named false false entries known k = no_offers entries (absent (init_keys_by false false) entries (codes "offers") known refl)
+
+pub rest_offered : (key : List ℕ) (d : Data) (rest : Members) → are_named_names (member key d rest) ≡ true
+    → (is_name key ≡ true) × (is_name_text d ≡ true) × (are_named_names rest ≡ true)
+rest_offered key d rest e =
+    let (here, others) = and_parts (is_name key && is_name_text d) (are_named_names rest) e in
+    let (named, child) = and_parts (is_name key) (is_name_text d) here in (named, child, others)
+
+-- one offer more
+pub offer_read : (key : List ℕ) (d : Data) (rest : Members) (done : Offers) (service child : List ℕ) → service ≡ key → text_of d ≡ Some child
+    → (done ++ (service, child) ∷ []) ++ offers_of rest ≡ done ++ offers_of (member key d rest)
+offer_read key d rest done service child e f =
+    let one : (service, child) ∷ offers_of rest ≡ offers_of (member key d rest) = rw (e, f) refl in
+    append_assoc done ((service, child) ∷ []) (offers_of rest) ∙ ap (λ l. done ++ l) one
 
 -- NODES
 
@@ -108,24 +157,25 @@ leaf_by two three services entries names e =
           (some_there _ _ source.0.there) source.0.fits source.1.0.fits;
     }
 
-init_by : (two : Bool) (entries : Members) → table_fault (init_keys_by two) entries ≡ None → IsSoundInit entries
-init_by two entries e =
-    let (known, all) = kept (init_keys_by two) entries e in
-    let node = (kept_parts (node_keys_by two) _ entries all).0 in
+init_by : (two three : Bool) (entries : Members) → table_fault (init_keys_by two three) entries ≡ None → IsSoundInit entries
+init_by two three entries e =
+    let (known, all) = kept (init_keys_by two three) entries e in
+    let (node, own) = kept_parts (node_keys_by two) (init_rest three) entries all in
     record {
       name = name_or_none (get_member (codes "name") entries) node.0.fits;
       named = name_there (get_member (codes "name") entries) (one_there _ node.0.there) node.0.fits;
       quantum = record {
         bytes = quantity_small 0 1099511627776 (get_member (codes "quantum") entries) node.1.0.fits;
-        few = init_caps two entries known node.1.1;
+        few = init_caps two three entries known node.1.1;
       };
+      offers = offers_named two three entries known own.1.1;
     }
 
 pub sound_leaf : (entries : Members) → IsLeafTable entries → IsSoundLeaf entries
 sound_leaf entries t = leaf_by (nat_le 2 t.version) (nat_le 3 t.version) t.services entries t.names t.keys
 
 pub sound_init : (entries : Members) → IsInitTable entries → IsSoundInit entries
-sound_init entries t = init_by (nat_le 2 t.version) entries t.keys
+sound_init entries t = init_by (nat_le 2 t.version) (nat_le 3 t.version) entries t.keys
 
 -- ROUTES
 

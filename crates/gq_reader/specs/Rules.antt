@@ -4,12 +4,12 @@ use Rattle.toml.specs.Data.{Data, Members, no_members}
 use Rattle.toml.specs.View.{table_view}
 use Rattle.gq_scenario.specs.Keys as keys
 use Rattle.gq_scenario.specs.Keys.{is_number, is_quantity, is_text, is_hex, is_name_text, is_true, is_table, is_list, list_length, items_of}
-use Rattle.gq_scenario.specs.Tables.{is_total, is_named_tables, is_upgrades, is_inputs, is_declared, greatest_caps}
+use Rattle.gq_scenario.specs.Tables.{is_total, is_named_tables, is_named_names, is_upgrades, is_inputs, is_declared, greatest_caps}
 use Rattle.gq_scenario.specs.Document.{keys_of}
 use Rattle.gq_scenario.specs.Words.{key_text}
 use Rattle.gq_reader.specs.declared.rules.ValueRule.{ValueRule}
-use Rattle.gq_reader.specs.declared.rules.ValueRule.TheVariants.{Number, Quantity, Total, Text, Hex, NameText, True, Tables, NamedTables, Upgrades, Counts}
-use Rattle.gq_reader.specs.declared.rules.ValueRule.TheVariants.{Inputs, Declared}
+use Rattle.gq_reader.specs.declared.rules.ValueRule.TheVariants.{Number, Quantity, Total, Text, Hex, NameText, True, Tables, NamedTables, NamedNames}
+use Rattle.gq_reader.specs.declared.rules.ValueRule.TheVariants.{Upgrades, Counts, Inputs, Declared}
 use Rattle.gq_reader.specs.declared.rules.KeyRule.{KeyRule}
 
 -- the entries of a table that may be missing
@@ -32,6 +32,7 @@ fits_of NameText = is_name_text
 fits_of True = is_true
 fits_of Tables = is_list is_table
 fits_of NamedTables = is_named_tables
+fits_of NamedNames = is_named_names
 fits_of Upgrades = is_upgrades
 fits_of (Counts count) = are_counts count
 fits_of Inputs = is_inputs

@@ -100,11 +100,11 @@ pub fn init_rules(version: Version) -> KeyRules<'static>
     let routes = optional(Key::Route, ValueRule::Tables);
     let start = required(Key::Start, ValueRule::Tables);
     let default_routes = optional(Key::DefaultRoute, ValueRule::Tables);
+    let offers = optional(Key::Offers, ValueRule::NamedNames);
     match version {
         Version::One => listed(&[name, quantum, routes, start, default_routes]),
-        Version::Two | Version::Three => {
-            listed(&[name, quantum, caps, routes, start, default_routes])
-        }
+        Version::Two => listed(&[name, quantum, caps, routes, start, default_routes]),
+        Version::Three => listed(&[name, quantum, caps, routes, start, default_routes, offers]),
     }
 }
 

@@ -6,7 +6,7 @@ ghost use Rattle.gq_model.specs.machine.Lists.{any_of, all_of};
 ghost use Rattle.gq_model.specs.machine.Program.{text_eq};
 ghost use Rattle.gq_scenario.specs.Keys.{is_table, is_number, is_quantity, is_hex, is_name_text, is_true, listed, required, optional, either, other, has};
 ghost use Rattle.gq_scenario.specs.Keys.{is_bad, unknown_key, missing_key, bad_value, table_fault};
-ghost use Rattle.gq_scenario.specs.Tables.{is_total, is_upgrades, is_inputs, are_named_tables};
+ghost use Rattle.gq_scenario.specs.Tables.{is_total, is_upgrades, is_inputs, are_named_tables, are_named_names};
 ghost use Rattle.gq_model.specs.texts.Operands.{greatest_number};
 ghost use Rattle.gq_scenario.specs.Document.{keys_of};
 ghost use Rattle.gq_scenario.specs.Words.{key_text, SameFault};
@@ -38,6 +38,8 @@ pub enum ValueRule<'a> {
     Tables,
     // A table of tables by names.
     NamedTables,
+    // A table of names by names.
+    NamedNames,
     // At most three quantities, each up to 4294967295.
     Upgrades,
     // So many numbers, each up to 65536.
@@ -251,6 +253,19 @@ fn are_named_tables(table: &Table) -> bool
     true
 }
 
+// Whether each key of a table is a name, and each value too.
+fn are_named_names(table: &Table) -> bool
+    ensures { result ≡ are_named_names (table_view table.now) }
+{
+    for (key, value) in table.iter() {
+        let name = key.as_str();
+        if !(is_name(name.as_bytes()) && is_name_text(value)) {
+            return false;
+        }
+    }
+    true
+}
+
 // Whether there is a table with such a key.
 fn is_among(tables: Option<&Table>, key: &str) -> bool
     ensures { result ≡ any_of (text_eq key.now) (keys_of (entries_or_none (option_map (λ t. table_view t.now) tables.entry))) }
@@ -279,6 +294,10 @@ pub fn fits(rule: ValueRule, value: &Value) -> bool
         },
         ValueRule::NamedTables => match value.as_table() {
             Some(table) => are_named_tables(table),
+            None => false,
+        },
+        ValueRule::NamedNames => match value.as_table() {
+            Some(table) => are_named_names(table),
             None => false,
         },
         ValueRule::Upgrades => match value.as_array() {

@@ -6,34 +6,42 @@ ghost use Rattle.gq_model.specs.machine.Lists.{all_of};
 ghost use Rattle.gq_model.specs.texts.Operands.{greatest_number};
 ghost use Rattle.gq_scenario.specs.Given.{source_of};
 ghost use Rattle.gq_scenario.specs.Keys.{listed, is_number, number_of, table_fault};
-ghost use Rattle.gq_scenario.specs.Tables.{route_keys};
+ghost use Rattle.gq_scenario.specs.Tables.{route_keys, are_named_names};
 ghost use Rattle.gq_scenario.specs.Document.{text_at, list_at, number_at, quantity_at, amount_at, or_zero, target_in, routes_of, routes_at};
-ghost use Rattle.gq_scenario.specs.Document.{source_in, numbers_of, leaf_of, init_of, nodes_by, node_onto, first_of, routes_fault};
+ghost use Rattle.gq_scenario.specs.Document.{source_in, numbers_of, offers_of, leaf_of, init_of, nodes_by, node_onto, first_of, routes_fault};
 ghost use Rattle.gq_scenario.specs.Sizes.{IsQuantum};
-ghost use Rattle.gq_reader.specs.internal.Sound.{is_name_or_none, route_of, has_source, IsLeafTable, IsInitTable, IsNode, AreNodes};
+ghost use Rattle.gq_reader.specs.internal.Sound.{is_name_or_none, route_of, has_source, offers_at, IsLeafTable, IsInitTable, IsNode, AreNodes};
 ghost use Rattle.gq_scenario.specs.Targets.{target_of};
 ghost use Rattle.gq_scenario.specs.Trees.{IsBefore};
 ghost use Rattle.gq_scenario.specs.Words.{key_text};
 
 use crate::hexadecimal::unhex;
-use crate::value::{has, list_at, number_at, number_of, quantity_at, text_at, values_at};
+use crate::value::{has, list_at, number_at, number_of, quantity_at, table_at, text_at, values_at};
 use arrayvec::ArrayVec;
 use gq_model::program::Name;
 use gq_scenario::key::Key;
-use gq_scenario::scenario::{Init, Inputs, Leaf, Node, Nodes, Quantum, Route, Target};
+use gq_scenario::scenario::{Init, Inputs, Leaf, Node, Nodes, Offers, Quantum, Route, Target};
 use gq_scenario::source::Source;
 use std::alloc::{AllocError, Global};
 use toml::{Table, Value};
+
+// The name of a text, where there is one.
+fn name_of(text: Option<&str>) -> Option<Name>
+    requires { is_name_or_none (option_map (λ t. t.now) text) ≡ true }
+    ensures { result ≡ option_map (λ t. t.now) text.entry }
+{
+    match text {
+        Some(text) => Name::new(text.as_bytes()),
+        None => None,
+    }
+}
 
 // The name at a key, where there is one.
 fn name_at(table: &Table, key: Key) -> Option<Name>
     requires { is_name_or_none (text_at (key_text key) (table_view table.now)) ≡ true }
     ensures { result ≡ text_at (key_text key) (table_view table.now) }
 {
-    match text_at(table, key) {
-        Some(text) => Name::new(text.as_bytes()),
-        None => None,
-    }
+    name_of(text_at(table, key))
 }
 
 // What the table of a route leads to.
@@ -194,6 +202,36 @@ fn read_leaf(alloc: Global, table: Table) -> Result<Leaf, AllocError>
     Ok(Leaf::new(name, quantum, source, provides, after, inputs, routes))
 }
 
+// The offers of a table: services, each with the name of a child.
+fn read_offers(alloc: Global, offers: &Table) -> Result<Offers, AllocError>
+    requires { are_named_names (table_view offers.now) ≡ true }
+    ensures { IfOk result (λ read. read.items ≡ offers_of (table_view offers.now)) }
+{
+    let mut read = Vec::new(alloc);
+    for (key, value) in offers.iter() {
+        let service = key.as_str();
+        let Some(service) = Name::new(service.as_bytes()) else {
+            unreachable!();
+        };
+        let Some(child) = name_of(value.as_str()) else {
+            unreachable!();
+        };
+        read.push((service, child))?;
+    }
+    Ok(read)
+}
+
+// The offers of an init's table, none where they are not told.
+fn read_offers_at(alloc: Global, table: &Table) -> Result<Offers, AllocError>
+    requires { are_named_names (offers_at (table_view table.now)) ≡ true }
+    ensures { IfOk result (λ read. read.items ≡ offers_of (offers_at (table_view table.now))) }
+{
+    match table_at(table, Key::Offers) {
+        Some(offers) => read_offers(alloc, offers),
+        None => Ok(Vec::new(alloc)),
+    }
+}
+
 // The init of a table, without what is below it.
 fn read_init(alloc: Global, table: &Table) -> Result<Init, AllocError>
     requires { IsInitTable (table_view table.now) }
@@ -205,7 +243,8 @@ fn read_init(alloc: Global, table: &Table) -> Result<Init, AllocError>
     let quantum = read_quantum(Key::Quantum, table);
     let routes = read_routes_at(alloc, Key::Route, table)?;
     let default_routes = read_routes_at(alloc, Key::DefaultRoute, table)?;
-    Ok(Init::new(name, quantum, routes, default_routes))
+    let offers = read_offers_at(alloc, table)?;
+    Ok(Init::new(name, quantum, routes, default_routes, offers))
 }
 
 // The node of a table, with what is below it.

@@ -4,15 +4,16 @@ use Rattle.std.proofs.Common.{get_or, Option, Some, None, refl, ap, sym}
 use Rattle.std.proofs.Common.{◌∙◌, ◌⊎◌, inl, inr, append-nil, map}
 use Rattle.std.proofs.Math.ListN.{drop_of_length-le}
 use Rattle.std.proofs.lemmas.List.{take_more, length-take, take-append-drop}
+use Rattle.std.proofs.lemmas.Bool.{true≢false, and_parts}
 use Rattle.gq_model.specs.machine.Lists.{any_of}
 use Rattle.gq_model.specs.machine.Program.{text_eq}
-use Rattle.gq_model.specs.machine.Scenario.{Component}
-use Rattle.gq_model.specs.machine.Routes.{is_service, providers, numbered}
+use Rattle.gq_model.specs.machine.Scenario.{Component, Nodes, Offers}
+use Rattle.gq_model.specs.machine.Routes.{Routed, is_service, offer_of, offered, providers, numbered}
 use Rattle.gq_scenario.specs.Trees.{nodes_of}
 use Rattle.gq_scenario.specs.declared.scenario.Node.{Node}
 use Rattle.gq_scenario.specs.declared.scenario.Node.TheVariants.{Leaf, Init}
 use Rattle.gq_program.specs.Keys.{key_of}
-use Rattle.gq_resolve.specs.internal.Keys.{provided_key, node_key, keys_of, name_keys, route_keys}
+use Rattle.gq_resolve.specs.internal.Keys.{provided_key, node_key, keys_of, is_silent, are_silent, name_keys, route_keys}
 use Rattle.gq_resolve.specs.Served.{server_in}
 use Rattle.gq_model.proofs.Small.{text_is}
 use Rattle.gq_program.proofs.Skipped.{skipped, rest, not_both}
@@ -62,20 +63,42 @@ pub all_taken : (items : List Node) (i : ℕ) → length items ≤ i → take i 
 all_taken items i past =
     sym (append-nil (take i items)) ∙ (ap (λ (l : List Node). take i items ++ l) (sym (drop_of_length-le items past)) ∙ take-append-drop i items)
 
+-- this node is no init that offers anything
+abbrev is_quiet : Node → Bool
+is_quiet (Leaf node) = true
+is_quiet (Init node children) = is_silent node.offers
+
+quiet_at : (items : List Node) (i : ℕ) (node : Node) → are_silent (nodes_of items) ≡ true → i < length items → is_quiet (get_or items i node) ≡ true
+quiet_at [] i node silent less = absurd (omega (arith, less))
+quiet_at (Leaf leaf ∷ rest) zero node silent less = refl
+quiet_at (Init init children ∷ rest) zero node silent less = (and_parts (is_silent init.offers) (are_silent (nodes_of rest)) silent).0
+quiet_at (Leaf leaf ∷ rest) (suc i) node silent less = quiet_at rest i node silent (omega (arith, less))
+quiet_at (Init init children ∷ rest) (suc i) node silent less =
+    quiet_at rest i node (and_parts (is_silent init.offers) (are_silent (nodes_of rest)) silent).1 (omega (arith, less))
+
+-- where nothing is offered no service is
+not_offered : (offers : Offers) (service : List ℕ) (children : Nodes) → is_silent offers ≡ true → offered (offer_of offers service) service children ≡ []
+not_offered [] service children silent = refl
+not_offered (o ∷ rest) service children silent = absurd (true≢false (sym silent))
+
 module _ (service : List ℕ) where
-  -- a node with another number does not provide the service
+  -- a node with another number, which offers nothing, does not serve the service
   abbrev IsOther : Node → Type 0
-  IsOther node = node_key node ≡ key_of service → ⊥
+  IsOther node = (node_key node ≡ key_of service → ⊥) × (is_quiet node ≡ true)
 
   without : (node : Node) (rest : List Node) → IsOther node → providers service (nodes_of (node ∷ rest)) ≡ providers service (nodes_of rest)
-  without (Leaf node) rest differ = rw (other_service node.provides service differ) refl
-  without (Init node children) rest differ = refl
+  without (Leaf node) rest other = rw (other_service node.provides service other.0) refl
+  without (Init node children) rest other = ap (λ (l : List Routed). l ++ providers service (nodes_of rest)) (not_offered node.offers service children other.1)
 
   module _ (items : List Node) (key first end : ℕ) (k : key ≡ key_of service)
-      (within : (i : ℕ) → i < length (keys_of (nodes_of items)) → get_or (keys_of (nodes_of items)) i 0 ≡ key → (first ≤ i) × (i < end)) where
+      (within : (i : ℕ) → i < length (keys_of (nodes_of items)) → get_or (keys_of (nodes_of items)) i 0 ≡ key → (first ≤ i) × (i < end))
+      (silent : are_silent (nodes_of items) ≡ true) where
     others : (i : ℕ) → i < length items → (i < first) ⊎ (end ≤ i) → (e : Node) → IsOther (get_or items i e)
-    others i less out e same =
-        let many = length_keys items in not_both i first end (within i (omega (arith, less, many)) (key_at items i e less ∙ (same ∙ sym k))) out
+    others i less out e = (
+      (λ same.
+          let many = length_keys items in not_both i first end (within i (omega (arith, less, many)) (key_at items i e less ∙ (same ∙ sym k))) out),
+      quiet_at items i e silent less,
+    )
 
     -- those before the first place provide nothing
     pub first_providers : providers service (nodes_of (drop first items)) ≡ providers service (nodes_of items)

@@ -1,12 +1,13 @@
 -- A service leads to a leaf of the same scenario.
-use Rattle.std.proofs.Common.{◌≡◌, ℕ, zero, suc, Bool, true, false, ◌||◌, cond, List, [], ◌∷◌, ◌++◌, Option, Some, None, refl, ap, subst, ◌∙◌, codes}
+use Rattle.std.proofs.Common.{◌≡◌, ℕ, zero, suc, Bool, true, false, ◌||◌, ◌⊎◌, inl, inr, cond, List, [], ◌∷◌, ◌++◌, Option, Some, None, refl, ap, subst}
+use Rattle.std.proofs.Common.{◌∙◌, codes}
 use Rattle.std.specs.Prelude.{slice_get, is_some}
 use Rattle.gq_model.specs.machine.Lists.{any_of}
 use Rattle.gq_model.specs.machine.Program.{text_eq}
 use Rattle.gq_model.specs.machine.Scenario.{Target, Child, Any_child, Parent, Route, Nodes, End, Leaf_node, Init_node, Level, Component, Scenario, below, level}
 use Rattle.gq_model.specs.machine.Scenario.{components_of, components}
-use Rattle.gq_model.specs.machine.Routes.{Routed, To, Provides_differs, is_service, fits, child_named, providers, only, led, first_fit}
-use Rattle.gq_model.specs.machine.Routes.{route, numbered, leaf_routed}
+use Rattle.gq_model.specs.machine.Routes.{Routed, To, Provides_differs, is_service, fits, offer_of, through, child_named, offered, providers}
+use Rattle.gq_model.specs.machine.Routes.{only, led, first_fit, route, numbered, leaf_routed}
 use Rattle.gq_model.specs.rules.Resolve.{unrouted, services_fault, routes_fault}
 use Rattle.gq_model.specs.rules.Use.{services}
 use Rattle.gq_scenario.proofs.Keyed.{text_eq-same}
@@ -18,13 +19,17 @@ or_more : (a b c : Bool) → (b ≡ true → c ≡ true) → (a || b) ≡ true �
 or_more true b c more h = refl
 or_more false b c more h = more h
 
+or_either : (a b c : Bool) → (a ≡ true → c ≡ true) → (b ≡ true → c ≡ true) → (a || b) ≡ true → c ≡ true
+or_either true b c first second h = first refl
+or_either false b c first second h = second h
+
 -- CHILDREN
 
--- one of these nodes is a leaf of this name
+-- one of these nodes, or of those below them, is a leaf of this name
 abbrev is_leaf : List ℕ → Nodes → Bool
 is_leaf name End = false
 is_leaf name (Leaf_node node rest) = text_eq name node.name || is_leaf name rest
-is_leaf name (Init_node node children rest) = is_leaf name rest
+is_leaf name (Init_node node children rest) = is_leaf name children || is_leaf name rest
 
 child_here : (name m own : List ℕ) (b ok : Bool) (other : Routed) (rest : Bool) → text_eq name own ≡ b → (other ≡ To m → rest ≡ true)
     → cond b (cond ok (To name) Provides_differs) other ≡ To m
@@ -33,9 +38,16 @@ child_here name m own true true other rest e more h = let same : m ≡ name = cc
 child_here name m own true false other rest e more h = cc
 child_here name m own false ok other rest e more h = or_right (text_eq m own) rest (more h)
 
-child_other : (b : Bool) (m : List ℕ) (other : Routed) (rest : Bool) → (other ≡ To m → rest ≡ true) → cond b Provides_differs other ≡ To m → rest ≡ true
-child_other true m other rest more h = cc
-child_other false m other rest more h = more h
+child_inside : (offer : Option (List ℕ)) (service m : List ℕ) (children : Nodes) (inner : Bool)
+    → ((child : List ℕ) → child_named child service children ≡ To m → inner ≡ true)
+    → through offer (λ child. child_named child service children) ≡ To m → inner ≡ true
+child_inside None service m children inner below h = cc
+child_inside (Some child) service m children inner below h = below child h
+
+child_other : (b : Bool) (m : List ℕ) (led other : Routed) (inner rest : Bool) → (led ≡ To m → inner ≡ true) → (other ≡ To m → rest ≡ true)
+    → cond b led other ≡ To m → (inner || rest) ≡ true
+child_other true m led other inner rest below more h = or_left inner rest (below h)
+child_other false m led other inner rest below more h = or_right inner rest (more h)
 
 child_leads : (name service m : List ℕ) (nodes : Nodes) → child_named name service nodes ≡ To m → is_leaf m nodes ≡ true
 child_leads name service m End h = cc
@@ -43,24 +55,45 @@ child_leads name service m (Leaf_node node rest) h =
     child_here name m node.name (text_eq name node.name) (is_service node.provides service) (child_named name service rest) (is_leaf m rest) refl
     (child_leads name service m rest) h
 child_leads name service m (Init_node node children rest) h =
-    child_other (text_eq name node.name) m (child_named name service rest) (is_leaf m rest) (child_leads name service m rest) h
+    child_other (text_eq name node.name) m (through (offer_of node.offers service) (λ child. child_named child service children))
+    (child_named name service rest) (is_leaf m children) (is_leaf m rest)
+    (child_inside (offer_of node.offers service) service m children (is_leaf m children) (λ child g. child_leads child service m children g))
+    (child_leads name service m rest) h
 
-provider_here : (b : Bool) (m own : List ℕ) (names : List (List ℕ)) (rest : Bool) → (any_of (text_eq m) names ≡ true → rest ≡ true)
-    → any_of (text_eq m) (cond b (own ∷ []) [] ++ names) ≡ true
-    → (text_eq m own || rest) ≡ true
-provider_here true m own names rest more h = or_more (text_eq m own) (any_of (text_eq m) names) rest more h
-provider_here false m own names rest more h = or_right (text_eq m own) rest (more h)
+-- one of these leads to the leaf of this name
+abbrev AnyLeads : List ℕ → List Routed → Type 0
+AnyLeads m [] = ⊥
+AnyLeads m (served ∷ rest) = (served ≡ To m) ⊎ AnyLeads m rest
 
-provider_leaf : (service m : List ℕ) (nodes : Nodes) → any_of (text_eq m) (providers service nodes) ≡ true → is_leaf m nodes ≡ true
-provider_leaf service m End h = h
-provider_leaf service m (Leaf_node node rest) h = provider_here (is_service node.provides service) m node.name (providers service rest) (is_leaf m rest)
-    (provider_leaf service m rest) h
-provider_leaf service m (Init_node node children rest) h = provider_leaf service m rest h
+any_first : (m : List ℕ) (first rest : List Routed) (a b : Bool) → (AnyLeads m first → a ≡ true) → (AnyLeads m rest → b ≡ true)
+    → AnyLeads m (first ++ rest) → (a || b) ≡ true
+any_first m [] rest a b here more h = or_right a b (more h)
+any_first m (served ∷ first) rest a b here more (inl e) = or_left a b (here (inl e))
+any_first m (served ∷ first) rest a b here more (inr h) = any_first m first rest a b (λ g. here (inr g)) more h
 
-only_one : (names : List (List ℕ)) (m : List ℕ) → only names ≡ To m → any_of (text_eq m) names ≡ true
+own_leads : (b : Bool) (m own : List ℕ) → AnyLeads m (cond b (To own ∷ []) []) → text_eq m own ≡ true
+own_leads true m own (inl e) = let same : m ≡ own = cc in text_eq-same m own same
+own_leads true m own (inr h) = absurd h
+own_leads false m own h = absurd h
+
+offer_leads : (offer : Option (List ℕ)) (service m : List ℕ) (children : Nodes) → AnyLeads m (offered offer service children) → is_leaf m children ≡ true
+offer_leads None service m children h = absurd h
+offer_leads (Some child) service m children (inl e) = child_leads child service m children e
+offer_leads (Some child) service m children (inr h) = absurd h
+
+provider_leaf : (service m : List ℕ) (nodes : Nodes) → AnyLeads m (providers service nodes) → is_leaf m nodes ≡ true
+provider_leaf service m End h = absurd h
+provider_leaf service m (Leaf_node node rest) h =
+    any_first m (cond (is_service node.provides service) (To node.name ∷ []) []) (providers service rest) (text_eq m node.name) (is_leaf m rest)
+    (own_leads (is_service node.provides service) m node.name) (provider_leaf service m rest) h
+provider_leaf service m (Init_node node children rest) h =
+    any_first m (offered (offer_of node.offers service) service children) (providers service rest) (is_leaf m children) (is_leaf m rest)
+    (offer_leads (offer_of node.offers service) service m children) (provider_leaf service m rest) h
+
+only_one : (all_served : List Routed) (m : List ℕ) → only all_served ≡ To m → AnyLeads m all_served
 only_one [] m h = cc
-only_one (name ∷ []) m h = let same : m ≡ name = cc in or_left (text_eq m name) false (text_eq-same m name same)
-only_one (name ∷ other ∷ names) m h = cc
+only_one (served ∷ []) m h = inl h
+only_one (served ∷ other ∷ rest) m h = cc
 
 led_leads : (target : Target) (service m : List ℕ) (siblings : Nodes) (above : Routed) (found : Bool) → (is_leaf m siblings ≡ true → found ≡ true)
     → (above ≡ To m → found ≡ true)
@@ -119,8 +152,12 @@ leaf_named label d siblings above (Leaf_node node rest) m h =
     or_more (text_eq m node.name) (is_leaf m rest) (any_of (λ c. text_eq m c.node.name) (components_of label d siblings above rest))
     (leaf_named label d siblings above rest m) h
 leaf_named label d siblings above (Init_node node children rest) m h =
-    any_right (λ c. text_eq m c.node.name) (components_of (below label node.name) node.default_routes children (level node.routes d siblings ∷ above) children)
-    (components_of label d siblings above rest) (leaf_named label d siblings above rest m h)
+    let low = components_of (below label node.name) node.default_routes children (level node.routes d siblings ∷ above) children in
+    let high = components_of label d siblings above rest in
+    or_either (is_leaf m children) (is_leaf m rest) (any_of (λ c. text_eq m c.node.name) (low ++ high))
+    (λ g. any_left (λ c. text_eq m c.node.name) low high
+    (leaf_named (below label node.name) node.default_routes children (level node.routes d siblings ∷ above) children m g))
+    (λ g. any_right (λ c. text_eq m c.node.name) low high (leaf_named label d siblings above rest m g)) h
 
 module _ (all : List Component) where
   each_among : (label : List ℕ) (d : Option (List Route)) (siblings : Nodes) (above : List Level) (nodes : Nodes) → AreAmong all above

@@ -2,7 +2,7 @@
 use Rattle.std.specs.Prelude.{◌≡◌, Option, Some, None, Result, Ok, Err}
 use Rattle.gq_model.specs.machine.Amounts as amounts
 use Rattle.gq_model.specs.machine.Routes.{No_route, Ambiguous, Provides_differs}
-use Rattle.gq_model.specs.rules.Resolve.{Unresolved, Quanta_exceed, Caps_exceed, Bad_after, Cycle, Unrouted}
+use Rattle.gq_model.specs.rules.Resolve.{Unresolved, Quanta_exceed, Caps_exceed, Bad_offer, Bad_after, Cycle, Unrouted}
 use Rattle.gq_resolve.specs.declared.fault.ResolveFault.{ResolveFault}
 use Rattle.gq_resolve.specs.declared.fault.ResolveFault.TheVariants as fault
 use Rattle.gq_resolve.specs.declared.fault.ResolveError.{ResolveError}
@@ -16,6 +16,7 @@ fault_of (fault.Ambiguous leaf service) = Unrouted Ambiguous leaf service
 fault_of (fault.Cycle leaf) = Cycle leaf
 fault_of (fault.QuantaExceed init) = Quanta_exceed init
 fault_of (fault.ProvidesDiffers leaf service) = Unrouted Provides_differs leaf service
+fault_of (fault.BadOffer init) = Bad_offer init
 fault_of (fault.BadAfter leaf) = Bad_after leaf
 fault_of (fault.CapsExceed init) = Caps_exceed init
 

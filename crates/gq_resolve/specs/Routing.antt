@@ -21,7 +21,7 @@ abbrev pub led_by : Option Target → List ℕ → Nodes → Routed → Routed
 led_by None service siblings above = No_route
 led_by (Some target) service siblings above = led target service siblings above
 
--- a name that was found, as a list
-abbrev pub name_found : Option (Bor (List ℕ)) → List (List ℕ)
-name_found None = []
-name_found (Some name) = name.now ∷ []
+-- where what was found leads, as a list
+abbrev pub led_found : Option (Result (Bor (List ℕ)) RouteFault) → List Routed
+led_found None = []
+led_found (Some led) = routed led ∷ []

@@ -13,14 +13,16 @@ use thiserror::Error;
 pub enum ResolveFault {
     /// No route leads from this leaf for a service that it opens.
     NoRoute { leaf: Name, service: Name },
-    /// A service that this leaf opens may be any child's, and several provide it.
+    /// A service that this leaf opens may be any child's, and several serve it.
     Ambiguous { leaf: Name, service: Name },
     /// This leaf reaches itself by the servers of the services that are opened.
     Cycle(Name),
     /// This init hands out more bytes of RAM at the start than it has.
     QuantaExceed(Name),
-    /// The child to which a route leads this leaf for a service that it opens does not provide it.
+    /// The child to which a route leads this leaf for a service that it opens does not serve it.
     ProvidesDiffers { leaf: Name, service: Name },
+    /// This init offers a service that has no interface, or that the child which is named does not serve.
+    BadOffer(Name),
     /// This leaf starts after one that it may not start after.
     BadAfter(Name),
     /// This init hands out more capabilities at the start than it has.
@@ -82,6 +84,7 @@ impl ResolveFault {
             ResolveFault::ProvidesDiffers { leaf, service } => {
                 ("S12 ProvidesDiffers ", leaf, Some(service))
             }
+            ResolveFault::BadOffer(init) => ("S15 BadOffer ", init, None),
             ResolveFault::BadAfter(leaf) => ("S13 BadAfter ", leaf, None),
             ResolveFault::CapsExceed(init) => ("S14 CapsExceed ", init, None),
         }

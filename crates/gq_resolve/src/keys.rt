@@ -2,7 +2,7 @@
 ghost use Rattle.std.specs.Prelude.{◌≡◌};
 ghost use Rattle.gq_model.specs.machine.Program.{text_eq};
 ghost use Rattle.gq_program.specs.Keys.{AreWithin, key_of};
-ghost use Rattle.gq_resolve.specs.internal.Keys.{node_key, keys_of};
+ghost use Rattle.gq_resolve.specs.internal.Keys.{node_key, keys_of, are_silent};
 
 use gq_model::program::Name;
 use gq_program::keys::key_of;
@@ -22,6 +22,20 @@ fn node_key(node: &Node) -> u64
         Some(service) => key_of(service.as_bytes()),
         None => 0,
     }
+}
+
+// Whether no init among these offers anything.
+pub(crate) fn are_silent(siblings: &Nodes) -> bool
+    ensures { result ≡ are_silent siblings.now }
+{
+    for node in siblings.nodes() {
+        if let Node::Init(init, _) = node {
+            if !init.offers().is_empty() {
+                return false;
+            }
+        }
+    }
+    true
 }
 
 // Where services may stand among these, by the numbers of their names.

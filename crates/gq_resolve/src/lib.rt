@@ -1,4 +1,4 @@
-//! Scenarios resolved: quanta that fit, leaves that start after others, which leaf serves each service, and one table of the nodes.
+//! Scenarios resolved: quanta that fit, offers of what is served, leaves that start after others, which leaf serves each service, and one table of the nodes.
 //!
 //! ```rust
 //! use gq_resolve::component::components;
@@ -14,7 +14,7 @@
 //! let hello = table.leaf_named(b"hello");
 //! ```
 //!
-//! Modules: routes (`routing`, `routes`), what is wrong with a scenario (`resolved`), and the table of nodes (`table`).
+//! Modules: routes (`routing`, `routes`), what inits offer (`offers`), what is wrong with a scenario (`resolved`), and the table of nodes (`table`).
 #![tactic(auto)]
 
 pub mod after;
@@ -24,6 +24,7 @@ pub mod fault;
 mod keys;
 pub mod leaf_names;
 mod levels;
+pub mod offers;
 pub mod quanta;
 pub mod resolved;
 pub mod router;

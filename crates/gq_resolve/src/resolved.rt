@@ -12,6 +12,7 @@ use crate::after::check_after;
 use crate::component::{Component, components};
 use crate::cycle::first_on_cycle;
 use crate::fault::{ResolveError, ResolveFault};
+use crate::offers::check_offers;
 use crate::quanta::check_quanta;
 use crate::routes::Routes;
 use crate::unrouted::{all_opened, all_routes};
@@ -46,6 +47,7 @@ fn check_cycle(
 /// Refuses if host memory runs out, and by the first fault of the scenario, in this order.
 ///
 /// - An init hands out more bytes than it has (`QuantaExceed`), or more capabilities (`CapsExceed`).
+/// - An init offers a service that has no interface, or that the child which is named does not serve (`BadOffer`).
 /// - A leaf may not start after the one that it names (`BadAfter`).
 /// - A service leads nowhere (`NoRoute`, `Ambiguous` or `ProvidesDiffers`): of the first leaf in preorder, its first one in the order of its text.
 /// - A leaf reaches itself by the servers of the services that are opened (`Cycle`): the first one.
@@ -94,6 +96,7 @@ pub fn resolve_opened(
     ensures fault { Finds result (unresolved scenario.now) }
 {
     check_quanta(scenario)?;
+    check_offers(scenario)?;
     check_after(components)?;
     let _count = scenario.leaf_count();
     let routes = all_routes(alloc, components, opened)?;

@@ -2,11 +2,10 @@
 ghost use Rattle.std.specs.Prelude.{◌≡◌};
 ghost use Rattle.gq_model.specs.machine.Routes.{providers, only, route};
 ghost use Rattle.gq_resolve.specs.Routing.{routed};
-ghost use Rattle.gq_program.specs.Keys.{AreWithin};
-ghost use Rattle.gq_resolve.specs.internal.Keys.{keys_of, first_keys};
+ghost use Rattle.gq_resolve.specs.internal.Keys.{first_siblings, AreTold, AreToldOf};
 
-use crate::keys::places_of;
-use crate::routing::{Level, RouteFault, first_target, provider, route};
+use crate::keys::{are_silent, places_of};
+use crate::routing::{Level, RouteFault, first_target, found_or_none, provider, route};
 use gq_model::program::Name;
 use gq_program::keys::key_of;
 use gq_program::places::Places;
@@ -16,36 +15,39 @@ use std::marker::Model;
 // For fewer services than these the siblings are gone through one by one.
 const MANY: usize = 4;
 
-// Where services may stand among the siblings at the first of these levels.
-fn first_places(levels: &[Level<'_>]) -> Places
-    ensures { AreWithin result (first_keys levels.now) }
+// Where services may stand among the siblings at the first of these levels, where no init among them offers any.
+fn first_places(levels: &[Level<'_>]) -> Option<Places>
+    ensures { AreTold result levels.now }
 {
     match levels.first() {
-        Some(level) => places_of(level.siblings()),
-        None => Places::new(),
+        Some(level) => {
+            if are_silent(level.siblings()) {
+                Some(places_of(level.siblings()))
+            } else {
+                None
+            }
+        }
+        None => None,
     }
 }
 
-// The only one of these children that provides the service, by where it may stand.
+// Where the only one of these children leads that serves the service, by where it may stand.
 fn only_by<'a>(service: &Name, siblings: &'a Nodes, places: &Places) -> Result<&'a Name, RouteFault>
-    requires { AreWithin places.now (keys_of siblings.now) }
+    requires { AreToldOf places.now siblings.now }
     ensures { routed result ≡ only (providers service.now siblings.now) }
 {
     let nodes = siblings.nodes();
     let (first, end) = places.range(key_of(service.as_bytes()), nodes.len());
-    let mut found: Option<&'a Name> = None;
+    let mut found: Option<Result<&'a Name, RouteFault>> = None;
     for place in first..end {
-        if let Some(name) = provider(&nodes[place], service) {
+        if let Some(led) = provider(&nodes[place], service) {
             if found.is_some() {
                 return Err(RouteFault::Ambiguous);
             }
-            found = Some(name);
+            found = Some(led);
         }
     }
-    match found {
-        Some(name) => Ok(name),
-        None => Err(RouteFault::NoRoute),
-    }
+    found_or_none(found)
 }
 
 // Where a service leads, by where services may stand among the siblings at the first level.
@@ -54,7 +56,7 @@ fn route_by<'a>(
     places: &Places,
     service: &Name,
 ) -> Result<&'a Name, RouteFault>
-    requires { AreWithin places.now (first_keys levels.now) }
+    requires { AreToldOf places.now (first_siblings levels.now) }
     ensures { routed result ≡ route levels.now service.now }
 {
     if let Some(level) = levels.first() {
@@ -65,8 +67,8 @@ fn route_by<'a>(
     route(levels, service)
 }
 
-/// The levels of a component, its own init's first, for the routes of its services. Where these are many, it is told where services may stand among its
-/// siblings.
+/// The levels of a component, its own init's first, for the routes of its services. Where these are many and no init among its
+/// siblings offers any, it is told where services may stand among these.
 #[derive(Drop)]
 pub struct Router<'l, 'a> {
     levels: &'l [Level<'a>],
@@ -97,7 +99,7 @@ impl<'l, 'a> Router<'l, 'a> {
         let places = if services < MANY {
             None
         } else {
-            Some(first_places(levels))
+            first_places(levels)
         };
         Router { levels, places }
     }

@@ -2,8 +2,8 @@
 ghost use Rattle.std.specs.Prelude.{◌≡◌, ◌∷◌, [], option_map};
 ghost use Rattle.gq_model.specs.machine.Lists.{any_of};
 ghost use Rattle.gq_model.specs.machine.Scenario as model;
-ghost use Rattle.gq_model.specs.machine.Routes.{Routed, is_service, fits, child_named, providers, only, first_fit, route};
-ghost use Rattle.gq_resolve.specs.Routing.{routed, name_found, led_by};
+ghost use Rattle.gq_model.specs.machine.Routes.{Routed, is_service, fits, offer_of, child_named, providers, only, first_fit, route};
+ghost use Rattle.gq_resolve.specs.Routing.{routed, led_found, led_by};
 ghost use Rattle.gq_scenario.specs.Targets.{target_of};
 ghost use Rattle.gq_scenario.specs.Trees.{nodes_of};
 
@@ -15,11 +15,11 @@ use std::marker::Model;
 /// Why a service leads to no leaf.
 #[derive(Clone, Copy)]
 pub enum RouteFault {
-    /// No entry fits, no child has that name or provides the service, or the question goes beyond the root.
+    /// No entry fits, no child has that name or serves the service, or the question goes beyond the root.
     NoRoute,
-    /// Several children provide the service.
+    /// Several children serve the service.
     Ambiguous,
-    /// The child of that name does not provide the service, or is an init.
+    /// The child of that name does not serve the service: it is a leaf that does not provide it, or an init that does not offer it.
     ProvidesDiffers,
 }
 
@@ -73,7 +73,7 @@ impl<'a> Level<'a> {
 }
 
 // Whether this service is provided.
-fn is_service(provided: Option<&Name>, service: &Name) -> bool
+pub(crate) fn is_service(provided: Option<&Name>, service: &Name) -> bool
     ensures { result ≡ is_service (option_map (λ s. s.now) provided.entry) service.now }
 {
     match provided {
@@ -92,8 +92,24 @@ pub fn fits(route: &Route, service: &Name) -> bool
     }
 }
 
-// The child of this name, which has to be a leaf that provides the service.
-fn child_named<'a>(name: &'a Name, service: &Name, siblings: &Nodes) -> Result<&'a Name, RouteFault>
+/// The child that these offers name for a service.
+pub fn offer_of<'a>(offers: &'a [(Name, Name)], service: &Name) -> Option<&'a Name>
+    ensures { option_map (λ child. child.now) result ≡ offer_of offers.now service.now }
+{
+    for (offered, child) in offers {
+        if same_bytes(service.as_bytes(), offered.as_bytes()) {
+            return Some(child);
+        }
+    }
+    None
+}
+
+// The leaf behind the child of this name, which has to serve the service: a leaf provides it, and the offers of an init lead on.
+fn child_named<'a>(
+    name: &'a Name,
+    service: &Name,
+    siblings: &'a Nodes,
+) -> Result<&'a Name, RouteFault>
     ensures { routed result ≡ child_named name.now service.now siblings.now }
 {
     for node in siblings.nodes() {
@@ -107,9 +123,12 @@ fn child_named<'a>(name: &'a Name, service: &Name, siblings: &Nodes) -> Result<&
                     };
                 }
             }
-            Node::Init(init, _) => {
+            Node::Init(init, children) => {
                 if same_bytes(name.as_bytes(), init.name().as_bytes()) {
-                    return Err(RouteFault::ProvidesDiffers);
+                    return match offer_of(init.offers(), service) {
+                        Some(child) => child_named(child, service, children),
+                        None => Err(RouteFault::ProvidesDiffers),
+                    };
                 }
             }
         }
@@ -117,30 +136,46 @@ fn child_named<'a>(name: &'a Name, service: &Name, siblings: &Nodes) -> Result<&
     Err(RouteFault::NoRoute)
 }
 
-/// The name of a node, where it is a leaf that provides the service.
-pub fn provider<'a>(node: &'a Node, service: &Name) -> Option<&'a Name>
-    ensures { name_found result ≡ providers service.now (nodes_of (node.now ∷ [])) }
+/// The leaf behind a node that serves the service: it is a leaf that provides it, or an init that offers it. An offer that leads nowhere is told as such.
+pub fn provider<'a>(node: &'a Node, service: &Name) -> Option<Result<&'a Name, RouteFault>>
+    ensures { led_found result ≡ providers service.now (nodes_of (node.now ∷ [])) }
 {
     match node {
-        Node::Leaf(leaf) if is_service(leaf.provides(), service) => Some(leaf.name()),
-        _ => None,
+        Node::Leaf(leaf) if is_service(leaf.provides(), service) => Some(Ok(leaf.name())),
+        Node::Leaf(_) => None,
+        Node::Init(init, children) => match offer_of(init.offers(), service) {
+            Some(child) => Some(child_named(child, service, children)),
+            None => None,
+        },
     }
 }
 
-// The only one of these children that provides the service.
+/// Where the only child leads that serves the service, of those that were found: the first, where there is no second.
+pub(crate) fn found_or_none<'a>(
+    found: Option<Result<&'a Name, RouteFault>>,
+) -> Result<&'a Name, RouteFault>
+    ensures { routed result ≡ only (led_found found.entry) }
+{
+    match found {
+        Some(led) => led,
+        None => Err(RouteFault::NoRoute),
+    }
+}
+
+// Where the only one of these children leads that serves the service.
 fn only_provider<'a>(service: &Name, siblings: &'a Nodes) -> Result<&'a Name, RouteFault>
     ensures { routed result ≡ only (providers service.now siblings.now) }
 {
-    let mut found: Option<&'a Name> = None;
+    let mut found: Option<Result<&'a Name, RouteFault>> = None;
     for node in siblings.nodes() {
-        if let Some(name) = provider(node, service) {
+        if let Some(led) = provider(node, service) {
             if found.is_some() {
                 return Err(RouteFault::Ambiguous);
             }
-            found = Some(name);
+            found = Some(led);
         }
     }
-    found.ok_or(RouteFault::NoRoute)
+    found_or_none(found)
 }
 
 // Where the first route that fits leads.
@@ -157,10 +192,11 @@ pub(crate) fn first_target<'a>(routes: &'a [Route], service: &Name) -> Option<&'
 }
 
 /// The name of the leaf to which a service leads, by the levels of a component, its own init's first. At each the first
-/// route decides that is for the service or for any: it leads to the child of a name, to the only child that provides
-/// the service, or to the next level.
+/// route decides that is for the service or for any: it leads to the child of a name, to the only child that serves
+/// the service, or to the next level. A child serves it as a leaf that provides it, or as an init that offers it, through
+/// as many inits as there are.
 ///
-/// Refuses where no route fits or no such child is there, `NoRoute`; where several children provide the service,
+/// Refuses where no route fits or no such child is there, `NoRoute`; where several children serve the service,
 /// `Ambiguous`; and where the child of the name does not, `ProvidesDiffers`.
 pub fn route<'a>(levels: &[Level<'a>], service: &Name) -> Result<&'a Name, RouteFault>
     ensures { routed result ≡ route levels.now service.now }

@@ -8,7 +8,7 @@ use std::test::Fail;
 
 // The codes of each family, in order.
 const LETTERS: [(&str, usize); 7] = [
-    ("S", 14),
+    ("S", 15),
     ("M", 8),
     ("C", 6),
     ("V", 19),
@@ -85,7 +85,7 @@ fn writes_each_entry_in_the_same_form(rt: HostRuntime) -> Result<(), Fail> {
 // The names of codes; nothing where there is no such code.
 const NAMES: [(&str, &str); 17] = [
     ("S1", "NotToml"),
-    ("s14", "CapsExceed"),
+    ("s15", "BadOffer"),
     ("m4", "Unclosed"),
     ("C6", "TrailingBytes"),
     ("v12", "ShortDonation"),

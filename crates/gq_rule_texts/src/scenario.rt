@@ -2,7 +2,7 @@
 use crate::table::{Rule, entry};
 
 /// The codes of S.
-pub(crate) static SCENARIO: [Rule; 14] = [
+pub(crate) static SCENARIO: [Rule; 15] = [
     entry!(
         "S1",
         "NotToml",
@@ -56,6 +56,7 @@ What usually leads to it:
   of `child`, `any-child` and `parent`; the later one is told
 - a name has more than 16 letters, or others than a to z, A to Z, 0 to 9, hyphen and underscore;
   of a service's it is told as `interface`
+- `offers` is no table of names, as `offers = { echo = \"srv\" }` is
 - `upgrade-caps` is of another length than `upgrades`, `upgrades` has more than 3, or `inputs`
   more than 8
 - `code` is not made of pairs of hexadecimal digits
@@ -75,9 +76,9 @@ What usually leads to it:
 - it is misspelt: keys have small letters and hyphens, as `default-route`, and headers are
   `[interface.NAME]` and `[[start]]`
 - it belongs to another table: `provides`, `after`, `inputs`, `program` and `code` are a leaf's,
-  `default-route` that of a node with `start`
+  `default-route` and `offers` those of a node with `start`; the root has no `offers`
 - it is one of a later version: `caps`, `need-caps` and `upgrade-caps` are of version 2, `inputs`
-  is of version 3
+  and `offers` are of version 3
 - it stands below a header that it was not meant for
 
 What to do: Correct the key, move it to its table, or raise `version`.",
@@ -142,26 +143,27 @@ the service or for any service decides, and no later one is tried.
 What usually leads to it:
 - there is neither a `route` nor a `default-route`, or no entry for this service
 - `child` names no node beside the leaf
-- `any-child`, and no leaf beside it provides the service
+- `any-child`, and no leaf beside it provides the service, nor does an init beside it offer it
 - `parent` in the root, which has no parent; elsewhere the init's own routes are asked, and may
   lead nowhere
 
 What to do: Give the leaf `route = [{ service = \"echo\", child = \"srv\" }]`, or its init
 `default-route = [{ any-service = true, any-child = true }]`. To a server outside the init leads
-`parent = true`.",
+`parent = true`, and to one inside an init beside the leaf what that init `offers`.",
         "trade: S8 NoRoute cli echo"
     ),
     entry!(
         "S9",
         "Ambiguous",
-        "a route with `any-child` finds several leaves that provide the service",
+        "a route with `any-child` finds several nodes that serve the service",
         "\
-A route with `any-child` finds several leaves that provide the service. Only the nodes right in
-that init are looked at.
+A route with `any-child` finds several nodes that serve the service: leaves that provide it, and
+inits that offer it. Only the nodes right in that init are looked at.
 
 What usually leads to it:
 - two servers of one service stand in the same init
 - `provides` was copied together with a leaf
+- an init offers what a leaf beside it provides
 
 What to do: Name the server: `{ service = \"echo\", child = \"srv\" }`.",
         "trade: S9 Ambiguous cli echo"
@@ -202,18 +204,20 @@ What to do: Lower a quantum, or raise that of the init and of each init above it
     entry!(
         "S12",
         "ProvidesDiffers",
-        "a route names a `child` that is an init, or a leaf that does not provide the service",
+        "a route names a `child` that does not serve the service: a leaf that does not provide it, or an init that does not offer it",
         "\
-A route names a `child` that is an init, or a leaf that does not provide the service. Routes
-lead to leaves, and never into an init.
+A route names a `child` that does not serve the service: a leaf that does not provide it, or an
+init that does not offer it. Only by its `offers`, a key of version 3, do routes lead into an
+init.
 
 What usually leads to it:
-- the wrong leaf is named
+- the wrong node is named
 - the server lacks `provides`, or provides another service
+- the server stands in the init that is named, which does not offer the service
 - the first entry is one for `any-service`, and so it decides for this service, too
 
-What to do: Name the leaf whose `provides` is the service, or put an entry for this service
-above.",
+What to do: Name the leaf whose `provides` is the service or the init that offers it, or put an
+entry for this service above.",
         "trade: S12 ProvidesDiffers cli echo"
     ),
     entry!(
@@ -250,5 +254,24 @@ What usually leads to it:
 
 What to do: Lower the `caps` of a node, or raise those of the init and of each init above it.",
         "trade: S14 CapsExceed init"
+    ),
+    entry!(
+        "S15",
+        "BadOffer",
+        "an init offers a service that has no interface, or that the child named for it does not serve",
+        "\
+An init offers a service that has no interface, or that the child named for it does not serve.
+A child serves a service if it is a leaf that provides it, or an init that offers it. The line
+names the init. Version 3.
+
+What usually leads to it:
+- the service or the child is misspelt, or has another name elsewhere
+- the child stands deeper, or beside the init: only the nodes right in it can be named
+- the leaf that is named provides another service, or none
+- the init that is named has no offer of this service itself
+
+What to do: Name a node right in the init that provides or offers the service. From a server
+further down each init on the way up offers it, with the name of the next one below.",
+        "trade: S15 BadOffer drivers"
     ),
 ];

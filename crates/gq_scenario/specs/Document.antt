@@ -5,7 +5,7 @@ use Rattle.gq_model.specs.machine.Amounts.{Amount, amount, counted_in}
 use Rattle.gq_model.specs.machine.Program.{text_eq}
 use Rattle.gq_model.specs.machine.Lists.{any_of, or_first}
 use Rattle.gq_model.specs.machine.Scenario.{Interface, Interfaces, Target, Child, Any_child, Parent, Route, Source, As_text, As_code, LeafNode, InitNode, Nodes}
-use Rattle.gq_model.specs.machine.Scenario.{End, Leaf_node, Init_node, Scenario}
+use Rattle.gq_model.specs.machine.Scenario.{Offers, End, Leaf_node, Init_node, Scenario}
 use Rattle.gq_model.specs.machine.Accounts.{leaf_count}
 use Rattle.gq_model.specs.texts.Sources.{program_from}
 use Rattle.gq_scenario.specs.Keys.{DocumentFault, NameTwice, TooDeep, TooMany, number_of, quantity, text_of, members_of, listed, unhex_of, has, table_fault}
@@ -101,6 +101,11 @@ abbrev pub numbers_of : List Data → List ℕ
 numbers_of [] = []
 numbers_of (d ∷ rest) = or_zero (number_of d) ∷ numbers_of rest
 
+-- each key with the text of its value
+abbrev pub offers_of : Members → Offers
+offers_of no_members = []
+offers_of (member key d rest) = (key, or_empty (text_of d)) ∷ offers_of rest
+
 -- a leaf's program is told as text or as code
 abbrev pub source_from : Option (List ℕ) → Option (List ℕ) → Source
 source_from (Some text) code = As_text text
@@ -133,6 +138,7 @@ init_of entries =
       quantum = amount_at (codes "quantum") (codes "caps") entries;
       routes = routes_at (codes "route") entries;
       default_routes = routes_at (codes "default-route") entries;
+      offers = offers_of (table_of (get_member (codes "offers") entries));
     }
 
 abbrev pub is_init : Members → Bool

@@ -81,8 +81,21 @@ node_keys version =
     required (codes "name") is_name_text ∷ required (codes "quantum") (is_quantity 0 1099511627776)
     ∷ since 2 version (required (codes "caps") (is_number 0 greatest_caps)) ++ optional (codes "route") (is_list is_table) ∷ []
 
+-- each of these has a name for its key and a name for its value
+abbrev pub are_named_names : Members → Bool
+are_named_names no_members = true
+are_named_names (member key d rest) = is_name key && is_name_text d && are_named_names rest
+
+-- services, each with the name of a child
+abbrev pub is_named_names : Data → Bool
+is_named_names (table entries) = are_named_names entries
+is_named_names _ = false
+
 abbrev pub init_keys : ℕ → List KeyRule
-init_keys version = node_keys version ++ required (codes "start") (is_list is_table) ∷ optional (codes "default-route") (is_list is_table) ∷ []
+init_keys version =
+    node_keys version
+    ++ required (codes "start") (is_list is_table) ∷ optional (codes "default-route") (is_list is_table)
+    ∷ since 3 version (optional (codes "offers") is_named_names)
 
 -- the greatest values of at most 8 inputs
 abbrev pub is_inputs : Data → Bool

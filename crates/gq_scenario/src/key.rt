@@ -30,6 +30,7 @@ pub enum Key {
     Provides,
     After,
     Inputs,
+    Offers,
     Program,
     Code,
     Service,
@@ -40,7 +41,7 @@ pub enum Key {
 }
 
 /// All of them.
-const KEYS: [Key; 27] = [
+const KEYS: [Key; 28] = [
     Key::Version,
     Key::Ram,
     Key::Caps,
@@ -61,6 +62,7 @@ const KEYS: [Key; 27] = [
     Key::Provides,
     Key::After,
     Key::Inputs,
+    Key::Offers,
     Key::Program,
     Key::Code,
     Key::Service,
@@ -96,6 +98,7 @@ impl Key {
             Key::Provides => "provides",
             Key::After => "after",
             Key::Inputs => "inputs",
+            Key::Offers => "offers",
             Key::Program => "program",
             Key::Code => "code",
             Key::Service => "service",

@@ -3,7 +3,9 @@ ghost use Rattle.std.specs.Prelude.{◌≡◌, ◌≤◌, length, IfOk, option_m
 ghost use Rattle.gq_model.specs.machine.Amounts.{amount};
 ghost use Rattle.gq_scenario.specs.Unsized.{unsized, without_quanta};
 
-use crate::scenario::{Init, Inputs, Leaf, Node, Nodes, Parts, Quantum, Route, Scenario, Target};
+use crate::scenario::{
+    Init, Inputs, Leaf, Node, Nodes, Offers, Parts, Quantum, Route, Scenario, Target,
+};
 use arrayvec::ArrayVec;
 use gq_model::program::Name;
 use std::alloc::{AllocError, Global};
@@ -63,6 +65,17 @@ fn copied_inputs(inputs: &[u32]) -> Inputs
     copied
 }
 
+// The same offers.
+fn copied_offers(alloc: Global, offers: &[(Name, Name)]) -> Result<Offers, AllocError>
+    ensures { IfOk result (λ o. o.items ≡ offers.now) }
+{
+    let mut copied = Vec::new(alloc);
+    for (service, child) in offers {
+        copied.push((service.copied(), child.copied()))?;
+    }
+    Ok(copied)
+}
+
 // A leaf that is given nothing.
 fn unsized_leaf(alloc: Global, leaf: &Leaf) -> Result<Leaf, AllocError>
     ensures { IfOk result (λ l. l ≡ record leaf.now { quantum = amount 0 0 }) }
@@ -86,8 +99,10 @@ fn unsized_init(alloc: Global, init: &Init) -> Result<Init, AllocError>
 {
     let routes = copied_routes(alloc, init.routes())?;
     let default_routes = copied_routes(alloc, init.default_routes())?;
+    let offers = copied_offers(alloc, init.offers())?;
     let quantum = Quantum::new(0, 0);
-    Ok(Init::new(init.name().copied(), quantum, routes, default_routes))
+    let name = init.name().copied();
+    Ok(Init::new(name, quantum, routes, default_routes, offers))
 }
 
 // Nodes that are given nothing.

@@ -63,7 +63,7 @@ pub enum Version {
     One,
     /// Capabilities are counted beside RAM.
     Two,
-    /// The same as version 2, and leaves may have inputs.
+    /// The same as version 2; leaves may have inputs, and inits may offer services.
     Three,
 }
 
@@ -141,7 +141,7 @@ impl Quantum {
 pub enum Target {
     /// To the child of this name.
     Child(Name),
-    /// To the only child that provides the service.
+    /// To the only child that serves the service.
     AnyChild,
     /// Where the route of the init itself leads, at its own init.
     Parent,
@@ -323,6 +323,9 @@ impl Leaf {
     }
 }
 
+/// The services that an init offers, each with the name of the child that serves it.
+pub type Offers = Vec<(Name, Name)>;
+
 /// A component with components below it.
 #[derive(Drop)]
 pub struct Init {
@@ -330,6 +333,7 @@ pub struct Init {
     quantum: Quantum,
     routes: Option<Vec<Route>>,
     default_routes: Option<Vec<Route>>,
+    offers: Offers,
 }
 
 impl Model for Init {
@@ -343,6 +347,7 @@ impl Model for Init {
       quantum = i.quantum;
       routes = option_map (λ r. r.items) i.routes;
       default_routes = option_map (λ r. r.items) i.default_routes;
+      offers = i.offers.items;
     } };
 }
 
@@ -353,12 +358,14 @@ impl Init {
         quantum: Quantum,
         routes: Option<Vec<Route>>,
         default_routes: Option<Vec<Route>>,
+        offers: Offers,
     ) -> Init
         ensures { result ≡ record {
           name = name;
           quantum = quantum;
           routes = option_map (λ r. r.items) routes;
           default_routes = option_map (λ r. r.items) default_routes;
+          offers = offers.items;
         } }
     {
         Init {
@@ -366,6 +373,7 @@ impl Init {
             quantum,
             routes,
             default_routes,
+            offers,
         }
     }
 
@@ -395,6 +403,13 @@ impl Init {
         ensures { option_map (λ r. r.now) result ≡ self.now.default_routes }
     {
         told(&self.default_routes)
+    }
+
+    /// The services that it offers, each with the name of the child that serves it. In versions 1 and 2 it has none.
+    pub fn offers(&self) -> &[(Name, Name)]
+        ensures { result.now ≡ self.now.offers }
+    {
+        self.offers.as_slice()
     }
 }
 

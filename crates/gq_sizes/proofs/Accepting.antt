@@ -17,7 +17,8 @@ use Rattle.gq_model.specs.rules.Kinds.{State, Subject}
 use Rattle.gq_model.specs.rules.Flow.{context}
 use Rattle.gq_model.specs.declared.program.Instruction.{Instruction}
 use Rattle.gq_tariff.specs.Prices.{up}
-use Rattle.gq_model.specs.rules.Resolve.{Unresolved, leaf_child, sibling, unfit, unfit_after, after_fault, routes_fault, cycle_fault, quanta_fault, unresolved}
+use Rattle.gq_model.specs.rules.Resolve.{Unresolved, leaf_child, sibling, unfit, unfit_after, offer_fault, after_fault, routes_fault, cycle_fault}
+use Rattle.gq_model.specs.rules.Resolve.{quanta_fault, unresolved}
 use Rattle.gq_model.specs.rules.Use.{subject, step_budget}
 use Rattle.gq_model.specs.rules.Verdict.{Fault, program_fault, greatest_cost}
 use Rattle.gq_model.specs.texts.Code.{IsProgram}
@@ -35,7 +36,7 @@ use Rattle.gq_scenario.specs.Unsized.{unsized}
 use Rattle.gq_sizes.specs.Least.{caps_of, sum_at, sized, NoneShort, HasWholePages, IsAcceptedSized}
 use Rattle.gq_sizes.proofs.Ending.{IsSettled}
 use Rattle.gq_sizes.proofs.Enough.{sufficient}
-use Rattle.gq_sizes.proofs.Fitting.{IsFree, IsSufficient, HasLevel, found_least, found_free, map_length, fits_least, allows, along, settled_caps}
+use Rattle.gq_sizes.proofs.Fitting.{IsFree, IsSufficient, HasLevel, all_as_one, found_least, found_free, map_length, fits_least, allows, along, settled_caps}
 use Rattle.gq_sizes.proofs.Fitting as fitting
 use Rattle.gq_sizes.proofs.Meeting.{Met}
 use Rattle.gq_sizes.proofs.Owning.{own_ram_so, own_caps_so}
@@ -46,7 +47,7 @@ use Rattle.gq_sizes.proofs.Freed_scenarios.{nodes_free, components_both, pair_of
 use Rattle.gq_sizes.proofs.Starting.{sibling_held}
 use Rattle.gq_sizes.proofs.Settling.{after_least}
 use Rattle.gq_sizes.proofs.Section_levels.{level_known}
-use Rattle.gq_sizes.proofs.Resolving.{after_so, routes_so, cycles_so}
+use Rattle.gq_sizes.proofs.Resolving.{offers_so, after_so, routes_so, cycles_so}
 use Rattle.gq_sizes.proofs.Sized_nodes.{handed, free_sized, all_have, has_at, quanta_fit}
 use Rattle.gq_sizes.proofs.Holding.{nodes_self}
 
@@ -202,13 +203,15 @@ module _ (s : Scenario) (formed : IsWellFormed s) (settled : IsSettled s) (judge
       let b = or_first_none (not_resolved (unresolved u)) (steps_refusal all.components (budgets u)) a.1 in
       (a.0, resolved_none (unresolved u) b.0, b.1)
 
-  faults : (after_fault all.components [] all.components ≡ None) × (routes_fault all.components ≡ None) × (cycle_fault all 0 all.components ≡ None)
+  faults : (offer_fault u ≡ None) × (after_fault all.components [] all.components ≡ None) × (routes_fault all.components ≡ None)
+      × (cycle_fault all 0 all.components ≡ None)
   faults =
       let a = or_first_none (quanta_fault Ram u) _ parts.1 in
       let b = or_first_none (quanta_fault Caps u) _ a.1 in
-      let c = or_first_none (after_fault all.components [] all.components) _ b.1 in
-      let d = or_first_none (routes_fault all.components) (cycle_fault all 0 all.components) c.1 in
-      (c.0, d.0, d.1)
+      let c = or_first_none (offer_fault u) _ b.1 in
+      let d = or_first_none (after_fault all.components [] all.components) _ c.1 in
+      let e = or_first_none (routes_fault all.components) (cycle_fault all 0 all.components) d.1 in
+      (c.0, d.0, e.0, e.1)
 
   unquantified : IsFree s.version all s.interfaces
   unquantified = record { interfaces = refl; counted = formed.counted; settled = λ two service i l e below. settled two service i l e below }
@@ -324,8 +327,8 @@ module _ (s : Scenario) (formed : IsWellFormed s) (settled : IsSettled s) (judge
   handed_less : (x y : ℕ) (c b : Component) → slice_get all.components x ≡ Some c → slice_get all.components y ≡ Some b → c.node.after ≡ Some b.node.name
       → ((handed s.version all x).ram ≤ (handed s.version all y).ram) × ((handed s.version all x).caps ≤ (handed s.version all y).caps)
   handed_less x y c b at there after = (
-    after_least u names faults.0 Ram x y c b at there after,
-    caps_less s.version (least_at Caps all x) (least_at Caps all y) (after_least u names faults.0 Caps x y c b at there after),
+    after_least u names faults.1 Ram x y c b at there after,
+    caps_less s.version (least_at Caps all x) (least_at Caps all y) (after_least u names faults.1 Caps x y c b at there after),
   )
 
   unfit_none : (before node : LeafNode) → is_some before.provides ≡ false → is_some node.provides ≡ false → node.quantum.ram ≤ before.quantum.ram
@@ -340,7 +343,7 @@ module _ (s : Scenario) (formed : IsWellFormed s) (settled : IsSettled s) (judge
       let p = pair_of all.components others.components as_sized x d at in
       let c = p.0 in
       let after_c : c.node.after ≡ Some name = ap (λ (n : LeafNode). n.after) (sym p.2.node) ∙ after in
-      let known = (starts_after all.components [] all.components faults.0 x c name p.1 after_c).0 in
+      let known = (starts_after all.components [] all.components faults.1 x c name p.1 after_c).0 in
       let b = sibling_both name c.levels d.levels p.2.levels known.before known.there in
       let held = sibling_held others.components name d.levels b.0 (each_get _ others.components x d (all_known z) at) b.1 in
       let stands = holds_at b.0 others.components held.0 in
@@ -369,10 +372,11 @@ module _ (s : Scenario) (formed : IsWellFormed s) (settled : IsSettled s) (judge
   unresolved_none =
       let ram = quanta_fit s.version all Ram z s.nodes refl refl in
       let caps = quanta_fit s.version all Caps z s.nodes refl refl in
-      let after = after_so all.components others.components as_sized [] all.components others.components as_sized after_fits faults.0 in
-      let routes = routes_so all.components others.components as_sized faults.1 in
-      let cycles = cycles_so all others as_sized 0 all.components others.components as_sized faults.2 in
-      (λ i. or_first (ram i) (or_first (caps i) (or_first (after i) (or_first (routes i) (cycles i)))))
+      let offers = sym (offers_so u z (all_as_one s.version all gs s.interfaces) (free_sized s.version all 0 s.nodes)) ∙ faults.0 in
+      let after = after_so all.components others.components as_sized [] all.components others.components as_sized after_fits faults.1 in
+      let routes = routes_so all.components others.components as_sized faults.2 in
+      let cycles = cycles_so all others as_sized 0 all.components others.components as_sized faults.3 in
+      (λ i. or_first (ram i) (or_first (caps i) (or_first (offers i) (or_first (after i) (or_first (routes i) (cycles i))))))
 
   budgets_fit : (r : Resource) → own_refusal r others.components (budgets z) ≡ None
   budgets_fit r = own_none r s.version others 0 others.components (λ x y d at.

@@ -9,7 +9,7 @@ use Rattle.gq_model.specs.machine.Scenario.{Route, LeafNode, Nodes, End, Leaf_no
 use Rattle.gq_model.specs.machine.Scenario.{system}
 use Rattle.gq_model.specs.rules.Accept.{program_refusal, not_resolved, own_refusal, steps_refusal, budgets_from, budgets}
 use Rattle.gq_model.specs.rules.Resolve.{first_handed, handed_out, exceeded, exceeds, first_exceeding, sibling, unfit, unfit_after, after_fault, routes_fault}
-use Rattle.gq_model.specs.rules.Resolve.{cycle_fault, quanta_fault, unresolved}
+use Rattle.gq_model.specs.rules.Resolve.{cycle_fault, offer_fault, quanta_fault, unresolved}
 use Rattle.gq_model.specs.rules.Use.{subject}
 use Rattle.gq_model.proofs.Small.{none_some, some_same, or_first_none}
 use Rattle.gq_laws.specs.Sound.{IsSound}
@@ -20,9 +20,9 @@ use Rattle.gq_sizes.specs.Alike.{AllComponents, ScenariosAsOne}
 use Rattle.gq_sizes.specs.Size.{refusal_without}
 use Rattle.gq_scenario.specs.Unsized.{without_quanta, unsized}
 use Rattle.gq_sizes.proofs.Freeing.{AnyStep, AnyState, fits_free, free_allows, any_along}
-use Rattle.gq_sizes.proofs.Freed_scenarios.{pair_of, none_counted}
-use Rattle.gq_sizes.proofs.Needing.{both, subjects, fine}
-use Rattle.gq_sizes.proofs.Resolving.{after_so, routes_so, cycles_so}
+use Rattle.gq_sizes.proofs.Freed_scenarios.{nodes_free, pair_of, none_counted}
+use Rattle.gq_sizes.proofs.Needing.{both, interfaces, subjects, fine}
+use Rattle.gq_sizes.proofs.Resolving.{offers_so, after_so, routes_so, cycles_so}
 use Rattle.gq_sizes.proofs.Sizing.{requests_sized}
 use Rattle.gq_sizes.proofs.Stepping.{AskAsOne, budget_so}
 use Rattle.gq_sizes.proofs.Accepting.{all_pass, steps_none, asks_all, sibling_both, not_less}
@@ -104,13 +104,15 @@ module _ (t s : Scenario) (sound : IsSound t) (alike : ScenariosAsOne t s) where
   pairs : AllComponents mine.components all.components
   pairs = both t s sound alike
 
-  resolved : (after_fault mine.components [] mine.components ≡ None) × (routes_fault mine.components ≡ None) × (cycle_fault mine 0 mine.components ≡ None)
+  resolved : (offer_fault t ≡ None) × (after_fault mine.components [] mine.components ≡ None) × (routes_fault mine.components ≡ None)
+      × (cycle_fault mine 0 mine.components ≡ None)
   resolved =
       let a = or_first_none (quanta_fault Ram t) _ (is_resolved t sound.accepted) in
       let b = or_first_none (quanta_fault Caps t) _ a.1 in
-      let c = or_first_none (after_fault mine.components [] mine.components) _ b.1 in
-      let d = or_first_none (routes_fault mine.components) (cycle_fault mine 0 mine.components) c.1 in
-      (c.0, d.0, d.1)
+      let c = or_first_none (offer_fault t) _ b.1 in
+      let d = or_first_none (after_fault mine.components [] mine.components) _ c.1 in
+      let e = or_first_none (routes_fault mine.components) (cycle_fault mine 0 mine.components) d.1 in
+      (c.0, d.0, e.0, e.1)
 
   few_steps : steps_refusal mine.components (budgets t) ≡ None
   few_steps =
@@ -140,10 +142,11 @@ module _ (t s : Scenario) (sound : IsSound t) (alike : ScenariosAsOne t s) where
 
   resolved_none : unresolved (unsized s) ≡ None
   resolved_none =
-      let after = after_so mine.components all.components pairs [] mine.components all.components pairs after_fits resolved.0 in
-      let routes = routes_so mine.components all.components pairs resolved.1 in
-      let cycles = cycles_so mine all pairs 0 mine.components all.components pairs resolved.2 in
-      (λ i. or_first (quanta_none Ram s i) (or_first (quanta_none Caps s i) (or_first (after i) (or_first (routes i) (cycles i)))))
+      let offers = sym (offers_so t (unsized s) (interfaces t s sound alike) (nodes_free t.nodes s.nodes alike.nodes)) ∙ resolved.0 in
+      let after = after_so mine.components all.components pairs [] mine.components all.components pairs after_fits resolved.1 in
+      let routes = routes_so mine.components all.components pairs resolved.2 in
+      let cycles = cycles_so mine all pairs 0 mine.components all.components pairs resolved.3 in
+      (λ i. or_first (quanta_none Ram s i) (or_first (quanta_none Caps s i) (or_first (offers i) (or_first (after i) (or_first (routes i) (cycles i))))))
 
   asks : AskAsOne mine all mine.components all.components
   asks = asks_all mine all mine.components all.components pairs (λ x c d at o from service section.

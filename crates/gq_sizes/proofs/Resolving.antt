@@ -1,18 +1,20 @@
 -- What is resolved without quantities is resolved with others, where quanta fit.
-use Rattle.std.proofs.Common.{◌≡◌, ℕ, zero, suc, ◌||◌, Bool, true, false, List, [], ◌∷◌, ◌++◌, length, Option, Some, None, refl, ap, sym, ◌∙◌}
-use Rattle.std.specs.Prelude.{slice_get, if◌then◌else◌, ◌==◌}
+use Rattle.std.proofs.Common.{◌≡◌, ℕ, zero, suc, ◌||◌, ◌&&◌, Bool, true, false, List, [], ◌∷◌, ◌++◌, length, Option, Some, None, refl, ap, sym, ◌∙◌}
+use Rattle.std.specs.Prelude.{slice_get, is_some, if◌then◌else◌, ◌==◌}
 use Rattle.std.proofs.lemmas.Bool.{or_parts}
 use Rattle.gq_model.specs.machine.Lists.{any_of, or_first}
 use Rattle.gq_model.specs.machine.Program.{text_eq}
-use Rattle.gq_model.specs.machine.Routes.{To, route, server_of}
-use Rattle.gq_model.specs.machine.Scenario.{Component, LeafNode, System}
-use Rattle.gq_model.specs.rules.Resolve.{Unresolved, Cycle, Bad_after, unfit_after, after_of, sibling, leads_back, is_bad_after, with_name, after_fault}
+use Rattle.gq_model.specs.machine.Routes.{To, is_service, offer_of, route, server_of}
+use Rattle.gq_model.specs.machine.Scenario.{Interfaces, Component, LeafNode, Offers, Nodes, End, Leaf_node, Init_node, Scenario, System}
+use Rattle.gq_model.specs.machine.Scenario.{interface_in}
+use Rattle.gq_model.specs.rules.Resolve.{Unresolved, Cycle, Bad_offer, Bad_after, child_serves, offers_fault, first_bad_offer, offer_fault}
+use Rattle.gq_model.specs.rules.Resolve.{unfit_after, after_of, sibling, leads_back, is_bad_after, with_name, after_fault}
 use Rattle.gq_model.specs.rules.Resolve.{unrouted, services_fault, routes_fault}
 use Rattle.gq_model.specs.rules.Resolve.{cycle_fault}
 use Rattle.gq_model.specs.rules.Use.{services, services_in, is_there, uses, used_from, used_at, reaches}
 use Rattle.gq_model.proofs.Component_laws.{leads_to}
 use Rattle.gq_model.proofs.Small.{some_none, or_first_none}
-use Rattle.gq_sizes.specs.Alike.{ComponentsAsOne, AllComponents}
+use Rattle.gq_sizes.specs.Alike.{AllAsOne, NodesAsOne, ComponentsAsOne, AllComponents}
 use Rattle.gq_sizes.proofs.Routing.{route_so, server_so}
 
 -- LISTS
@@ -26,6 +28,57 @@ same_length [] [] h = refl
 same_length [] (d ∷ ds) h = absurd h
 same_length (c ∷ cs) [] h = absurd h
 same_length (c ∷ cs) (d ∷ ds) h = ap suc (same_length cs ds h.1)
+
+-- OFFERS
+
+serves_so : (name service : List ℕ) (ms ns : Nodes) → NodesAsOne ms ns → child_serves name service ms ≡ child_serves name service ns
+serves_so name service End End h = refl
+serves_so name service End (Leaf_node n ns) h = absurd h
+serves_so name service End (Init_node n ds ns) h = absurd h
+serves_so name service (Leaf_node m ms) End h = absurd h
+serves_so name service (Leaf_node m ms) (Init_node n ds ns) h = absurd h
+serves_so name service (Leaf_node m ms) (Leaf_node n ns) h =
+    (λ i. if◌then◌else◌ (text_eq name (sym h.0 i).name) (is_service (sym h.0 i).provides service) (serves_so name service ms ns h.1 i))
+serves_so name service (Init_node m cs ms) End h = absurd h
+serves_so name service (Init_node m cs ms) (Leaf_node n ns) h = absurd h
+serves_so name service (Init_node m cs ms) (Init_node n ds ns) h =
+    (λ i. if◌then◌else◌ (text_eq name (sym h.0 i).name) (is_some (offer_of (sym h.0 i).offers service)) (serves_so name service ms ns h.2 i))
+
+-- there is an interface of a service in both, or in neither
+there_so : (service : List ℕ) (is js : Interfaces) → AllAsOne is js → is_some (interface_in service is) ≡ is_some (interface_in service js)
+there_so service [] [] h = refl
+there_so service [] (f ∷ js) h = absurd h
+there_so service (e ∷ is) [] h = absurd h
+there_so service (e ∷ is) (f ∷ js) h =
+    by (text_eq service e.0) (there_so service is js h.2)
+    ∙ ap (λ n. is_some (if◌then◌else◌ (text_eq service n) (Some f.1) (interface_in service js))) h.0
+  where
+    by : (b : Bool) → is_some (interface_in service is) ≡ is_some (interface_in service js)
+        → is_some (if◌then◌else◌ b (Some e.1) (interface_in service is)) ≡ is_some (if◌then◌else◌ b (Some f.1) (interface_in service js))
+    by true further = refl
+    by false further = further
+
+module _ (is js : Interfaces) (same : AllAsOne is js) where
+  -- one init's
+  own_offers_so : (name : List ℕ) (ms ns : Nodes) (offers : Offers) → NodesAsOne ms ns → offers_fault is name ms offers ≡ offers_fault js name ns offers
+  own_offers_so name ms ns [] h = refl
+  own_offers_so name ms ns (o ∷ offers) h =
+      (λ i. if◌then◌else◌ (there_so o.0 is js same i && serves_so o.1 o.0 ms ns h i) (own_offers_so name ms ns offers h i) (Some (Bad_offer name)))
+
+  all_offers_so : (ms ns : Nodes) → NodesAsOne ms ns → first_bad_offer is ms ≡ first_bad_offer js ns
+  all_offers_so End End h = refl
+  all_offers_so End (Leaf_node n ns) h = absurd h
+  all_offers_so End (Init_node n ds ns) h = absurd h
+  all_offers_so (Leaf_node m ms) End h = absurd h
+  all_offers_so (Leaf_node m ms) (Init_node n ds ns) h = absurd h
+  all_offers_so (Leaf_node m ms) (Leaf_node n ns) h = all_offers_so ms ns h.1
+  all_offers_so (Init_node m cs ms) End h = absurd h
+  all_offers_so (Init_node m cs ms) (Leaf_node n ns) h = absurd h
+  all_offers_so (Init_node m cs ms) (Init_node n ds ns) h =
+      (λ i. or_first (own_offers_so (sym h.0 i).name cs ds (sym h.0 i).offers h.1 i) (or_first (all_offers_so cs ds h.1 i) (all_offers_so ms ns h.2 i)))
+
+pub offers_so : (s t : Scenario) → AllAsOne s.interfaces t.interfaces → NodesAsOne s.nodes t.nodes → offer_fault s ≡ offer_fault t
+offers_so s t h k = all_offers_so s.interfaces t.interfaces h s.nodes t.nodes k
 
 -- LEAVES THAT START AFTER OTHERS
 

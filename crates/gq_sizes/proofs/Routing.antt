@@ -1,12 +1,12 @@
 -- Where quanta alone differ, services lead to the same leaves.
-use Rattle.std.proofs.Common.{◌≡◌, ℕ, suc, List, [], ◌∷◌, ◌++◌, Option, Some, refl, ap, sym, ◌∙◌, subst}
+use Rattle.std.proofs.Common.{◌≡◌, ℕ, suc, List, [], ◌∷◌, ◌++◌, Option, Some, None, refl, ap, sym, ◌∙◌, subst}
 use Rattle.std.specs.Prelude.{if◌then◌else◌}
 use Rattle.gq_model.specs.machine.Program.{text_eq}
 use Rattle.gq_model.specs.machine.Scenario.{LeafNode, InitNode, Nodes, End, Leaf_node, Init_node, Level, Component, System, Route, Target, Child, Any_child}
 use Rattle.gq_model.specs.machine.Scenario.{Parent}
 use Rattle.gq_model.specs.machine.Scenario.{components_of, level, first_there, below}
-use Rattle.gq_model.specs.machine.Routes.{Routed, To, No_route, Ambiguous, Provides_differs, is_service, fits, child_named, providers, only, led, first_fit}
-use Rattle.gq_model.specs.machine.Routes.{route, numbered}
+use Rattle.gq_model.specs.machine.Routes.{Routed, To, No_route, Ambiguous, Provides_differs, is_service, fits, offer_of, through, child_named, offered}
+use Rattle.gq_model.specs.machine.Routes.{providers, only, led, first_fit, route, numbered}
 use Rattle.gq_model.specs.machine.Routes.{leaf_routed, server_of}
 use Rattle.gq_sizes.specs.Alike.{NodesAsOne, LevelsAsOne, ComponentsAsOne, AllComponents}
 
@@ -67,7 +67,12 @@ child_so name service (Leaf_node m ms) (Leaf_node n ns) h =
 child_so name service (Init_node m cs ms) End h = absurd h
 child_so name service (Init_node m cs ms) (Leaf_node n ns) h = absurd h
 child_so name service (Init_node m cs ms) (Init_node n ds ns) h =
-    (λ i. if◌then◌else◌ (text_eq name (sym h.0 i).name) Provides_differs (child_so name service ms ns h.2 i))
+    (λ i. if◌then◌else◌ (text_eq name (sym h.0 i).name)
+    (through (offer_of (sym h.0 i).offers service) (λ child. child_so child service cs ds h.1 i)) (child_so name service ms ns h.2 i))
+
+offered_so : (offer : Option (List ℕ)) (service : List ℕ) (ms ns : Nodes) → NodesAsOne ms ns → offered offer service ms ≡ offered offer service ns
+offered_so None service ms ns h = refl
+offered_so (Some child) service ms ns h = ap (λ (served : Routed). served ∷ []) (child_so child service ms ns h)
 
 providers_so : (service : List ℕ) (ms ns : Nodes) → NodesAsOne ms ns → providers service ms ≡ providers service ns
 providers_so service End End h = refl
@@ -76,10 +81,11 @@ providers_so service End (Init_node n cs ns) h = absurd h
 providers_so service (Leaf_node m ms) End h = absurd h
 providers_so service (Leaf_node m ms) (Init_node n cs ns) h = absurd h
 providers_so service (Leaf_node m ms) (Leaf_node n ns) h =
-    (λ i. (if◌then◌else◌ (is_service (sym h.0 i).provides service) ((sym h.0 i).name ∷ []) []) ++ providers_so service ms ns h.1 i)
+    (λ i. (if◌then◌else◌ (is_service (sym h.0 i).provides service) (To (sym h.0 i).name ∷ []) []) ++ providers_so service ms ns h.1 i)
 providers_so service (Init_node m cs ms) End h = absurd h
 providers_so service (Init_node m cs ms) (Leaf_node n ns) h = absurd h
-providers_so service (Init_node m cs ms) (Init_node n ds ns) h = providers_so service ms ns h.2
+providers_so service (Init_node m cs ms) (Init_node n ds ns) h =
+    (λ i. offered_so (offer_of (sym h.0 i).offers service) service cs ds h.1 i ++ providers_so service ms ns h.2 i)
 
 led_so : (target : Target) (service : List ℕ) (ms ns : Nodes) (a b : Routed) → NodesAsOne ms ns → a ≡ b → led target service ms a ≡ led target service ns b
 led_so (Child name) service ms ns a b h e = child_so name service ms ns h

@@ -40,7 +40,7 @@ child_among name (Leaf_node node rest) n e = by (text_eq name node.name) refl e 
         → (leaf_child name rest ≡ Some n → Among n rest × (n.name ≡ name)) → Among n (Leaf_node node rest) × (n.name ≡ name)
     by true f g further = (inl (some_same g), sym (text_is name node.name f ∙ ap (λ (n : LeafNode). n.name) (some_same g)))
     by false f g further = let r = further g in (inr r.0, r.1)
-child_among name (Init_node node children rest) n e = child_among name rest n e
+child_among name (Init_node node children rest) n e = let r = child_among name rest n e in (inr r.0, r.1)
 
 pub sibling_held : (all : List Component) (name : List ℕ) (levels : List Level) (n : LeafNode) → shapes.Each (IsKnown all) levels → sibling name levels ≡ Some n
     → Holds n all × (n.name ≡ name)

@@ -80,6 +80,19 @@ pub(crate) fn same_routes(a: Option<&[Route]>, b: Option<&[Route]>) -> bool
     }
 }
 
+/// Whether two lists of offers are the same.
+pub(crate) fn same_offers(a: &[(Name, Name)], b: &[(Name, Name)]) -> bool
+    ensures { IsTrue result → a.now ≡ b.now }
+{
+    match (a, b) {
+        ([], []) => true,
+        ([(service, child), more @ ..], [(other, named), others @ ..]) => {
+            same_name(service, other) && same_name(child, named) && same_offers(more, others)
+        }
+        _ => false,
+    }
+}
+
 /// Whether two lists of numbers are the same.
 pub(crate) fn same_numbers(a: &[u32], b: &[u32]) -> bool
     ensures { IsTrue result → a.now ≡ b.now }

@@ -18,7 +18,8 @@ use crate::nodes::Leaves;
 use crate::places::Least;
 use crate::points::LEVELS;
 use crate::same::{
-    same_counts, same_name, same_names, same_numbers, same_routes, same_source, same_version,
+    same_counts, same_name, same_names, same_numbers, same_offers, same_routes, same_source,
+    same_version,
 };
 use gq_load::fault::LoadError;
 use gq_load::quantities::judge_unsized;
@@ -73,6 +74,7 @@ fn is_init_sized(version: Version, made: &Init, init: &Init, least: Least) -> bo
         && same_name(made.name(), init.name())
         && same_routes(made.routes(), init.routes())
         && same_routes(made.default_routes(), init.default_routes())
+        && same_offers(made.offers(), init.offers())
 }
 
 /// Whether nodes are others with the least quanta, of which the first leaf has a number: if so the number of the leaf after them.

@@ -10,7 +10,7 @@ use Rattle.gq_scenario.specs.declared.scenario.Node.{Node}
 use Rattle.gq_scenario.specs.declared.scenario.Node.TheVariants.{Leaf, Init}
 use Rattle.gq_scenario.proofs.Tree_counts.{nodes_drop}
 use Rattle.gq_views.specs.Listing.{line}
-use Rattle.gq_views.specs.Tree.{init_text, leaf_opens, leaf_text, nodes_text}
+use Rattle.gq_views.specs.Tree.{init_lines, init_text, leaf_opens, leaf_text, nodes_text}
 
 -- the same init, told by what the code has of it
 pub same_init : (d : ℕ) (t : List ℕ) (children : Nodes) (v w : ℕ) (name label : List ℕ) (quantum amount : Amount) → v ≡ w → name ≡ label → quantum ≡ amount
@@ -37,13 +37,13 @@ module _ (v : ℕ) (system : System) (most : List Budget) (d : ℕ) (items : Lis
       ∙ (append_assoc t first (opens (suc d) ++ nodes_text v system most d (suc x) rest)
       ∙ (ap (λ l. t ++ l) (sym (append_assoc first (opens (suc d)) (nodes_text v system most d (suc x) rest)) ∙ sym here) ∙ inv)))
 
-  -- an init's line and the lines of its children are put at the end
+  -- an init's lines and those of its children are put at the end
   pub told_init : (init : InitNode) (children : Nodes) → node ≡ Init init children → (x y : ℕ) → y ≡ x + leaf_count children → (t u w whole : List ℕ)
-      → u ≡ t ++ line d (init_text v init.name init.quantum children) → w ≡ u ++ nodes_text v system most (d + 1) x children
+      → u ≡ t ++ init_lines v d init children → w ≡ u ++ nodes_text v system most (d + 1) x children
       → t ++ nodes_text v system most d x (nodes_of (drop i items)) ≡ whole
       → w ++ nodes_text v system most d y rest ≡ whole
   told_init init children e x y next t u w whole put below inv =
-      let first = line d (init_text v init.name init.quantum children) in
+      let first = init_lines v d init children in
       let inner = nodes_text v system most (suc d) x children in
       let after = nodes_text v system most d (x + leaf_count children) rest in
       let here : nodes_text v system most d x (nodes_of (drop i items)) ≡ (first ++ inner) ++ after = rw (nodes_drop items i node within is, e) refl in

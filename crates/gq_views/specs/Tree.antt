@@ -7,7 +7,7 @@ use Rattle.gq_model.specs.machine.Lists.{any_of}
 use Rattle.gq_model.specs.machine.Program.{text_eq}
 use Rattle.gq_model.specs.machine.Routes.{numbered, server_of}
 use Rattle.gq_model.specs.machine.Run.{label_at}
-use Rattle.gq_model.specs.machine.Scenario.{Scenario, LeafNode, Nodes, End, Leaf_node, Init_node, System, system, Component}
+use Rattle.gq_model.specs.machine.Scenario.{Scenario, LeafNode, InitNode, Offers, Nodes, End, Leaf_node, Init_node, System, system, Component}
 use Rattle.gq_model.specs.rules.Accept.{Budget, budgets}
 use Rattle.gq_model.specs.rules.Resolve.{handed_out}
 use Rattle.gq_model.specs.rules.Use.{services}
@@ -21,6 +21,16 @@ left_entries word r quantum children = entry word (part r quantum) ++ entry (cod
 abbrev pub init_text : ℕ → List ℕ → Amount → Nodes → List ℕ
 init_text version name quantum children =
     name ++ left_entries (codes "quantum") Ram quantum children ++ told version (left_entries (codes "caps") Caps quantum children)
+
+-- what an init offers, each service with the child that serves it
+abbrev pub offers_lines : ℕ → Offers → List ℕ
+offers_lines depth [] = []
+offers_lines depth (o ∷ rest) = line depth (codes "offers " ++ o.0 ++ codes " from " ++ o.1) ++ offers_lines depth rest
+
+-- the line of an init, and below it what the init offers
+abbrev pub init_lines : ℕ → ℕ → InitNode → Nodes → List ℕ
+init_lines version depth node children =
+    line depth (init_text version node.name node.quantum children) ++ offers_lines (suc depth) node.offers
 
 -- a word and a name, where there is one
 abbrev pub named_entry : List ℕ → Option (List ℕ) → List ℕ
@@ -78,7 +88,7 @@ nodes_text version system budgets depth x (Leaf_node node rest) =
     line depth (leaf_text version node (slice_get budgets x)) ++ leaf_opens (suc depth) system (slice_get system.components x)
     ++ nodes_text version system budgets depth (suc x) rest
 nodes_text version system budgets depth x (Init_node node children rest) =
-    line depth (init_text version node.name node.quantum children) ++ nodes_text version system budgets (suc depth) x children
+    init_lines version depth node children ++ nodes_text version system budgets (suc depth) x children
     ++ nodes_text version system budgets depth (x + leaf_count children) rest
 
 abbrev pub tree_text : Scenario → List ℕ

@@ -9,8 +9,8 @@ ghost use Rattle.gq_scenario.specs.Sizes.{node_count};
 ghost use Rattle.gq_scenario.specs.Trees.{version_number};
 ghost use Rattle.gq_views.specs.internal.Opened.{opens_of};
 ghost use Rattle.gq_views.specs.Listing.{line};
-ghost use Rattle.gq_views.specs.Tree.{budget_entries, init_text, inputs_entry, leaf_opens, leaf_text, left_entries, named_entry, nodes_text, server_label};
-ghost use Rattle.gq_views.specs.Tree.{tree_text};
+ghost use Rattle.gq_views.specs.Tree.{budget_entries, init_lines, init_text, inputs_entry, leaf_opens, leaf_text, left_entries, named_entry, nodes_text};
+ghost use Rattle.gq_views.specs.Tree.{offers_lines, server_label, tree_text};
 ghost use Rattle.gq_views.specs.Written.{tree_written};
 ghost use Rattle.gq_world.specs.Outcomes.{WritesAs};
 
@@ -22,7 +22,7 @@ use gq_load::accepted::Accepted;
 use gq_load::budget::Budget;
 use gq_load::fault::LoadError;
 use gq_model::program::Name;
-use gq_scenario::scenario::{Leaf, Node, Nodes, Quantum, Version};
+use gq_scenario::scenario::{Init, Leaf, Node, Nodes, Quantum, Version};
 use gq_world::RunFault;
 use gq_world::text::put_text;
 use std::alloc::{AllocError, Global};
@@ -151,6 +151,49 @@ fn push_init(
     end_line(text)
 }
 
+// The line of a service that an init offers.
+fn push_offer(
+    text: &mut Vec<u8>,
+    depth: usize,
+    service: &Name,
+    child: &Name,
+) -> Result<(), AllocError>
+    ensures { OnOk result (text.new.items ≡ text.old.items ++ line depth (codes "offers " ++ service.now ++ codes " from " ++ child.now)) }
+{
+    push_indent(text, depth)?;
+    text.extend_from_slice(b"offers ")?;
+    text.extend_from_slice(service.as_bytes())?;
+    text.extend_from_slice(b" from ")?;
+    text.extend_from_slice(child.as_bytes())?;
+    end_line(text)
+}
+
+// The lines of the services that an init offers.
+fn push_offers(text: &mut Vec<u8>, depth: usize, offers: &[(Name, Name)]) -> Result<(), AllocError>
+    ensures { OnOk result (text.new.items ≡ text.old.items ++ offers_lines depth offers.now) }
+{
+    for (service, child) in offers {
+        push_offer(text, depth, service, child)?;
+    }
+    Ok(())
+}
+
+// The line of an init below the root, and those of the services that it offers.
+fn push_init_lines(
+    text: &mut Vec<u8>,
+    version: Version,
+    depth: usize,
+    init: &Init,
+    children: &Nodes,
+) -> Result<(), AllocError>
+    requires { depth ≤ 4096 }
+    ensures { OnOk result (text.new.items ≡ text.old.items ++ init_lines (version_number version) depth init.now children.now) }
+{
+    let name = init.name().as_bytes();
+    push_init(text, version, depth, name, init.quantum(), children)?;
+    push_offers(text, depth + 1, init.offers())
+}
+
 // The line of a service that a leaf opens.
 fn push_open(
     text: &mut Vec<u8>,
@@ -224,8 +267,7 @@ fn push_nodes(
                 place += 1;
             }
             Node::Init(init, children) => {
-                let name = init.name().as_bytes();
-                push_init(text, drawn.version(), depth, name, init.quantum(), children)?;
+                push_init_lines(text, drawn.version(), depth, init, children)?;
                 place = push_nodes(text, drawn, depth + 1, place, children)?;
             }
         }

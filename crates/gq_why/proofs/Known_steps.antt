@@ -13,7 +13,7 @@ use Rattle.gq_model.specs.machine.Routes.{server_of}
 use Rattle.gq_model.specs.machine.Scenario.{Component, Scenario, System, components, system}
 use Rattle.gq_model.specs.rules.Accept.{Budget, Refusal, bad_program, budgets, not_resolved, program_refusal, steps_refusal}
 use Rattle.gq_model.specs.rules.Budgets.{section_cost, section_requests}
-use Rattle.gq_model.specs.rules.Resolve.{after_fault, cycle_fault, quanta_fault, routes_fault, unresolved}
+use Rattle.gq_model.specs.rules.Resolve.{after_fault, cycle_fault, offer_fault, quanta_fault, routes_fault, unresolved}
 use Rattle.gq_model.specs.rules.Use.{is_there, services, step_budget, subject, times}
 use Rattle.gq_model.specs.rules.Verdict.{Fault, greatest_cost, program_fault}
 use Rattle.gq_model.specs.Promises.{budget_of}
@@ -72,7 +72,8 @@ module _ (s : Scenario) (faultless : unsized_fault s ≡ None) where
       let all = system s in
       let a = or_first_none (quanta_fault Ram s) _ refusals.1 in
       let b = or_first_none (quanta_fault Caps s) _ a.1 in
-      let d = or_first_none (after_fault all.components [] all.components) _ b.1 in
+      let c = or_first_none (offer_fault s) _ b.1 in
+      let d = or_first_none (after_fault all.components [] all.components) _ c.1 in
       (or_first_none (routes_fault all.components) (cycle_fault all 0 all.components) d.1).1
 
   module _ (x : ℕ) (c : Component) (there : slice_get (components s) x ≡ Some c) where

@@ -17,7 +17,7 @@ use Rattle.gq_model.specs.machine.World.{World, session_at, with_leaf, with_slot
 use Rattle.gq_model.specs.machine.Doing.{Doing, Event, Idle, Quiet, Finished, Stepped, standing, settled}
 use Rattle.gq_model.specs.machine.Sums.{handed, paid, with_peaks}
 use Rattle.gq_model.specs.machine.Accounts.{handed_to}
-use Rattle.gq_model.specs.rules.Resolve.{quanta_fault, after_fault, unresolved}
+use Rattle.gq_model.specs.rules.Resolve.{quanta_fault, offer_fault, after_fault, unresolved}
 use Rattle.gq_model.specs.machine.Step.{instruct, oldest, all_empty, accept, serving, resumed, active_again, unblocked, replied, reply_close, reply, exit_of}
 use Rattle.gq_model.specs.machine.Step.{no_link, main_ended, section_ended, body_ended, perform, accept_oldest, step_in, step_of, next}
 use Rattle.gq_laws.specs.Links.{links, Stance, stance, stance_in, outline, outline_in, Fits, AreLinked, IsLinkedWorld}
@@ -216,8 +216,9 @@ quanta_fit : (s : Scenario) → unresolved s ≡ None → (quanta_fault Ram s �
 quanta_fit s e =
     let one = or_first_none (quanta_fault Ram s) _ e in
     let two = or_first_none (quanta_fault Caps s) _ one.1 in
-    let three = or_first_none (after_fault (components s) [] (components s)) _ two.1 in
-    (one.0, two.0, three.0)
+    let three = or_first_none (offer_fault s) _ two.1 in
+    let four = or_first_none (after_fault (components s) [] (components s)) _ three.1 in
+    (one.0, two.0, four.0)
 
 pub start_fits : (r : Resource) (s : Scenario) → IsResolved s → Fit r s (start (system s))
 start_fits Ram s resolved = start_fit Ram s (quanta_fit s resolved.fits).0

@@ -1,12 +1,12 @@
 -- The leaf to which a route leads provides the service, where no two leaves have the same name.
-use Rattle.std.proofs.Common.{◌≡◌, ℕ, suc, ◌+◌, ◌⊎◌, inl, inr, Bool, true, false, cond, List, [], ◌∷◌, ◌++◌, codes, Option, Some, refl, ap, sym}
+use Rattle.std.proofs.Common.{◌≡◌, ℕ, suc, ◌+◌, ◌⊎◌, inl, inr, Bool, true, false, cond, List, [], ◌∷◌, ◌++◌, codes, Option, Some, None, refl, ap, sym}
 use Rattle.std.proofs.Common.{◌∙◌, subst, arith}
 use Rattle.std.specs.Prelude.{slice_get}
 use Rattle.gq_model.specs.machine.Program.{text_eq}
 use Rattle.gq_model.specs.machine.Scenario.{Target, Child, Any_child, Parent, Route, LeafNode, Nodes, End, Leaf_node, Init_node, Level, level, below, Component}
 use Rattle.gq_model.specs.machine.Scenario.{components_of, components, Scenario, system}
-use Rattle.gq_model.specs.machine.Routes.{Routed, To, No_route, Ambiguous, Provides_differs, is_service, fits, child_named, providers, only, led, first_fit}
-use Rattle.gq_model.specs.machine.Routes.{route, numbered, leaf_routed, server_of}
+use Rattle.gq_model.specs.machine.Routes.{Routed, To, No_route, Ambiguous, Provides_differs, is_service, fits, offer_of, through, child_named, offered}
+use Rattle.gq_model.specs.machine.Routes.{providers, only, led, first_fit, route, numbered, leaf_routed, server_of}
 use Rattle.gq_laws.specs.Shapes.{Each}
 use Rattle.gq_laws.specs.Names.{NamesDiffer}
 use Rattle.gq_model.proofs.Small.{some_same, none_some}
@@ -24,11 +24,11 @@ to_same {a} {b} e = ap name_or e
 
 -- LEAVES AMONG NODES AND COMPONENTS
 
--- the leaf stands directly among these nodes
+-- the leaf stands among these nodes, or below one
 abbrev pub Among : LeafNode → Nodes → Type 0
 Among n End = ⊥
 Among n (Leaf_node node rest) = (node ≡ n) ⊎ Among n rest
-Among n (Init_node node children rest) = Among n rest
+Among n (Init_node node children rest) = Among n children ⊎ Among n rest
 
 -- it is the leaf of one of these components
 abbrev pub Holds : LeafNode → List Component → Type 0
@@ -53,7 +53,7 @@ each_append : {A : Type 0} (P : A → Type 0) (cs ds : List A) → Each P cs →
 each_append P [] ds h k = k
 each_append P (a ∷ cs) ds h k = (h.0, each_append P cs ds h.1 k)
 
--- each leaf among a level's siblings is a component
+-- each leaf among a level's siblings and below them is a component
 abbrev pub IsKnown : List Component → Level → Type 0
 IsKnown all l = (n : LeafNode) → Among n l.siblings → Holds n all
 
@@ -63,7 +63,9 @@ module _ (all : List Component) where
   direct label default_routes siblings above End n h = absurd h
   direct label default_routes siblings above (Leaf_node node rest) n (inl e) = inl e
   direct label default_routes siblings above (Leaf_node node rest) n (inr h) = inr (direct label default_routes siblings above rest n h)
-  direct label default_routes siblings above (Init_node node children rest) n h = holds_right n _ _ (direct label default_routes siblings above rest n h)
+  direct label default_routes siblings above (Init_node node children rest) n (inl h) = holds_left n _ _
+      (direct (below label node.name) node.default_routes children (level node.routes default_routes siblings ∷ above) children n h)
+  direct label default_routes siblings above (Init_node node children rest) n (inr h) = holds_right n _ _ (direct label default_routes siblings above rest n h)
 
   known : (label : List ℕ) (default_routes : Option (List Route)) (siblings : Nodes) (above : List Level) (nodes : Nodes)
       → ((n : LeafNode) → Among n siblings → Holds n all) → Each (IsKnown all) above
@@ -118,31 +120,48 @@ module _ (all : List Component) (service : List ℕ) where
           (child_named child service rest) ≡ To name → (child_named child service rest ≡ To name → Provides all service name) → Provides all service name
       by true same f further = served (is_service node.provides service) refl same f
       by false other f further = further f
-  child_provides child (Init_node node children rest) name h e = by (text_eq child node.name) e (λ f. child_provides child rest name h f)
+  child_provides child (Init_node node children rest) name h e =
+      by (text_eq child node.name) e (λ inner f. child_provides inner children name (λ n m. h n (inl m)) f)
+      (λ f. child_provides child rest name (λ n m. h n (inr m)) f)
     where
-      by : (b : Bool) → cond b Provides_differs (child_named child service rest) ≡ To name
-          → (child_named child service rest ≡ To name → Provides all service name) → Provides all service name
-      by true f further = differs_to name f
-      by false f further = further f
+      inside : (offer : Option (List ℕ)) → ((inner : List ℕ) → child_named inner service children ≡ To name → Provides all service name)
+          → through offer (λ inner. child_named inner service children) ≡ To name → Provides all service name
+      inside None deeper f = differs_to name f
+      inside (Some inner) deeper f = deeper inner f
 
-  -- each of the providers' names is a provider's
-  abbrev Are : List (List ℕ) → Type 0
-  Are names = Each (Provides all service) names
+      by : (b : Bool) → cond b (through (offer_of node.offers service) (λ inner. child_named inner service children)) (child_named child service rest) ≡ To name
+          → ((inner : List ℕ) → child_named inner service children ≡ To name → Provides all service name)
+          → (child_named child service rest ≡ To name → Provides all service name) → Provides all service name
+      by true f deeper further = inside (offer_of node.offers service) deeper f
+      by false f deeper further = further f
+
+  -- a leaf to which it leads provides the service
+  abbrev Leads : Routed → Type 0
+  Leads served = (name : List ℕ) → served ≡ To name → Provides all service name
+
+  -- each of them leads to a provider
+  abbrev Are : List Routed → Type 0
+  Are all_served = Each Leads all_served
 
   are_providers : (nodes : Nodes) → ((n : LeafNode) → Among n nodes → Holds n all) → Are (providers service nodes)
   are_providers End h = tt
-  are_providers (Leaf_node node rest) h = each_append (Provides all service) (cond (is_service node.provides service) (node.name ∷ []) [])
+  are_providers (Leaf_node node rest) h = each_append Leads (cond (is_service node.provides service) (To node.name ∷ []) [])
       (providers service rest) (by (is_service node.provides service) refl) (are_providers rest (λ n m. h n (inr m)))
     where
-      by : (b : Bool) → is_service node.provides service ≡ b → Are (cond b (node.name ∷ []) [])
-      by true p = (record { leaf = node; there = h node (inl refl); is = refl; provides = p }, tt)
+      by : (b : Bool) → is_service node.provides service ≡ b → Are (cond b (To node.name ∷ []) [])
+      by true p = (λ name e. record { leaf = node; there = h node (inl refl); is = to_same e; provides = p }, tt)
       by false p = tt
-  are_providers (Init_node node children rest) h = are_providers rest h
+  are_providers (Init_node node children rest) h = each_append Leads (offered (offer_of node.offers service) service children)
+      (providers service rest) (by (offer_of node.offers service)) (are_providers rest (λ n m. h n (inr m)))
+    where
+      by : (offer : Option (List ℕ)) → Are (offered offer service children)
+      by None = tt
+      by (Some inner) = (λ name e. child_provides inner children name (λ n m. h n (inl m)) e, tt)
 
-  only_provides : (names : List (List ℕ)) (name : List ℕ) → Are names → only names ≡ To name → Provides all service name
+  only_provides : (all_served : List Routed) (name : List ℕ) → Are all_served → only all_served ≡ To name → Provides all service name
   only_provides [] name h e = no_to name e
-  only_provides (first ∷ []) name h e = subst (Provides all service) (to_same e) h.0
-  only_provides (first ∷ second ∷ rest) name h e = ambiguous_to name e
+  only_provides (served ∷ []) name h e = h.0 name e
+  only_provides (served ∷ other ∷ rest) name h e = ambiguous_to name e
 
   led_provides : (target : Target) (siblings : Nodes) (above : Routed) (name : List ℕ) → ((n : LeafNode) → Among n siblings → Holds n all)
       → (above ≡ To name → Provides all service name) → led target service siblings above ≡ To name → Provides all service name

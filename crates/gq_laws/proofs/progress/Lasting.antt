@@ -7,7 +7,7 @@ use Rattle.gq_model.specs.machine.Routes.{is_service, server_of}
 use Rattle.gq_model.specs.machine.World.{World, start}
 use Rattle.gq_model.specs.machine.Doing.{Event}
 use Rattle.gq_model.specs.machine.Step.{next}
-use Rattle.gq_model.specs.rules.Resolve.{quanta_fault, after_fault}
+use Rattle.gq_model.specs.rules.Resolve.{quanta_fault, offer_fault, after_fault}
 use Rattle.gq_laws.specs.Links.{stance, stance_in}
 use Rattle.gq_laws.specs.Sound.{IsSound}
 use Rattle.gq_laws.specs.Reached.{IsReached}
@@ -58,7 +58,8 @@ none_of (Some name) e = absurd cc
 pub afters_fit : (s : Scenario) → IsSound s → after_fault (components s) [] (components s) ≡ None
 afters_fit s sound =
     let a = or_first_none (quanta_fault Ram s) _ (is_resolved s sound.accepted) in
-    let b = or_first_none (quanta_fault Caps s) _ a.1 in (or_first_none (after_fault (components s) [] (components s)) _ b.1).0
+    let b = or_first_none (quanta_fault Caps s) _ a.1 in
+    let c = or_first_none (offer_fault s) _ b.1 in (or_first_none (after_fault (components s) [] (components s)) _ c.1).0
 
 module _ (s : Scenario) (sound : IsSound s) where
   programs : ArePrograms OpensOwn (system s)

@@ -14,7 +14,7 @@ use Rattle.gq_model.specs.texts.Code.{is_body, is_section, section_number, are_s
 use Rattle.gq_model.specs.machine.Scenario.{LeafNode, Component, System, components, Scenario, system}
 use Rattle.gq_model.specs.machine.Routes.{To, route, numbered, leaf_routed, server_of}
 use Rattle.gq_model.specs.rules.Use.{opened_by, services_of, services_in, services}
-use Rattle.gq_model.specs.rules.Resolve.{quanta_fault, after_fault, unrouted, services_fault, routes_fault, cycle_fault, unresolved}
+use Rattle.gq_model.specs.rules.Resolve.{quanta_fault, offer_fault, after_fault, unrouted, services_fault, routes_fault, cycle_fault, unresolved}
 use Rattle.gq_laws.specs.Shapes.{Each}
 use Rattle.gq_laws.specs.internal.Left.{AllAre, ArePrograms, Leads, IsGood}
 use Rattle.gq_model.proofs.Small.{or_first_none}
@@ -107,9 +107,10 @@ resolved_routes : (s : Scenario) → unresolved s ≡ None → routes_fault (com
 resolved_routes s e =
     let a = or_first_none (quanta_fault Ram s) _ e in
     let b = or_first_none (quanta_fault Caps s) _ a.1 in
-    let c = or_first_none (after_fault (components s) [] (components s)) _ b.1 in
-    let d = or_first_none (routes_fault (components s)) (cycle_fault (system s) 0 (components s)) c.1 in
-    d.0
+    let c = or_first_none (offer_fault s) _ b.1 in
+    let d = or_first_none (after_fault (components s) [] (components s)) _ c.1 in
+    let e = or_first_none (routes_fault (components s)) (cycle_fault (system s) 0 (components s)) d.1 in
+    e.0
 
 -- each service of the open statements of a scenario's leaf is served
 pub services_served : (s : Scenario) → unresolved s ≡ None → (x : ℕ) (c : Component) → slice_get (components s) x ≡ Some c

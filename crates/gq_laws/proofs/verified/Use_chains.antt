@@ -8,7 +8,7 @@ use Rattle.gq_model.specs.machine.Lists.{any_of, or_first}
 use Rattle.gq_model.specs.machine.Amounts.{Ram, Caps}
 use Rattle.gq_model.specs.machine.Scenario.{System, Component, Scenario, components, system}
 use Rattle.gq_model.specs.rules.Use.{uses, used_from, used_at, reaches}
-use Rattle.gq_model.specs.rules.Resolve.{Unresolved, Cycle, quanta_fault, after_fault, routes_fault, cycle_fault, unresolved}
+use Rattle.gq_model.specs.rules.Resolve.{Unresolved, Cycle, quanta_fault, offer_fault, after_fault, routes_fault, cycle_fault, unresolved}
 use Rattle.gq_laws.proofs.verified.Chains as chains
 use Rattle.std.proofs.lemmas.Bool.{false≢true, or_left, or_right, or_cases}
 use Rattle.gq_model.proofs.Small.{add_none, add_next}
@@ -92,4 +92,5 @@ pub resolved_acyclic : (s : Scenario) → unresolved s ≡ None → cycle_fault 
 resolved_acyclic s e =
     let a = none_second (quanta_fault Ram s) _ e in
     let b = none_second (quanta_fault Caps s) _ a in
-    let c = none_second (after_fault (components s) [] (components s)) _ b in none_second (routes_fault (components s)) _ c
+    let c = none_second (offer_fault s) _ b in
+    let d = none_second (after_fault (components s) [] (components s)) _ c in none_second (routes_fault (components s)) _ d

@@ -1,7 +1,7 @@
 -- Where a service leads.
 use Rattle.std.specs.Prelude.{ℕ, suc, if◌then◌else◌, Bool, true, false, List, [], ◌∷◌, ◌++◌, Option, Some, None}
 use Rattle.gq_model.specs.machine.Program.{text_eq}
-use Rattle.gq_model.specs.machine.Scenario.{Target, Child, Any_child, Parent, Route, Nodes, End, Leaf_node, Init_node, Level, Component, System}
+use Rattle.gq_model.specs.machine.Scenario.{Target, Child, Any_child, Parent, Route, Offers, Nodes, End, Leaf_node, Init_node, Level, Component, System}
 
 -- the leaf to which a service leads, or why it leads nowhere
 pub data Routed : Type 0 where
@@ -18,25 +18,41 @@ abbrev pub fits : Option (List ℕ) → List ℕ → Bool
 fits None service = true
 fits (Some s) service = text_eq s service
 
--- the child of that name has to be a leaf that provides the service
+-- the child that these offers name for a service
+abbrev pub offer_of : Offers → List ℕ → Option (List ℕ)
+offer_of [] service = None
+offer_of (o ∷ rest) service = if text_eq service o.0 then Some o.1 else offer_of rest service
+
+-- an init without an offer of a service does not serve it; else the child that is named has to
+abbrev pub through : Option (List ℕ) → (List ℕ → Routed) → Routed
+through None led = Provides_differs
+through (Some child) led = led child
+
+-- the child of that name has to serve the service: a leaf provides it, and the offers of an init lead on
 abbrev pub child_named : List ℕ → List ℕ → Nodes → Routed
 child_named name service End = No_route
 child_named name service (Leaf_node node rest) =
     if text_eq name node.name then (if is_service node.provides service then To name else Provides_differs) else child_named name service rest
 child_named name service (Init_node node children rest) =
-    if text_eq name node.name then Provides_differs else child_named name service rest
+    if text_eq name node.name then through (offer_of node.offers service) (λ child. child_named child service children)
+    else child_named name service rest
 
--- the names of the leaves among these nodes that provide a service
-abbrev pub providers : List ℕ → Nodes → List (List ℕ)
+-- an init that offers a service leads where its offer leads
+abbrev pub offered : Option (List ℕ) → List ℕ → Nodes → List Routed
+offered None service children = []
+offered (Some child) service children = child_named child service children ∷ []
+
+-- where those of these nodes lead that serve a service
+abbrev pub providers : List ℕ → Nodes → List Routed
 providers service End = []
-providers service (Leaf_node node rest) = (if is_service node.provides service then node.name ∷ [] else []) ++ providers service rest
-providers service (Init_node node children rest) = providers service rest
+providers service (Leaf_node node rest) = (if is_service node.provides service then To node.name ∷ [] else []) ++ providers service rest
+providers service (Init_node node children rest) = offered (offer_of node.offers service) service children ++ providers service rest
 
--- any child is the one that provides the service
-abbrev pub only : List (List ℕ) → Routed
+-- any child is the one that serves the service
+abbrev pub only : List Routed → Routed
 only [] = No_route
-only (name ∷ []) = To name
-only (name ∷ other ∷ names) = Ambiguous
+only (served ∷ []) = served
+only (served ∷ other ∷ rest) = Ambiguous
 
 -- where a target leads, by what is answered one init up
 abbrev pub led : Target → List ℕ → Nodes → Routed → Routed

@@ -41,11 +41,16 @@ pub record LeafNode : Type 0 where
   pub inputs : List ℕ
   pub routes : Option (List Route)
 
+-- services, each with the name of the child that serves it
+abbrev pub Offers : Type 0
+Offers = List (List ℕ × List ℕ)
+
 pub record InitNode : Type 0 where
   pub name : List ℕ
   pub quantum : Amount
   pub routes : Option (List Route)
   pub default_routes : Option (List Route)
+  pub offers : Offers
 
 -- the start nodes of an init
 pub data Nodes : Type 0 where

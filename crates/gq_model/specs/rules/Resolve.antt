@@ -1,16 +1,17 @@
--- What a scenario must be besides its programs: quanta that fit, leaves that start after others, routes without cycle.
-use Rattle.std.specs.Prelude.{ℕ, zero, suc, ◌+◌, nat_lt, nat_le, if◌then◌else◌, Bool, true, false, ◌||◌, List, [], ◌∷◌, length, Option, Some, None, is_some}
-use Rattle.std.specs.Prelude.{codes}
+-- What a scenario must be besides its programs: quanta that fit, offers of what is served, leaves that start after others, routes without cycle.
+use Rattle.std.specs.Prelude.{ℕ, zero, suc, ◌+◌, nat_lt, nat_le, if◌then◌else◌, Bool, true, false, ◌||◌, ◌&&◌, List, [], ◌∷◌, length}
+use Rattle.std.specs.Prelude.{Option, Some, None, is_some, codes}
 use Rattle.gq_model.specs.machine.Lists.{any_of, or_first}
 use Rattle.gq_model.specs.machine.Amounts.{Resource, Ram, Caps, Amount, part}
 use Rattle.gq_model.specs.machine.Program.{text_eq}
-use Rattle.gq_model.specs.machine.Scenario.{Scenario, LeafNode, Nodes, End, Leaf_node, Init_node, Level, Component, System, system}
-use Rattle.gq_model.specs.machine.Routes.{Routed, To, route}
+use Rattle.gq_model.specs.machine.Scenario.{Scenario, Interfaces, LeafNode, Offers, Nodes, End, Leaf_node, Init_node, Level, Component, System, system}
+use Rattle.gq_model.specs.machine.Scenario.{interface_in}
+use Rattle.gq_model.specs.machine.Routes.{Routed, To, is_service, offer_of, route}
 use Rattle.gq_model.specs.rules.Use.{services, reaches}
 
 -- why a scenario is not resolved, with the init or the leaf
 pub data Unresolved : Type 0 where
-  Quanta_exceed Caps_exceed Bad_after Cycle : (name : List ℕ) → Unresolved
+  Quanta_exceed Caps_exceed Bad_offer Bad_after Cycle : (name : List ℕ) → Unresolved
   Unrouted : (why : Routed) (name service : List ℕ) → Unresolved
 
 -- QUANTA
@@ -43,6 +44,35 @@ first_exceeding r (Init_node node children rest) =
 
 abbrev pub quanta_fault : Resource → Scenario → Option Unresolved
 quanta_fault r s = or_first (exceeds r (codes "init") s.total s.nodes) (first_exceeding r s.nodes)
+
+-- OFFERS
+
+-- the child of that name serves a service: it is a leaf that provides it, or an init that offers it
+abbrev pub child_serves : List ℕ → List ℕ → Nodes → Bool
+child_serves name service End = false
+child_serves name service (Leaf_node node rest) = if text_eq name node.name then is_service node.provides service else child_serves name service rest
+child_serves name service (Init_node node children rest) =
+    if text_eq name node.name then is_some (offer_of node.offers service) else child_serves name service rest
+
+-- there is an interface of the service, and the child serves it
+abbrev pub is_offer : Interfaces → Nodes → List ℕ → List ℕ → Bool
+is_offer interfaces children service child = is_some (interface_in service interfaces) && child_serves child service children
+
+-- the first of an init's offers for which that fails
+abbrev pub offers_fault : Interfaces → List ℕ → Nodes → Offers → Option Unresolved
+offers_fault interfaces name children [] = None
+offers_fault interfaces name children (o ∷ rest) =
+    if is_offer interfaces children o.0 o.1 then offers_fault interfaces name children rest else Some (Bad_offer name)
+
+-- the first init in preorder with such an offer
+abbrev pub first_bad_offer : Interfaces → Nodes → Option Unresolved
+first_bad_offer interfaces End = None
+first_bad_offer interfaces (Leaf_node node rest) = first_bad_offer interfaces rest
+first_bad_offer interfaces (Init_node node children rest) =
+    or_first (offers_fault interfaces node.name children node.offers) (or_first (first_bad_offer interfaces children) (first_bad_offer interfaces rest))
+
+abbrev pub offer_fault : Scenario → Option Unresolved
+offer_fault s = first_bad_offer s.interfaces s.nodes
 
 -- LEAVES THAT START AFTER OTHERS
 
@@ -118,5 +148,5 @@ cycle_fault system x (c ∷ rest) =
 abbrev pub unresolved : Scenario → Option Unresolved
 unresolved s =
     let all = system s in
-    or_first (quanta_fault Ram s) (or_first (quanta_fault Caps s) (or_first (after_fault all.components [] all.components)
-    (or_first (routes_fault all.components) (cycle_fault all 0 all.components))))
+    or_first (quanta_fault Ram s) (or_first (quanta_fault Caps s) (or_first (offer_fault s) (or_first (after_fault all.components [] all.components)
+    (or_first (routes_fault all.components) (cycle_fault all 0 all.components)))))

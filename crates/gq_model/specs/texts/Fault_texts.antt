@@ -12,7 +12,7 @@ use Rattle.gq_model.specs.declared.fault.CodeFault.{CodeFault}
 use Rattle.gq_model.specs.declared.fault.CodeFault.TheVariants as code
 use Rattle.gq_model.specs.declared.fault.TurnFault.{TurnFault}
 use Rattle.gq_model.specs.declared.fault.TurnFault.TheVariants as turn
-use Rattle.gq_model.specs.rules.Resolve.{Unresolved, Quanta_exceed, Caps_exceed, Bad_after, Cycle, Unrouted}
+use Rattle.gq_model.specs.rules.Resolve.{Unresolved, Quanta_exceed, Caps_exceed, Bad_offer, Bad_after, Cycle, Unrouted}
 use Rattle.gq_model.specs.rules.Accept.{Refusal, Bad_program, Not_resolved, Over_own, Over_steps}
 
 abbrev pub rule_word : Rule → List ℕ
@@ -77,6 +77,7 @@ route_word Provides_differs = codes "S12 ProvidesDiffers "
 abbrev pub unresolved_text : Unresolved → List ℕ
 unresolved_text (Quanta_exceed name) = codes "S11 QuantaExceed " ++ name
 unresolved_text (Caps_exceed name) = codes "S14 CapsExceed " ++ name
+unresolved_text (Bad_offer name) = codes "S15 BadOffer " ++ name
 unresolved_text (Bad_after name) = codes "S13 BadAfter " ++ name
 unresolved_text (Cycle name) = codes "S10 Cycle " ++ name
 unresolved_text (Unrouted why name service) = route_word why ++ name ++ codes " " ++ service

@@ -8,7 +8,7 @@ use Rattle.gq_model.specs.machine.Amounts.{Ram, Caps}
 use Rattle.gq_model.specs.machine.Program.{text_eq}
 use Rattle.gq_model.specs.machine.Routes.{numbered}
 use Rattle.gq_model.specs.machine.Scenario.{Component, Scenario, components}
-use Rattle.gq_model.specs.rules.Resolve.{after_fault, quanta_fault}
+use Rattle.gq_model.specs.rules.Resolve.{after_fault, offer_fault, quanta_fault}
 use Rattle.gq_laws.specs.Names.{NamesDiffer}
 use Rattle.gq_laws.specs.Resolved.{IsResolved}
 use Rattle.gq_laws.proofs.paying.Places.{not_again}
@@ -22,7 +22,8 @@ use Rattle.gq_prepared.specs.Nodes.{node_after}
 afters_fit : (s : Scenario) → IsResolved s → after_fault (components s) [] (components s) ≡ None
 afters_fit s resolved =
     let a = or_first_none (quanta_fault Ram s) _ resolved.fits in
-    let b = or_first_none (quanta_fault Caps s) _ a.1 in (or_first_none (after_fault (components s) [] (components s)) _ b.1).0
+    let b = or_first_none (quanta_fault Caps s) _ a.1 in
+    let c = or_first_none (offer_fault s) _ b.1 in (or_first_none (after_fault (components s) [] (components s)) _ c.1).0
 
 -- two leaves that start after the same are one
 pub one_after : (s : Scenario) → IsResolved s → (i j : ℕ) (c d : Component) (name : List ℕ) → slice_get (components s) i ≡ Some c

@@ -1,12 +1,12 @@
 -- Tables that the walk has passed.
 use Rattle.std.specs.Prelude.{◌≡◌, ℕ, Bool, true, ◌||◌, List, Option, Some, None, is_some, codes}
-use Rattle.toml.specs.Data.{Data, Members}
+use Rattle.toml.specs.Data.{Data, Members, get_member}
 use Rattle.gq_model.specs.machine.Lists.{all_of}
 use Rattle.gq_model.specs.texts.Letters.{is_name}
 use Rattle.gq_model.specs.machine.Scenario.{Route}
 use Rattle.gq_scenario.specs.Keys.{table_fault}
 use Rattle.gq_scenario.specs.Tables.{init_keys, leaf_keys}
-use Rattle.gq_scenario.specs.Document.{text_at, target_in, code_in, first_of, routes_fault, node_fault}
+use Rattle.gq_scenario.specs.Document.{text_at, target_in, code_in, table_of, first_of, routes_fault, node_fault}
 
 -- a name, or nothing
 abbrev pub is_name_or_none : Option (List ℕ) → Bool
@@ -20,6 +20,10 @@ route_of entries = record { service = text_at (codes "service") entries; target 
 -- a program is given
 abbrev pub has_source : Members → Bool
 has_source entries = is_some (text_at (codes "program") entries) || is_some (code_in entries)
+
+-- the table of what an init offers
+abbrev pub offers_at : Members → Members
+offers_at entries = table_of (get_member (codes "offers") entries)
 
 -- a leaf's table without faults, among services with names
 pub record IsLeafTable (entries : Members) : Type 0 where

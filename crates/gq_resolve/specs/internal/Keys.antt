@@ -1,7 +1,7 @@
 -- The numbers that are made of the names of services and of leaves.
-use Rattle.std.specs.Prelude.{ℕ, List, [], ◌∷◌, map, Option, Some, None}
+use Rattle.std.specs.Prelude.{◌≡◌, ℕ, Bool, true, false, ◌&&◌, List, [], ◌∷◌, map, Option, Some, None}
 use Rattle.gq_program.specs.Keys.{Told, AreWithin, key_of}
-use Rattle.gq_model.specs.machine.Scenario.{Nodes, End, Leaf_node, Init_node, Level, Component}
+use Rattle.gq_model.specs.machine.Scenario.{Offers, Nodes, End, Leaf_node, Init_node, Level, Component}
 use Rattle.gq_scenario.specs.declared.scenario.Node.{Node}
 use Rattle.gq_scenario.specs.declared.scenario.Node.TheVariants.{Leaf, Init}
 
@@ -21,15 +21,30 @@ keys_of End = []
 keys_of (Leaf_node node rest) = provided_key node.provides ∷ keys_of rest
 keys_of (Init_node node children rest) = 0 ∷ keys_of rest
 
--- those of the siblings at the first level
-abbrev pub first_keys : List Level → List ℕ
-first_keys [] = []
-first_keys (l ∷ above) = keys_of l.siblings
+-- nothing is offered
+abbrev pub is_silent : Offers → Bool
+is_silent [] = true
+is_silent (o ∷ rest) = false
 
--- where it is told where services may stand, it is told of those siblings
+-- no init among these offers anything
+abbrev pub are_silent : Nodes → Bool
+are_silent End = true
+are_silent (Leaf_node node rest) = are_silent rest
+are_silent (Init_node node children rest) = is_silent node.offers && are_silent rest
+
+-- the siblings at the first level
+abbrev pub first_siblings : List Level → Nodes
+first_siblings [] = End
+first_siblings (l ∷ above) = l.siblings
+
+-- it is told where services may stand among these, of which no init offers anything
+abbrev pub AreToldOf : Told → Nodes → Type 0
+AreToldOf told siblings = AreWithin told (keys_of siblings) × (are_silent siblings ≡ true)
+
+-- where it is told where services may stand, it is told of the siblings at the first level
 abbrev pub AreTold : Option Told → List Level → Type 0
 AreTold None levels = Unit {0}
-AreTold (Some told) levels = AreWithin told (first_keys levels)
+AreTold (Some told) levels = AreToldOf told (first_siblings levels)
 
 -- those of the names of leaves
 abbrev pub name_keys : List Component → List ℕ

@@ -1,11 +1,11 @@
-use Rattle.std.proofs.Common.{◌+◌, ◌∷◌, [], map, drop, arith}
+use Rattle.std.proofs.Common.{◌+◌, ◌∷◌, [], map, drop, refl, arith}
 use Rattle.gq_model.specs.texts.Fault_texts.{unresolved_text}
 use Rattle.gq_resolve.specs.Resolved.{resource_of}
 use Rattle.gq_scenario.specs.Trees.{nodes_of}
 use Rattle.gq_faults.specs.Scenario_faults.{all_exceeding}
 use Rattle.gq_faults.specs.Found_lines.{lines_found}
 use Rattle.gq_faults.proofs.Adding.{all_there}
-use Rattle.gq_faults.proofs.Exceeding.{mapped_exceeding, exceeding_end, node_smaller}
+use Rattle.gq_faults.proofs.Inits.{exceeding_in_turn, mapped_first, mapped_last, node_smaller}
 use Rattle.gq_faults.proofs.Behind.{then_more}
 use Rattle.gq_faults.proofs.quanta.+below.Goals as goal
 
@@ -22,9 +22,11 @@ push_below-loop-index-preserved t c =
     let x = c.index-nodes-index.result in
     then_more _ (lines_found c.loop-index.found.items) _ (map unresolved_text (all_exceeding r (nodes_of (drop i xs))))
     (map unresolved_text (all_exceeding r (nodes_of (x ∷ [])))) (map unresolved_text (all_exceeding r (nodes_of (drop (i + 1) xs))))
-    c.in_ok-push_node.ensures (mapped_exceeding unresolved_text r xs i x c.loop-index-test.true c.index-nodes-index.is) c.loop-index.invariant
+    c.in_ok-push_node.ensures (mapped_first unresolved_text (all_exceeding r) (exceeding_in_turn r) xs i x c.loop-index-test.true c.index-nodes-index.is)
+    c.loop-index.invariant
 
 pub push_below-returns : goal.push_below-returns
 push_below-returns t c =
     let r = resource_of c.args.resource in
-    all_there _ _ _ c.loop-index.invariant (exceeding_end unresolved_text r c.args.nodes.now c.loop-index.index c.loop-index-test.false)
+    all_there _ _ _ c.loop-index.invariant (mapped_last unresolved_text (all_exceeding r) refl c.args.nodes.now c.loop-index.index
+    c.loop-index-test.false)

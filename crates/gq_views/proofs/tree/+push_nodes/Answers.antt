@@ -1,13 +1,14 @@
-use Rattle.std.proofs.Common.{◌∙◌, ap, arith}
+use Rattle.std.proofs.Common.{◌∙◌, ◌++◌, ap, arith}
 use Rattle.gq_model.specs.machine.Accounts.{leaf_count}
 use Rattle.gq_model.specs.machine.Scenario.{system}
 use Rattle.gq_model.specs.rules.Accept.{budgets}
 use Rattle.gq_scenario.specs.Sizes.{node_count}
 use Rattle.gq_scenario.proofs.Preorder.{count_leaf, count_init}
 use Rattle.gq_scenario.proofs.Tree_counts.{below_smaller}
-use Rattle.gq_views.proofs.Told_nodes.{same_init, told_init, told_leaf}
+use Rattle.gq_views.specs.Tree.{init_lines}
+use Rattle.gq_views.proofs.Told_nodes.{told_init, told_leaf}
 use Rattle.gq_views.proofs.tree.+push_nodes.Goals as goal
-use Rattle.gq_views.proofs.tree.+push_nodes.Goals.{in-Leaf+in_ok-push_leaf-in-Leaf, in-Init+in_ok-push_init-in-Init+in_ok-place-in-Init}
+use Rattle.gq_views.proofs.tree.+push_nodes.Goals.{in-Leaf+in_ok-push_leaf-in-Leaf, in-Init+in_ok-push_init_lines-in-Init+in_ok-place-in-Init}
 
 pub push_nodes-requires : goal.push_nodes-requires
 push_nodes-requires t c =
@@ -42,18 +43,15 @@ loop-node-preserved t c =
                 c.match-node.text.items _ put l.invariant.told;
             leaves = omega (arith, l.invariant.leaves, count_leaf items i node within at leaf w.in-Leaf.is, w.place-is);
           }
-      | in-Init+in_ok-push_init-in-Init+in_ok-place-in-Init w ↦
+      | in-Init+in_ok-push_init_lines-in-Init+in_ok-place-in-Init w ↦
           let init = w.in-Init.init in
           let children = w.in-Init.children in
-          let put = w.in_ok-push_init-in-Init.ensures in
-          let named = same_init d l.text.items children _ s.version _ init.name _ init.quantum w.version.ensures (w.as_bytes-name.ensures.bytes
-          ∙ w.name.ensures)
-          w.quantum.ensures in
+          let put = w.in_ok-push_init_lines-in-Init.ensures ∙ ap (λ v. l.text.items ++ init_lines v d init children) w.version.ensures in
           let below = ap (λ v. v.items) w.text-is ∙ w.in_ok-place-in-Init.ensures.lines in
           let next = w.place-is ∙ w.in_ok-place-in-Init.ensures.next in
           record {
             told = told_init s.version (system s) (budgets s) d items i node within at init children w.in-Init.is l.place c.match-node.place next l.text.items
-                w.push_init.new.text.items c.match-node.text.items _ (put ∙ named) below l.invariant.told;
+                w.push_init_lines.new.text.items c.match-node.text.items _ put below l.invariant.told;
             leaves = omega (arith, l.invariant.leaves, count_init items i node within at init children w.in-Init.is, next);
           }
     ]

@@ -1,0 +1,8 @@
+use Rattle.std.proofs.Common.{◌≡◌}
+use Rattle.toml.specs.View.{members_view, table_view}
+use Rattle.gq_scenario.specs.Tables.{are_named_names}
+use Rattle.gq_reader.proofs.rules.are_named_names.Given as goal
+
+abbrev pub invariant-loop-key : goal.invariant-loop-key
+invariant-loop-key l = goal.iterator-loop-key.can_next l.key-iterator × goal.iterator-loop-key.is_finite l.key-iterator
+    × (are_named_names (members_view l.key-iterator) ≡ are_named_names (table_view l.table))
