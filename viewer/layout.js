@@ -58,7 +58,9 @@ function chained(nodes) {
 
 /** The ways of a tree: one for each service that a leaf opens, and one to each leaf that starts after another and does not stand below it. */
 function waysOf(nodes, above) {
-  const way = (kind, client, server, service) => ({ kind, client, server, service, key: `${kind} ${server}`, stations: [], gaps: [] });
+  const way = (kind, client, server, service) => ({
+    kind, client, server, service, key: `${kind} ${server}`, stations: [], gaps: [], entry: { stations: [], gaps: [] },
+  });
   const sessions = nodes.flatMap(n => n.opens.map(({ service, server }) => way("session", n.number, server, service)));
   const others = nodes.filter(n => n.leaf && leafBefore(n) && leafBefore(n) !== n && !above.has(n));
   return [...sessions, ...others.map(n => way("after", leafBefore(n).number, n.number, ""))];
@@ -67,7 +69,7 @@ function waysOf(nodes, above) {
 /** How far each of `count` items is from those that lead to none of their neighbours. */
 function levelsOf(count, edges) {
   const level = [], outgoing = Array.from({ length: count }, () => []);
-  for (const { from, to } of edges) if (to >= 0 && to !== from) outgoing[from].push(to);
+  for (const { from, to } of edges) if (from >= 0 && to >= 0 && to !== from) outgoing[from].push(to);
   const find = i => {
     if (level[i] !== undefined) return level[i];
     level[i] = 0;                                   // a tree that was never accepted may go round in a circle
@@ -128,7 +130,7 @@ function settleColumns({ columns, inset }) {
 /** Arranges the items of an init in columns, and leads the ways between them; its height is that of the tallest column. */
 function arrange(owner, ways, detail, limit) {
   const { items } = owner, ends = ways.map(way => ({ way, from: itemWith(items, way.client), to: itemWith(items, way.server) }));
-  const edges = ends.filter(({ from, to }) => from >= 0 && from !== to);
+  const edges = ends.filter(({ from, to }) => from !== to);
   Object.assign(owner, columnsOf(items, levelsOf(items.length, edges), detail, limit));
   owner.columns.forEach((column, c) => column.forEach((item, k) => Object.assign(item, { column: c, room: roomOf(item, detail), middle: k * detail.height })));
   lead(edges, items, owner, detail);
@@ -213,6 +215,7 @@ function placeAcross(item, left) {
 /** Columns and heights for one detail and one limit to the height of a column. */
 function draftOf(nodes, above, detail, limit) {
   const ways = waysOf(nodes, above), root = initItem(nodes[0], ways, above, detail, limit), leaves = [], inits = [];
+  for (const way of ways) enter(way);
   eachItem(root, item => {
     if (item.node?.leaf) leaves[item.node.number] = item;
     if (item.columns) inits.push(item);

@@ -36,7 +36,7 @@ const pairs = [...folders.flatMap(pairsOf), ...generated];
 /** Another reading of a trace, by expressions and line by line: calls visit(accounts, sessions, k) after each event with all that holds then. */
 function replay(tree, trace, visit) {
   const accounts = new Map(), sessions = new Map(), path = [];
-  for (const line of tree.split("\n").filter(l => l && !/^ *opens \S+ of /.test(l))) {
+  for (const line of tree.split("\n").filter(l => l && !/^ *(?:opens \S+ of|offers \S+ from) /.test(l))) {
     const [, indent, name, rest] = /^( *)(\S+) (.*)$/.exec(line), number = word => Number(new RegExp(`(?:^| )${word} (\\d+)`).exec(rest)?.[1] ?? 0);
     path.length = indent.length / 2;
     path.push(name);
@@ -226,6 +226,16 @@ test("larger systems of the generator: at each size of the window no arrow runs 
 
 test("random systems, inits three deep: at each size of the window no arrow runs behind a box or on another one", () => {
   for (let seed = 1; seed <= 60; seed++) for (const window of Object.keys(WINDOWS)) checkRoutes(v.readTree(nestedTree(seed)), window);
+});
+
+test("random systems whose inits offer services: arrows come into inits, none behind a box or on another one", () => {
+  let entering = 0;
+  for (let seed = 1; seed <= 60; seed++) {
+    const nodes = v.readTree(nestedTree(seed, true)), isAround = (init, node) => node !== undefined && (node === init || isAround(init, node.parent));
+    entering += nodes.flatMap(n => n.opens.filter(o => !isAround(nodes[o.server].parent, n))).length;
+    for (const window of Object.keys(WINDOWS)) checkRoutes(nodes, window);
+  }
+  assert.ok(entering > 100);
 });
 
 const logServer = v.readTree(text(join(viewer, "tests", "log_server.tree")));

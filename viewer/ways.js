@@ -67,8 +67,9 @@ function passedColumns(from, to) {
 }
 
 /**
- * Leads each edge of an init through thin items in the columns that it passes. An edge without an end (to is -1) leaves the init at its right. A way gets the
- * thin items as stations, and for each two stations the gap between them.
+ * Leads each edge of an init through thin items in the columns that it passes. An edge without an end (to is -1) leaves the init at its right, and one without
+ * a beginning (from is -1) comes into it at its left. A way gets the thin items as stations, and for each two stations the gap between them; those of an init
+ * that it comes into stand in `entry`, since an init is led through after the inits in it.
  */
 function lead(edges, items, owner, detail) {
   const { columns } = owner, shared = new Map();
@@ -82,7 +83,21 @@ function lead(edges, items, owner, detail) {
   };
   for (const { way, from, to } of edges) {
     let last = items[from];
-    const link = item => { last.links.push(item); item.links.push(last); last = item; };
+    const link = item => {
+      if (last) { last.links.push(item); item.links.push(last); }
+      last = item;
+    };
+    if (from < 0) {
+      const stations = [], gaps = [];
+      for (let column = 0; column < items[to].column; column++) {
+        stations.push(thinOf(column, way));
+        gaps.push({ owner, index: column + 1, fromLeft: true, toLeft: false });
+        link(stations.at(-1));
+      }
+      link(items[to]);
+      way.entry = { stations: [...stations, ...way.entry.stations], gaps: [...gaps, ...way.entry.gaps] };
+      continue;
+    }
     const passed = passedColumns(last.column, to < 0 ? columns.length : items[to].column), back = to >= 0 && items[to].column <= last.column;
     for (const [i, column] of passed.entries()) {
       const thin = thinOf(column, way);
@@ -94,6 +109,11 @@ function lead(edges, items, owner, detail) {
     way.gaps.push({ owner, index: items[to].column, fromLeft: !back, toLeft: false });
     link(items[to]);
   }
+}
+/** Puts what a way passes in the inits that it comes into behind what it passes before. */
+function enter(way) {
+  way.stations.push(...way.entry.stations);
+  way.gaps.push(...way.entry.gaps);
 }
 
 const middleOf = item => item.top + item.height / 2;

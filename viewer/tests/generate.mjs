@@ -214,25 +214,44 @@ export function generate({ leaves = 64, turns = 10000, seed = 7, rounds = 100000
 }
 
 /** The tree text of a random system: inits up to three deep, servers anywhere, leaves that start one after the other; it has no run. */
-export function nestedTree(seed) {
+export function nestedTree(seed, offering = false) {
   const chance = dice(seed), lines = ["init quantum 4096 left 0"], words = ["log", "file_system", "a", "framebuffer"];
   let number = 0;
-  const fill = (depth, label, reached) => {
-    const indent = "  ".repeat(depth), servers = [...reached], count = 1 + chance(depth === 1 ? 7 : 4);
+  /** Adds leaves, and returns the services that they provide, each with the child that serves it. */
+  const addLeaves = (depth, label, servers) => {
+    const indent = "  ".repeat(depth), count = 1 + chance(depth === 1 ? 7 : 4), provided = [];
     let before;
     for (let i = 0; i < count && number < 60; i++) {
       const name = `n${++number}${"x".repeat(chance(4))}`, after = before && chance(3) === 0 ? ` after ${before}` : "", provides = chance(3) === 0;
       const service = `${words[chance(4)]}${number}`;
       lines.push(`${indent}${name} quantum 4096${provides ? ` provides ${service}` : ""}${after} own 0 steps 1`);
       for (const one of servers.filter(() => chance(servers.length) < 3)) lines.push(`${indent}  opens ${one.service} of ${one.label}`);
-      if (provides) servers.push({ service, label: `${label} -> ${name}` });
+      if (provides) {
+        servers.push({ service, label: `${label} -> ${name}` });
+        provided.push({ ...servers.at(-1), child: name });
+      }
       before = after && provides ? undefined : name;
     }
-    for (let i = chance(3); i > 0 && depth < 4; i--) {
-      const name = `i${++number}`;
-      lines.push(`${indent}${name} quantum 4096 left 0`);
-      fill(depth + 1, `${label} -> ${name}`, servers);
+    return provided;
+  };
+  /** Adds inits, and returns the services that they offer, each with the init that serves it. */
+  const addInits = (depth, label, servers) => {
+    const indent = "  ".repeat(depth), offered = [];
+    for (let i = chance(3) + (offering ? 1 : 0); i > 0 && depth < 4; i--) {
+      const name = `i${++number}`, at = lines.push(`${indent}${name} quantum 4096 left 0`);
+      const inside = fill(depth + 1, `${label} -> ${name}`, servers), offers = offering ? inside.filter(() => chance(4) > 0) : [];
+      offers.sort((a, b) => a.service < b.service ? -1 : 1);
+      lines.splice(at, 0, ...offers.map(({ service, child }) => `${indent}  offers ${service} from ${child}`));
+      offered.push(...offers.map(one => ({ ...one, child: name })));
     }
+    return offered;
+  };
+  // Inits that offer something come before the leaves that open it.
+  const fill = (depth, label, reached) => {
+    const servers = [...reached], early = offering ? addInits(depth, label, servers) : [];
+    servers.push(...early);
+    const provided = addLeaves(depth, label, servers);
+    return [...early, ...provided, ...offering ? [] : addInits(depth, label, servers)];
   };
   fill(1, "init", []);
   return lines.join("\n");

@@ -144,7 +144,7 @@ fn writes_a_line_for_each_rule(rt: HostRuntime) {
     let first = b"S1 NotToml: the scenario's text is no TOML, or no UTF-8\nS2 MissingKey: ";
     let begins = text.as_slice().starts_with(first);
     let lines = text.iter().filter(|byte| **byte == b'\n').count();
-    assert_eq!(rt; (written, begins, lines), (Ok(()), true, 60));
+    assert_eq!(rt; (written, begins, lines), (Ok(()), true, 61));
 }
 
 // Takes nothing.
