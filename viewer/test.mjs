@@ -230,7 +230,7 @@ test("random systems, inits three deep: at each size of the window no arrow runs
 
 test("random systems whose inits offer services: arrows come into inits, none behind a box or on another one", () => {
   let entering = 0;
-  for (let seed = 1; seed <= 60; seed++) {
+  for (let seed = 1; seed <= 36; seed++) {
     const nodes = v.readTree(nestedTree(seed, true)), isAround = (init, node) => node !== undefined && (node === init || isAround(init, node.parent));
     entering += nodes.flatMap(n => n.opens.filter(o => !isAround(nodes[o.server].parent, n))).length;
     for (const window of Object.keys(WINDOWS)) checkRoutes(nodes, window);
