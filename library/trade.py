@@ -112,8 +112,12 @@ class _Budget(ctypes.Structure):
 
 
 def _opened() -> ctypes.CDLL:
-    """The library, with the types of its functions, as trade.h has them."""
-    library = ctypes.CDLL(os.environ.get("TRADE_LIBRARY") or str(pathlib.Path(__file__).resolve().with_name("libtrade.so")))
+    """The library, with the types of its functions, as trade.h has them. OSError if it can't be opened."""
+    path = os.environ.get("TRADE_LIBRARY") or str(pathlib.Path(__file__).resolve().with_name("libtrade.so"))
+    try:
+        library = ctypes.CDLL(path)
+    except OSError as fault:
+        raise OSError(f"{fault} (`./trade library` builds libtrade.so; TRADE_LIBRARY names another file)") from None
     world, text, size, number = ctypes.POINTER(_World), ctypes.c_char_p, ctypes.c_size_t, ctypes.c_uint32
     sizes, numbers, flag = ctypes.POINTER(size), ctypes.POINTER(number), ctypes.c_bool
     types = {
@@ -149,6 +153,9 @@ def _calls() -> ctypes.CDLL:
 
 
 def _bytes(text: Union[str, bytes]) -> bytes:
+    """A text as C takes it. TypeError if it is none: `bytes` makes zeros of a number."""
+    if not isinstance(text, (str, bytes, bytearray, memoryview)):
+        raise TypeError(f"no text: {text!r}")
     return text.encode() if isinstance(text, str) else bytes(text)
 
 

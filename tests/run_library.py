@@ -188,7 +188,7 @@ def refusal_of(call):
     """The exception that a call raises, with its text."""
     try:
         call()
-    except (ValueError, LookupError) as error:
+    except (TypeError, ValueError, LookupError) as error:
         return type(error).__name__, str(error)
     return None
 
@@ -220,6 +220,10 @@ def try_python(tally):
     tally.expect("python: dropped", (0, 0), (world.nodes, world.leaves))
     tally.expect("python: refused", ("Refused", "S3 BadValue ram"), refusal_of(lambda: trade.World.load(SHORT)))
     tally.expect("python: faults", ("S3 BadValue ram", None), (trade.fault_of(SHORT), trade.fault_of(text)))
+    tally.expect("python: a number for a text", ("TypeError", "no text: 3"), refusal_of(lambda: trade.World.load(3)))
+    alone = {**os.environ, "TRADE_LIBRARY": "/no/such/library.so"}
+    ended = subprocess.run([sys.executable, "-c", "import trade; trade.World.load('')"], cwd=LIBRARY, env=alone, capture_output=True, text=True).stderr
+    tally.expect("python: no library", True, "OSError: /no/such/library.so: " in ended and "(`./trade library` builds libtrade.so" in ended)
     with trade.World.load((EXAMPLES / "thermostat.toml").read_bytes()) as world:
         sensor, heater = world.leaf("sensor_drv"), world.leaf("heater_drv")
         powers = []
