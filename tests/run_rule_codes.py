@@ -21,7 +21,7 @@ ENTRY = re.compile(r'entry!\(\s*"([SMCVBUX]\d+)",\s*"(\w+)",\s*"((?:[^"\\]|\\.)*
 # The first cell of a row of a document's table: a code and its name, perhaps with the leaf before it, as a fault of budgets has.
 LISTED = re.compile(r"^\| (?:LEAF)?`(?:: )?([SMCVBUX]\d+) (\w+)", re.MULTILINE)
 NAMED = re.compile(r"`trade ([a-z]+)")
-FILES = ("scenario", "program", "verifier", "limits")
+FILES = ("scenario_rules", "program_rules", "verifier_rules", "limit_rules")
 
 
 def listed():

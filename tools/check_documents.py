@@ -30,7 +30,7 @@ TRUSTED = {
     "gq_command/src/status.rt": {"code"},
     "gq_cli/src/execute.rt": None,
     "gq_faults/src/faults.rt": {"faults"},
-    "gq_faults/src/turns.rt": {"faults_of_both"},
+    "gq_faults/src/turn_faults.rt": {"faults_of_both"},
 }
 # Words that stand behind `trade` in documents and are no commands: what is no command on purpose.
 NO_COMMANDS = {"walk"}

@@ -1,2 +1,2 @@
-mod Blocks
-mod Rounds
+mod Benchmark_block_lists
+mod Benchmark_call_rounds

@@ -1,2 +1,2 @@
-pub mod Rounds
+pub mod Session_rounds
 pub mod Accesses

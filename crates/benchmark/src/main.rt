@@ -1,4 +1,4 @@
-//! The program `benchmark`: does a piece of work many times, and tells how long it takes.
+//! The program `benchmark`: does a piece of work many times, and returns how long it takes.
 //!
 //! `benchmark WORK TIMES` or `benchmark WORK TIMES SIZE`, where WORK is one of
 //! - `assemble`, `decode`, `encode`, `verify`, `read`: of a program's text, of its code, of the program of a text (the latter two, `verify` with 64
@@ -11,22 +11,22 @@
 //! - `accesses`: bytes of a dataspace, and of a space, by its slot and by their addresses;
 //! - `sessions`: sessions between two leaves, from the ask to the close, while SIZE others are open.
 //!
-//! What the work gives is told on standard output. On standard error stands a line for each thing that was measured: its name, how often it was done,
+//! What the work gives is reported on standard output. On standard error stands a line for each thing that was measured: its name, how often it was done,
 //! and the nanoseconds in all.
 #![tactic(auto)]
 
-mod accesses;
-mod fault;
-mod frames;
-mod heaps;
-mod lists;
-mod pools;
-mod programs;
-mod sessions;
+mod access_timings;
+mod frame_timings;
+mod heap_timings;
+mod list_heap_timings;
+mod measure_fault;
+mod pool_timings;
+mod program_timings;
+mod session_timings;
 mod timing;
-mod words;
+mod word_timings;
 
-use fault::Fault;
+use measure_fault::Fault;
 use std::env;
 use std::io::Write;
 use std::process::ExitCode;
@@ -83,7 +83,7 @@ fn main(rt: HostRuntime) -> ExitCode {
     match measured(&rt) {
         Ok(()) => ExitCode::SUCCESS,
         Err(fault) => {
-            let _told = writeln!(rt.stderr(), "benchmark: {fault}");
+            let _reported = writeln!(rt.stderr(), "benchmark: {fault}");
             ExitCode::FAILURE
         }
     }
@@ -93,19 +93,19 @@ fn main(rt: HostRuntime) -> ExitCode {
 fn measured(rt: &HostRuntime) -> Result<(), Fault> {
     let Request { work, times, size } = asked(rt)?;
     let given = match work {
-        Work::Assemble => programs::assembled(rt, times),
-        Work::Decode => programs::decoded(rt, times),
-        Work::Encode => programs::encoded(rt, times),
-        Work::Verify => programs::verified(rt, times),
-        Work::Read => programs::read(rt, times),
-        Work::Words => words::measured(rt, times),
-        Work::Frames => frames::measured(rt, times),
-        Work::Heap => heaps::measured(rt, times, size),
-        Work::List => lists::measured(rt, times, size),
-        Work::Slices => pools::slices(rt, times, size),
-        Work::Pool => pools::entries(rt, times),
-        Work::Sessions => sessions::measured(rt, times, size),
-        Work::Accesses => accesses::measured(rt, times),
+        Work::Assemble => program_timings::assembled(rt, times),
+        Work::Decode => program_timings::decoded(rt, times),
+        Work::Encode => program_timings::encoded(rt, times),
+        Work::Verify => program_timings::verified(rt, times),
+        Work::Read => program_timings::read(rt, times),
+        Work::Words => word_timings::measured(rt, times),
+        Work::Frames => frame_timings::measured(rt, times),
+        Work::Heap => heap_timings::measured(rt, times, size),
+        Work::List => list_heap_timings::measured(rt, times, size),
+        Work::Slices => pool_timings::slices(rt, times, size),
+        Work::Pool => pool_timings::entries(rt, times),
+        Work::Sessions => session_timings::measured(rt, times, size),
+        Work::Accesses => access_timings::measured(rt, times),
     }?;
     writeln!(rt.stdout(), "{given}")?;
     Ok(())

@@ -8,22 +8,22 @@ use Rattle.gq_model.specs.machine.Program.{Do, Done, Program}
 use Rattle.gq_model.specs.texts.Code.{greatest_statements}
 use Rattle.gq_model.specs.texts.Text.{OpenBlock, Reading, Read, line_read, lines_read, on_line}
 use Rattle.gq_model.specs.declared.fault.TextFault.{TextFault}
-use Rattle.gq_asm.specs.Pieces.{front_line, past_feed, line_before, line_at}
+use Rattle.gq_asm.specs.Pieces.{prefix_line, past_feed, line_before, line_at}
 use Rattle.gq_asm.specs.Usual.{IsUsual}
-use Rattle.gq_asm.proofs.Pieces.{by_test, lines_of, lines-split}
-use Rattle.gq_asm.specs.Faults as faults
-use Rattle.gq_asm.specs.Faults.{Assembles}
-use Rattle.gq_asm.specs.declared.faults.LineError.{LineError}
-use Rattle.gq_asm.specs.declared.faults.LineError.TheVariants.{Memory, Fault}
-use Rattle.gq_asm.specs.internal.State.{Fails, with_added}
-use Rattle.gq_asm.specs.internal.Lines.{lines_left, size_left, IsTaking, ReadsUsual}
+use Rattle.gq_asm.proofs.Text_pieces.{by_test, lines_of, lines-split}
+use Rattle.gq_asm.specs.Assembly_faults as faults
+use Rattle.gq_asm.specs.Assembly_faults.{Assembles}
+use Rattle.gq_asm.specs.declared.asm_fault.LineError.{LineError}
+use Rattle.gq_asm.specs.declared.asm_fault.LineError.TheVariants.{Memory, Fault}
+use Rattle.gq_asm.specs.internal.Assembly_state.{Fails, with_added}
+use Rattle.gq_asm.specs.internal.Source_lines.{lines_left, size_left, IsTaking, ReadsUsual}
 
 -- the first line of a text, and those after it
 pub lines_are : (text : List ℕ) → lines text ≡ line_at text ∷ lines_left (past_feed text)
-lines_are text = lines-split text ∙ lines_of_are (front_line text) (past_feed text) where
-  lines_of_are : (front : List ℕ) (left : Option (List ℕ)) → lines_of front left ≡ line_before front left ∷ lines_left left
-  lines_of_are front None = refl
-  lines_of_are front (Some text) = refl
+lines_are text = lines-split text ∙ lines_of_are (prefix_line text) (past_feed text) where
+  lines_of_are : (prefix : List ℕ) (left : Option (List ℕ)) → lines_of prefix left ≡ line_before prefix left ∷ lines_left left
+  lines_of_are prefix None = refl
+  lines_of_are prefix (Some text) = refl
 
 pub past_feed-shorter : (text : List ℕ) → size_left (past_feed text) ≤ length text
 past_feed-shorter [] = omega arith

@@ -1,4 +1,4 @@
--- Lines that are read from front to back.
+-- Lines that are read from start to end.
 use Rattle.std.proofs.Common.{◌≡◌, ◌<◌, ◌≤◌, ℕ, ◌==◌, zero, suc, Bool, true, false, ◌&&◌, List, [], ◌∷◌, ◌++◌, length, get_or, take}
 use Rattle.std.proofs.Common.{Option, Some, None, Result, append-nil, refl, sym, ◌∙◌, ap, subst, arith}
 use Rattle.std.specs.Prelude.{if◌then◌else◌, not, codes, IfSome}
@@ -6,7 +6,7 @@ use Rattle.std.proofs.lemmas.Bool.{and_parts, ltb-true, lt-ltb, eqb-true}
 use Rattle.gq_model.specs.machine.Lists.{all_of}
 use Rattle.gq_model.specs.machine.Program.{text_eq}
 use Rattle.gq_model.specs.declared.program.Instruction.{Instruction}
-use Rattle.gq_model.specs.declared.program.Place.{Place}
+use Rattle.gq_model.specs.declared.program.OperandSlot.{OperandSlot}
 use Rattle.gq_model.specs.declared.program.Instruction.TheVariants.{Open}
 use Rattle.gq_model.specs.texts.Letters.{is_name, is_blank, words, unindented, past_word, without_return, number_in}
 use Rattle.gq_model.specs.texts.Operands.{greatest_number}
@@ -15,12 +15,12 @@ use Rattle.gq_model.specs.texts.Text.{OpenBlock, counted, put, in_place, is_comm
 use Rattle.gq_model.specs.declared.fault.TextFault.{TextFault}
 use Rattle.gq_program.specs.declared.shapes.Shape as Shapes
 use Rattle.gq_program.specs.declared.shapes.Shape.TheVariants as shape
-use Rattle.gq_program.specs.Spelling.{shape_of}
-use Rattle.gq_asm.specs.Fronts.{is_plain, BeginsWith}
-use Rattle.gq_asm.specs.Pieces.{front_word, front_line, past_feed, fed_line}
+use Rattle.gq_program.specs.Statement_table.{shape_of}
+use Rattle.gq_asm.specs.Word_prefixes.{is_plain, BeginsWith}
+use Rattle.gq_asm.specs.Pieces.{prefix_word, prefix_line, past_feed, fed_line}
 use Rattle.gq_asm.specs.Usual.{IsUsual}
 use Rattle.gq_asm.specs.internal.Words_operands.{IsLastWord, Completes}
-use Rattle.gq_asm.proofs.Pieces.{by_test, ne_test, next}
+use Rattle.gq_asm.proofs.Text_pieces.{by_test, ne_test, next}
 
 -- PLAIN BYTES
 
@@ -46,7 +46,7 @@ return_cons c [] e = rw e refl
 return_cons c (d ∷ rest) e = refl
 
 fed_cons : (c : ℕ) (text : List ℕ) → (c == 10) ≡ false → (c == 13) ≡ false → fed_line (c ∷ text) ≡ c ∷ fed_line text
-fed_cons c text e f = rw e (return_cons c (front_line text) f)
+fed_cons c text e f = rw e (return_cons c (prefix_line text) f)
 
 fed_plain : (word rest : List ℕ) → all_of is_plain word ≡ true → fed_line (word ++ rest) ≡ word ++ fed_line rest
 fed_plain [] rest h = refl
@@ -59,18 +59,18 @@ feed_plain [] rest h = refl
 feed_plain (c ∷ word) rest h =
     let p = and_parts (is_plain c) (all_of is_plain word) h in let e = plain_ne c 10 p.0 (omega arith) in rw e (feed_plain word rest p.1)
 
-front_plain : (word rest : List ℕ) → all_of is_plain word ≡ true → front_word (word ++ rest) ≡ word ++ front_word rest
-front_plain [] rest h = refl
-front_plain (c ∷ word) rest h =
-    let p = and_parts (is_plain c) (all_of is_plain word) h in rw (plain_blank c p.0) (ap (λ (l : List ℕ). c ∷ l) (front_plain word rest p.1))
+prefix_plain : (word rest : List ℕ) → all_of is_plain word ≡ true → prefix_word (word ++ rest) ≡ word ++ prefix_word rest
+prefix_plain [] rest h = refl
+prefix_plain (c ∷ word) rest h =
+    let p = and_parts (is_plain c) (all_of is_plain word) h in rw (plain_blank c p.0) (ap (λ (l : List ℕ). c ∷ l) (prefix_plain word rest p.1))
 
 past_plain : (word rest : List ℕ) → all_of is_plain word ≡ true → past_word (word ++ rest) ≡ past_word rest
 past_plain [] rest h = refl
 past_plain (c ∷ word) rest h =
     let p = and_parts (is_plain c) (all_of is_plain word) h in rw (plain_blank c p.0) (past_plain word rest p.1)
 
--- where no word stands at the front, a blank does, or nothing
-past_cut : (rest : List ℕ) → front_word rest ≡ [] → past_word rest ≡ rest
+-- where no word stands at the start, a blank does, or nothing
+past_cut : (rest : List ℕ) → prefix_word rest ≡ [] → past_word rest ≡ rest
 past_cut [] h = refl
 past_cut (c ∷ rest) h = by_test (is_blank c) (λ e. rw e refl) (λ e. absurd (cc (rw e at h)))
 
@@ -91,7 +91,7 @@ unindented_line (c ∷ rest) =
     let e = blank_ne c 10 b (λ h. absurd (omega (arith, h))) (λ h. absurd (omega (arith, h))) in
     let f = blank_ne c 13 b (λ h. absurd (omega (arith, h))) (λ h. absurd (omega (arith, h))) in
     rw (fed_cons c rest e f) (rw b (unindented_line rest)))
-    (λ b. rw b (by_test (c == 10) (λ e. rw e refl) (λ e. rw e (unindented_kept c (front_line rest) b))))
+    (λ b. rw b (by_test (c == 10) (λ e. rw e refl) (λ e. rw e (unindented_kept c (prefix_line rest) b))))
 
 feed_unindented : (text : List ℕ) → past_feed text ≡ past_feed (unindented text)
 feed_unindented [] = refl
@@ -105,17 +105,17 @@ feed_unindented (c ∷ rest) =
 -- WORDS
 
 -- of a line with blanks at its start
-first_words : (line word rest : List ℕ) → all_of is_plain word ≡ true → (word ≡ [] → ⊥) → front_word rest ≡ [] → unindented line ≡ word ++ rest →
+first_words : (line word rest : List ℕ) → all_of is_plain word ≡ true → (word ≡ [] → ⊥) → prefix_word rest ≡ [] → unindented line ≡ word ++ rest →
     words line ≡ word ∷ words rest
 first_words line [] rest h some cut u = absurd (some refl)
 first_words line (c ∷ word) rest h some cut u =
     let n = (next line).1 (subst (λ (t : List ℕ). 0 < length t) (sym u) (omega arith)) in
-    let f : front_word (unindented line) ≡ c ∷ word =
-    ap front_word u ∙ (front_plain (c ∷ word) rest h ∙ (ap (λ (t : List ℕ). (c ∷ word) ++ t) cut ∙ append-nil (c ∷ word))) in
+    let f : prefix_word (unindented line) ≡ c ∷ word =
+    ap prefix_word u ∙ (prefix_plain (c ∷ word) rest h ∙ (ap (λ (t : List ℕ). (c ∷ word) ++ t) cut ∙ append-nil (c ∷ word))) in
     let q : past_word (unindented line) ≡ rest = ap past_word u ∙ (past_plain (c ∷ word) rest h ∙ past_cut rest cut) in
     n.all ∙ (ap (λ (w : List ℕ). w ∷ words (past_word (unindented line))) f ∙ ap (λ (t : List ℕ). (c ∷ word) ∷ words t) q)
 
-words_plain : (word rest : List ℕ) → all_of is_plain word ≡ true → (word ≡ [] → ⊥) → front_word rest ≡ [] → words (word ++ rest) ≡ word ∷ words rest
+words_plain : (word rest : List ℕ) → all_of is_plain word ≡ true → (word ≡ [] → ⊥) → prefix_word rest ≡ [] → words (word ++ rest) ≡ word ∷ words rest
 words_plain [] rest h some cut = absurd (some refl)
 words_plain (c ∷ word) rest h some cut =
     let p = and_parts (is_plain c) (all_of is_plain word) h in
@@ -137,13 +137,13 @@ last_words text word rest h some =
     ap words (last_line text word rest h)
     ∙ (ap words (sym (append-nil word)) ∙ words_plain word [] h.plain some refl)
 
-last_cut : (text word rest : List ℕ) → IsLastWord text word rest → front_word (fed_line text) ≡ []
-last_cut text word rest h = ap front_word (last_line text word rest h)
+last_cut : (text word rest : List ℕ) → IsLastWord text word rest → prefix_word (fed_line text) ≡ []
+last_cut text word rest h = ap prefix_word (last_line text word rest h)
 
 no_number : (low high n : ℕ) (word : List ℕ) → number_in 10 low high word ≡ Some n → word ≡ [] → ⊥
 no_number low high n word h e = let k = ap (number_in 10 low high) (sym e) ∙ h in cc
 
-no_slot : (object : Bool) (s : Place) (word : List ℕ) → slot_in object word ≡ Some s → word ≡ [] → ⊥
+no_slot : (object : Bool) (s : OperandSlot) (word : List ℕ) → slot_in object word ≡ Some s → word ≡ [] → ⊥
 no_slot true s word h e = let k = ap (slot_in true) (sym e) ∙ h in cc
 no_slot false s word h e = let k = ap (slot_in false) (sym e) ∙ h in cc
 
@@ -155,7 +155,7 @@ number_completes text word rest width low high n f h e = record {
   read = λ after. rw (last_words text word rest h (no_number low high n word e)) (rw e refl);
 }
 
-pub slot_completes : (text word rest : List ℕ) (object : Bool) (s : Place) (f : Place → Instruction) → IsLastWord text word rest →
+pub slot_completes : (text word rest : List ℕ) (object : Bool) (s : OperandSlot) (f : OperandSlot → Instruction) → IsLastWord text word rest →
     slot_in object word ≡ Some s → Completes text (Slot object (λ s. Made (f s))) (f s) rest
 slot_completes text word rest object s f h e = record {
   fed = last_feed text word rest h;
@@ -166,21 +166,21 @@ slot_completes text word rest object s f h e = record {
 -- a word stands after a blank, before others that stand up to the line feed
 record IsWordBefore (text word more rest : List ℕ) (ws : List (List ℕ)) : Type 0 where
   fed : past_feed text ≡ Some rest
-  cut : front_word (fed_line text) ≡ []
-  told : words (fed_line text) ≡ word ∷ ws
+  cut : prefix_word (fed_line text) ≡ []
+  reported : words (fed_line text) ≡ word ∷ ws
 
 word_before : (text word more rest : List ℕ) (ws : List (List ℕ)) → text ≡ 32 ∷ (word ++ more) → all_of is_plain word ≡ true → (word ≡ [] → ⊥) →
-    past_feed more ≡ Some rest → front_word (fed_line more) ≡ [] → words (fed_line more) ≡ ws → IsWordBefore text word more rest ws
-word_before text word more rest ws is plain some fed cut told =
+    past_feed more ≡ Some rest → prefix_word (fed_line more) ≡ [] → words (fed_line more) ≡ ws → IsWordBefore text word more rest ws
+word_before text word more rest ws is plain some fed cut reported =
     let line : fed_line text ≡ 32 ∷ (word ++ fed_line more) =
     ap fed_line is ∙ (fed_cons 32 (word ++ more) refl refl ∙ ap (λ (l : List ℕ). 32 ∷ l) (fed_plain word more plain)) in
     record {
       fed = ap past_feed is ∙ (feed_plain word more plain ∙ fed);
-      cut = ap front_word line;
-      told = ap words line ∙ (words_plain word (fed_line more) plain some cut ∙ ap (λ (l : List (List ℕ)). word ∷ l) told);
+      cut = ap prefix_word line;
+      reported = ap words line ∙ (words_plain word (fed_line more) plain some cut ∙ ap (λ (l : List (List ℕ)). word ∷ l) reported);
     }
 
-pub amount_completes : (text slot more word rest : List ℕ) (low high n : ℕ) (s : Place) (f : Place → ℕ → Instruction) → text ≡ 32 ∷ (slot ++ more) →
+pub amount_completes : (text slot more word rest : List ℕ) (low high n : ℕ) (s : OperandSlot) (f : OperandSlot → ℕ → Instruction) → text ≡ 32 ∷ (slot ++ more) →
     all_of is_plain slot ≡ true → numbered_slot slot ≡ Some s → IsLastWord more word rest → number_in 10 low high word ≡ Some n →
     Completes text (slot_and low high f) (f s n) rest
 amount_completes text slot more word rest low high n s f is plain there h e =
@@ -189,7 +189,7 @@ amount_completes text slot more word rest low high n s f is plain there h e =
     record {
       fed = w.fed;
       cut = w.cut;
-      read = λ after. rw w.told (rw there (rw e refl));
+      read = λ after. rw w.reported (rw there (rw e refl));
     }
 
 no_name : (name : List ℕ) → is_name name ≡ true → name ≡ [] → ⊥
@@ -203,17 +203,17 @@ named name service e = by_cases (is_name name) refl e
     by_cases true is e = let same : name ≡ service = cc in (is, same)
     by_cases false is e = cc
 
-pub service_completes : (text slot more name last word rest : List ℕ) (n : ℕ) (s : Place) → text ≡ 32 ∷ (slot ++ more) → all_of is_plain slot ≡ true →
+pub service_completes : (text slot more name last word rest : List ℕ) (n : ℕ) (s : OperandSlot) → text ≡ 32 ∷ (slot ++ more) → all_of is_plain slot ≡ true →
     numbered_slot slot ≡ Some s → more ≡ 32 ∷ (name ++ last) → all_of is_plain name ≡ true → is_name name ≡ true → IsLastWord last word rest →
     number_in 10 0 greatest_number word ≡ Some n → Completes text (shape_of shape.Open) (Open s name n) rest
 service_completes text slot more name last word rest n s is plain there next fine named h e =
     let v = word_before more name last rest (word ∷ []) next fine (no_name name named) (last_feed last word rest h) (last_cut last word rest h)
     (last_words last word rest h (no_number 0 greatest_number n word e)) in
-    let w = word_before text slot more rest (name ∷ word ∷ []) is plain (no_slot false s slot there) v.fed v.cut v.told in
+    let w = word_before text slot more rest (name ∷ word ∷ []) is plain (no_slot false s slot there) v.fed v.cut v.reported in
     record {
       fed = w.fed;
       cut = w.cut;
-      read = λ after. rw w.told (rw there (rw named (rw e refl)));
+      read = λ after. rw w.reported (rw there (rw named (rw e refl)));
     }
 
 -- STATEMENTS

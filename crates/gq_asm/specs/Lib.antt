@@ -1,5 +1,5 @@
-pub mod Faults
+pub mod Assembly_faults
 pub mod internal
 pub mod Pieces
-pub mod Fronts
+pub mod Word_prefixes
 pub mod Usual

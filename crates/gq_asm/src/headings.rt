@@ -3,11 +3,11 @@ ghost use Rattle.std.specs.Prelude.{◌≡◌, is_some};
 ghost use Rattle.gq_model.specs.machine.Program.{same_section, section_in};
 ghost use Rattle.gq_model.specs.texts.Letters.{words};
 ghost use Rattle.gq_model.specs.texts.Text.{numbered, limit_of, heading, local, outside};
-ghost use Rattle.gq_asm.specs.internal.State.{AnswersBy, reading_of};
+ghost use Rattle.gq_asm.specs.internal.Assembly_state.{AnswersBy, reading_of};
 
-use crate::faults::LineError;
-use crate::operands::{at_end, next_number};
-use crate::reading::{BlockKind, Reading};
+use crate::asm_fault::LineError;
+use crate::assembly_state::{BlockKind, Reading};
+use crate::line_operands::{at_end, next_number};
 use gq_model::fault::TextFault;
 use gq_model::program::Section;
 use gq_program::Body;

@@ -7,24 +7,24 @@
 //! assert_eq!(rt; program.sections().len(), 1);
 //! ```
 //!
-//! Modules: words of a line (`words`, `lines`), usual lines in one go (`usual`), and the text of a program (`text`).
+//! Modules: words of a line (`line_words`, `source_lines`), usual lines in one go (`usual`), and the text of a program (`text`).
 #![tactic(auto)]
 
-mod faults;
-mod fronts;
+mod asm_fault;
+mod assembly_state;
 mod headings;
-mod instructions;
-mod lines;
-mod numbers;
-mod operands;
-mod reading;
+mod line_operands;
+mod line_words;
+mod operand_shapes;
 mod says;
-mod shapes;
-mod slots;
-mod statements;
+mod section_lines;
+mod slot_words;
+mod source_lines;
+mod statement_words;
 mod text;
+mod text_numbers;
 mod usual;
-mod words;
+mod word_prefixes;
 
-pub use faults::AssembleError;
+pub use asm_fault::AssembleError;
 pub use text::{assemble, assemble_with};

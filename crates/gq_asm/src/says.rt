@@ -2,7 +2,7 @@
 ghost use Rattle.std.specs.Prelude.{◌≡◌, option_copied, IfOk};
 ghost use Rattle.gq_model.specs.texts.Spelling.{quoted, said_in};
 
-use crate::words::{is_all_blank, unindented};
+use crate::line_words::{is_all_blank, unindented};
 use gq_model::program::Text;
 use std::alloc::{AllocError, Global};
 
@@ -21,7 +21,7 @@ fn quoted(text: &[u8]) -> Option<&[u8]>
     None
 }
 
-/// The text between quotation marks that stands after `say` on its line. Refused only for want of host memory.
+/// The text between quotation marks that stands after `say` on its line. Refused only if the host refuses memory.
 pub fn said_in(alloc: Global, after: &[u8]) -> Result<Option<Text>, AllocError>
     ensures { IfOk result (λ text. text ≡ said_in after.now) }
 {

@@ -5,19 +5,19 @@ ghost use Rattle.gq_model.specs.machine.Program.{section_in};
 ghost use Rattle.gq_model.specs.texts.Code.{IsProgram};
 ghost use Rattle.gq_model.specs.texts.Letters.{words};
 ghost use Rattle.gq_model.specs.texts.Text.{limit_of, limit_or_greatest, limits_from, in_order, finished, line_read, is_comment, assembled};
-ghost use Rattle.gq_asm.specs.internal.State.{AnswersBy, reading_of};
-ghost use Rattle.gq_asm.specs.Faults.{Assembles};
-ghost use Rattle.gq_asm.specs.declared.faults.LineError.TheVariants.{Memory};
-ghost use Rattle.gq_asm.specs.internal.Lines.{IsTaking, ReadsUsual};
+ghost use Rattle.gq_asm.specs.internal.Assembly_state.{AnswersBy, reading_of};
+ghost use Rattle.gq_asm.specs.Assembly_faults.{Assembles};
+ghost use Rattle.gq_asm.specs.declared.asm_fault.LineError.TheVariants.{Memory};
+ghost use Rattle.gq_asm.specs.internal.Source_lines.{IsTaking, ReadsUsual};
 ghost use Rattle.gq_asm.specs.Pieces.{line_at, past_feed};
-ghost use Rattle.gq_asm.specs.internal.Order.{without, IsFirstAt, IsAbsent, is_distinct};
+ghost use Rattle.gq_asm.specs.internal.Section_order.{without, IsFirstAt, IsAbsent, is_distinct};
 
-use crate::faults::{AssembleError, LineError};
+use crate::asm_fault::{AssembleError, LineError};
+use crate::assembly_state::Reading;
 use crate::headings::{limit_of, same_section};
-use crate::lines::first_line;
-use crate::reading::Reading;
+use crate::line_words::next_word;
+use crate::source_lines::first_line;
 use crate::usual::usual_line;
-use crate::words::next_word;
 use gq_model::fault::TextFault;
 use gq_model::limits::{GREATEST_STATEMENTS, LOCALS};
 use gq_model::program::Section;
@@ -190,7 +190,7 @@ impl Reading {
 }
 
 /// The program that a text spells. A text that spells none is refused with its first fault and the number of that
-/// one's line, from 1; so is one where host memory is refused. It takes time in proportion to the text's length, and host
+/// one's line, from 1; so is one where the host refuses memory. It takes time in proportion to the text's length, and host
 /// memory of at most a constant for each statement of the text, of which there are at most 4096.
 pub fn assemble(alloc: Global, text: &[u8]) -> Result<Program, AssembleError>
     ensures { Assembles result (assembled text.now) }

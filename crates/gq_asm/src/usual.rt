@@ -1,16 +1,16 @@
 // Usual lines of a section: a statement without operands, or with slots, services and numbers, with one blank before each, and a line feed right after it. They
-// are read from front to back, without a search for the line's end. Of any other line nothing is said here.
+// are read from start to end, without a search for the line's end. Of any other line nothing is said here.
 ghost use Rattle.std.specs.Prelude.{◌≡◌, ◌∷◌, ◌++◌, true, IfSome};
 ghost use Rattle.gq_model.specs.machine.Lists.{all_of};
-ghost use Rattle.gq_program.specs.Spelling.{shape_of};
-ghost use Rattle.gq_asm.specs.Fronts.{is_plain};
+ghost use Rattle.gq_program.specs.Statement_table.{shape_of};
+ghost use Rattle.gq_asm.specs.Word_prefixes.{is_plain};
 ghost use Rattle.gq_asm.specs.Usual.{IsUsual};
 ghost use Rattle.gq_asm.specs.internal.Words_operands.{IsLastWord, Completes};
 
-use crate::fronts::front_shape;
-use crate::numbers::number_in;
-use crate::slots::{numbered_slot, slot_or_object};
-use crate::words::unindented;
+use crate::line_words::unindented;
+use crate::slot_words::{numbered_slot, slot_or_object};
+use crate::text_numbers::number_in;
+use crate::word_prefixes::prefix_shape;
 use gq_model::program::{Instruction, Name};
 use gq_program::{Bare, Shape, WithAmount, WithBytes, WithNumber, WithSlot};
 
@@ -151,12 +151,12 @@ fn completed(shape: Shape, text: &[u8]) -> Option<(Instruction, &[u8])>
     }
 }
 
-/// The statement that the first line of a text is, wherever a statement may stand, and what follows its line feed, where the line is a usual one: a statement
-/// of one word, or of a word with a slot, a service or a number, one space before each and none after. `None` says nothing of the line.
+/// If the first line of a text is a usual one: its statement, wherever a statement may stand, and what follows its line feed. A usual line is a statement of
+/// one word, or of a word with a slot, a service or a number. It has one space before each and none after. `None` says nothing of the line.
 #[inline(always)]
 pub fn usual_line(text: &[u8]) -> Option<(Instruction, &[u8])>
     ensures { IfSome result (λ p. IsUsual text.now p.0 p.1.now) }
 {
-    let (shape, operands) = front_shape(unindented(text))?;
+    let (shape, operands) = prefix_shape(unindented(text))?;
     completed(shape, operands)
 }

@@ -1,5 +1,5 @@
-pub mod Leaves
-pub mod Counts
-pub mod Budgets
+pub mod Leaf_routes
+pub mod Leaf_section_counts
+pub mod Step_budgets
 pub mod Times
 pub mod internal

@@ -4,7 +4,7 @@ use Rattle.gq_model.specs.machine.Program.{Statements}
 use Rattle.gq_model.specs.declared.program.Section.{Section}
 use Rattle.gq_model.specs.machine.Scenario.{System, Component}
 use Rattle.gq_model.specs.rules.Use.{times}
-use Rattle.gq_verify.specs.Counting.{saturated}
+use Rattle.gq_verify.specs.Saturated_numbers.{saturated}
 
 -- how often these sections run
 abbrev pub row_of : (Section → ℕ) → List (Section × Statements) → List ℕ

@@ -1,5 +1,5 @@
-pub mod Sums
+pub mod Product_sums
 pub mod Counted
-pub mod Rounds
-pub mod Order
-pub mod Leads
+pub mod Run_rounds
+pub mod Asking_order
+pub mod Route_leads

@@ -1,11 +1,11 @@
 // Who asks for the sections of leaves, and how often they run.
 ghost use Rattle.std.specs.Prelude.{◌≡◌, ◌∷◌, [], IfOk, map};
 ghost use Rattle.gq_model.specs.machine.Program.{same_section};
-ghost use Rattle.gq_verify.specs.Counting.{saturated};
-ghost use Rattle.gq_budget.specs.internal.Rounds.{runs, asked_sum, often, leaf_round, askers_by, askers_for, all_asks};
+ghost use Rattle.gq_verify.specs.Saturated_numbers.{saturated};
+ghost use Rattle.gq_budget.specs.internal.Run_rounds.{runs, asked_sum, often, leaf_round, askers_by, askers_for, all_asks};
 
-use crate::counted::CountedLeaf;
-use crate::numbers::Numbers;
+use crate::counted_leaves::CountedLeaf;
+use crate::number_sums::Numbers;
 use gq_program::Section;
 use gq_verify::{Asker, Service};
 use smallvec::SmallVec;
@@ -20,7 +20,7 @@ pub(crate) struct LeafAsks<'a> {
 }
 
 impl<'a> Model for LeafAsks<'a> {
-    ghost use Rattle.gq_budget.specs.internal.Rounds.{Asks};
+    ghost use Rattle.gq_budget.specs.internal.Run_rounds.{Asks};
 
     ghost Value = { Asks };
 
@@ -122,7 +122,7 @@ fn askers_for(
     }
 }
 
-/// Of each leaf who asks for its sections. `leads` tells for each leaf which leaves' routes for its service lead to it.
+/// Of each leaf who asks for its sections. `leads` reports for each leaf which leaves' routes for its service lead to it.
 pub(crate) fn all_asks<'a>(
     alloc: Global,
     leaves: &'a [CountedLeaf],

@@ -1,17 +1,17 @@
 // The step budgets of leaves.
 ghost use Rattle.std.specs.Prelude.{◌≡◌, [], IfOk, map, suc};
 ghost use Rattle.gq_model.specs.machine.Scenario.{System};
-ghost use Rattle.gq_budget.specs.Leaves.{leaves_of, leads_of};
-ghost use Rattle.gq_budget.specs.Budgets.{budgets_of};
-ghost use Rattle.gq_budget.specs.Counts.{AreCountsOf, AgreeWhereAsked};
+ghost use Rattle.gq_budget.specs.Leaf_routes.{leaves_of, leads_of};
+ghost use Rattle.gq_budget.specs.Step_budgets.{budgets_of};
+ghost use Rattle.gq_budget.specs.Leaf_section_counts.{AreCountsOf, AgreeWhereAsked};
 ghost use Rattle.gq_budget.specs.Times.{times_table};
-ghost use Rattle.gq_budget.specs.internal.Rounds.{rounds, budgets_by};
+ghost use Rattle.gq_budget.specs.internal.Run_rounds.{rounds, budgets_by};
 
 use crate::asks::{LeafAsks, all_asks};
-use crate::counted::CountedLeaf;
-use crate::levels::in_order;
-use crate::numbers::Numbers;
+use crate::counted_leaves::CountedLeaf;
+use crate::number_sums::Numbers;
 use crate::rounds::rounds;
+use crate::use_levels::in_order;
 use std::alloc::{AllocError, Global};
 
 // What the sections of each of these leaves cost, where they run so often.
@@ -37,8 +37,9 @@ fn times(alloc: Global, asks: &[LeafAsks<'_>], uses: usize) -> Result<Vec<Number
     }
 }
 
-/// How often each section of each of the leaves of a system runs at most; 2^64 - 1 where it is more often. `leads` tells for each leaf which leaves' routes for
-/// the service that it provides lead to it; of a leaf that asks for no section of that service it may tell anything. Refused only for want of host memory.
+/// How often each section of each of the leaves of a system runs at most; 2^64 - 1 where it is more often. `leads` reports for each leaf which leaves' routes
+/// for the service that it provides lead to it; of a leaf that asks for no section of that service it may report anything. Refused only if the host refuses
+/// memory.
 pub(crate) fn counted_times(
     alloc: Global,
     leaves: &[CountedLeaf],
@@ -54,8 +55,8 @@ pub(crate) fn counted_times(
 }
 
 /// The greatest number of steps of each of the leaves of a system, whose sections are counted, so that no program need be there any more; 2^64 - 1 where there
-/// are more. `leads` tells for each leaf which leaves' routes for the service that it provides lead to it; of a leaf that asks for no section of that service
-/// it may tell anything. Refused only for want of host memory.
+/// are more. `leads` reports for each leaf which leaves' routes for the service that it provides lead to it; of a leaf that asks for no section of that service
+/// it may report anything. Refused only if the host refuses memory.
 pub fn counted_budgets(
     alloc: Global,
     leaves: &[CountedLeaf],

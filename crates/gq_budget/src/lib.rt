@@ -4,22 +4,22 @@
 //! ```rust
 //! use gq_budget::steps_of;
 //!
-//! // What was counted of each leaf's program, in the order of the leaves, and the routes that were told as the scenario was resolved.
+//! // What was counted of each leaf's program, in the order of the leaves, and the routes that were reported as the scenario was resolved.
 //! let steps = steps_of(alloc, &scenario, &components, &routes, &counted)?;
 //! ```
 //!
-//! Modules: steps along chains of use (`budgets`), and by the routes of a scenario (`steps`).
+//! Modules: steps along chains of use (`budgets`), and by the routes of a scenario (`leaf_steps`).
 #![tactic(auto)]
 
 mod asks;
+mod budget_leaf;
 mod budgets;
-mod counted;
-mod leaf;
-mod levels;
-mod numbers;
+mod counted_leaves;
+mod leaf_steps;
+mod number_sums;
 mod rounds;
-mod steps;
+mod use_levels;
 
-pub use counted::CountedLeaf;
-pub use leaf::Leaf;
-pub use steps::{Times, steps_of, times_of};
+pub use budget_leaf::BudgetLeaf;
+pub use counted_leaves::CountedLeaf;
+pub use leaf_steps::{Times, steps_of, times_of};

@@ -1,9 +1,9 @@
 // How often sections run, round by round.
 ghost use Rattle.std.specs.Prelude.{◌≡◌, true, IfOk, [], suc};
-ghost use Rattle.gq_budget.specs.internal.Rounds.{round, rounds};
+ghost use Rattle.gq_budget.specs.internal.Run_rounds.{round, rounds};
 
 use crate::asks::LeafAsks;
-use crate::numbers::Numbers;
+use crate::number_sums::Numbers;
 use std::alloc::{AllocError, Global};
 
 // How often each section of each leaf runs, where the sections that ask for it run so often.

@@ -1,2 +1,2 @@
-pub mod Measured
-mod Same
+pub mod Slot_measure_change
+mod Kind_list_comparison

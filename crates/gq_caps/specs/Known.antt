@@ -2,7 +2,7 @@
 use Rattle.std.specs.Prelude.{List, map}
 use Rattle.gq_model.specs.declared.program.Form.TheVariants as form
 use Rattle.gq_model.specs.rules.Kinds as kinds
-use Rattle.gq_caps.specs.Links.{link_known}
+use Rattle.gq_caps.specs.Known_links.{link_known}
 use Rattle.gq_caps.specs.declared.kind.Kind.{Kind}
 use Rattle.gq_caps.specs.declared.kind.Kind.TheVariants.{Empty, Waiting, Block, Slice, Space, Pool, Link}
 

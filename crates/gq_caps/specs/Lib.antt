@@ -1,4 +1,4 @@
-pub mod Links
+pub mod Known_links
 pub mod Known
 pub mod Measured
 pub mod internal

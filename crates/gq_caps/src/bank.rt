@@ -66,7 +66,7 @@ impl<const N: usize> Bank<N> {
         ensures sums { (m : Measure) → total_of result.now m ≡ measured m (all_known self.now) }
         ensures small { AreFew result.now }
     {
-        // The proof of what the totals are needs to be told of the kinds that they are of.
+        // The proof of what the totals are needs to be reported of the kinds that they are of.
         let _kinds = &self.kinds;
         &self.totals
     }

@@ -1,8 +1,8 @@
-// How links are made, and what they tell.
+// How links are made, and what they report.
 ghost use Rattle.std.specs.Prelude.{◌≡◌, ◌+◌, ◌*◌, ◌^◌, ◌≤◌, ◌<◌, length};
 ghost use Rattle.gq_model.specs.machine.Amounts.{amount, plus};
 ghost use Rattle.gq_model.specs.rules.Kinds.{same_kind};
-ghost use Rattle.gq_caps.specs.Links.{service_of, level_of, given_of, link_known};
+ghost use Rattle.gq_caps.specs.Known_links.{service_of, level_of, given_of, link_known};
 
 use crate::link::Link;
 use gq_model::program::{GREATEST_NAME, Name};

@@ -1,5 +1,5 @@
-pub mod Inputs
-pub mod Runs
-pub mod Told
-mod Faults_told
-mod Fit_told
+pub mod Command_input_results
+pub mod Read_turn_run
+pub mod Command_refusal_reasons
+mod Faults_command_result
+mod Fit_command_result

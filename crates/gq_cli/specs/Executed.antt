@@ -1,34 +1,34 @@
--- What a command does: what it reads, writes and tells.
+-- What a command does: what it reads, writes and reports.
 use Rattle.std.specs.Prelude.{◌≡◌, ◌⊎◌, ℕ, ◌≤◌, Bool, true, false, List, [], ◌∷◌, ◌++◌, length, Option, Some, None, option_map, Result, Ok, Err, IsOkAnd}
 use Rattle.std.specs.Prelude.{codes, string_bytes}
 use Rattle.std.specs.Io.KnownBytes.{Appends, Consumes, IsAtEnd}
 use Rattle.gq_init.specs.declared.counted.Counted.{Counted}
-use Rattle.gq_init.specs.Counts.{written_to, failures_of}
-use Rattle.gq_init.specs.Writes.{IsFront, IsRaised}
+use Rattle.gq_init.specs.Writer_failures.{written_to, failures_of}
+use Rattle.gq_init.specs.Writes.{IsPrefix, IsRaised}
 use Rattle.gq_load.specs.Load.{Fault, fault_text, loaded}
 use Rattle.gq_model.specs.machine.Scenario.{Scenario}
 use Rattle.gq_model.specs.texts.Turns.{Turned, turned}
 use Rattle.gq_world.specs.Whole.{Written, refused_with, with_scenario, turn_fault_text, run_written, check_written, asm_written}
 use Rattle.gq_world.specs.Headline.{WritesPromised}
-use Rattle.gq_world.specs.Outcomes.{IsCutShort, IsWhole}
+use Rattle.gq_world.specs.Command_outcomes.{IsCutShort, IsWhole}
 use Rattle.gq_views.specs.declared.margin.Margin.TheVariants.{Plain, Numbered}
-use Rattle.gq_views.specs.Written.{list_written, tree_written, graph_written}
-use Rattle.gq_traces.specs.Rests.{WritesToRest}
-use Rattle.gq_traces.specs.Written.{peaks_written, state_written, trace_written, turns_written}
+use Rattle.gq_views.specs.Views_written.{list_written, tree_written, graph_written}
+use Rattle.gq_traces.specs.Rest_runs.{WritesToRest}
+use Rattle.gq_traces.specs.Traces_written.{peaks_written, state_written, trace_written, turns_written}
 use Rattle.gq_races.specs.Races.{IsOrderFree, IsRaceFree}
-use Rattle.gq_races.specs.Written.{WroteNothing, races_written}
-use Rattle.gq_sizes.specs.Judged.{judged_without}
-use Rattle.gq_sizes.specs.Written.{size_written}
+use Rattle.gq_races.specs.Races_written.{WroteNothing, races_written}
+use Rattle.gq_sizes.specs.Judged_scenario.{judged_without}
+use Rattle.gq_sizes.specs.Size_written.{size_written}
 use Rattle.gq_fit.specs.Fitted.{IsFitted, IsFittedWhole, IsReason, IsReasonWhole, WritesPart, WritesSome}
-use Rattle.gq_fit.specs.Words.{fit_fault_text}
-use Rattle.gq_fit.specs.declared.fault.FitFault.{FitFault}
-use Rattle.gq_why.specs.Written.{why_written}
-use Rattle.gq_faults.specs.Faults.{fault_lines}
-use Rattle.gq_faults.specs.Told.{WritesFaults, WritesPrefix}
-use Rattle.gq_faults.specs.Turn_faults.{lines_of_both, told_of}
-use Rattle.gq_rule_texts.specs.declared.table.Rule.{Rule as RuleText}
-use Rattle.gq_rule_texts.specs.Rules.{Table, lines_of_all, rule_of}
-use Rattle.gq_command.specs.Stored.{parted}
+use Rattle.gq_fit.specs.Fit_words.{fit_fault_text}
+use Rattle.gq_fit.specs.declared.fit_fault.FitFault.{FitFault}
+use Rattle.gq_why.specs.Why_written.{why_written}
+use Rattle.gq_faults.specs.First_stage_faults.{fault_lines}
+use Rattle.gq_faults.specs.Reported_faults.{WritesFaults, WritesPrefix}
+use Rattle.gq_faults.specs.Turn_faults.{lines_of_both, reported_of}
+use Rattle.gq_rule_texts.specs.declared.rule_table.RuleText.{RuleText}
+use Rattle.gq_rule_texts.specs.Rule_tables.{Table, lines_of_all, rule_of}
+use Rattle.gq_command.specs.Stored_run.{parted}
 use Rattle.gq_command.specs.declared.command.Command.{Command}
 use Rattle.gq_command.specs.declared.command.Command.TheVariants.{OfScenario, OfLeaf, OfTurns, Fit, Faults, Rule, Version, Stored, Help}
 use Rattle.gq_command.specs.declared.command.ScenarioCommand.{ScenarioCommand}
@@ -44,7 +44,7 @@ use Rattle.gq_command.specs.declared.status.Status.TheVariants.{Done, Refused, B
 
 -- READING
 
--- what a code means, the version and help are told without reading
+-- what a code means, the version and help are reported without reading
 abbrev pub reads_scenario : Command → Bool
 reads_scenario (Rule code) = false
 reads_scenario Version = false
@@ -62,7 +62,7 @@ abbrev pub writes_refusals : Command → Bool
 writes_refusals (Faults scenario turns) = true
 writes_refusals _ = false
 
--- what is told without reading is never refused, but for a code that no rule has
+-- what is reported without reading is never refused, but for a code that no rule has
 abbrev pub is_never_refused : Command → Bool
 is_never_refused (Rule None) = true
 is_never_refused Version = true
@@ -202,23 +202,23 @@ IsUpheldBy (Of_scenario Races scenario) before after =
     (WroteNothing before after → IsOkAnd (loaded scenario) IsRaceFree) × (WroteNothing before after → IsOkAnd (loaded scenario) IsOrderFree)
 IsUpheldBy _ before after = Unit {0}
 
--- all that is wrong was told: with the scenario, or else with the turns
-abbrev pub TellsAll : Asked → (before after : Option (List ℕ)) → Type 0
-TellsAll (Of_faults path scenario None) before after = WritesFaults path (fault_lines scenario) before after
-TellsAll (Of_faults path scenario (Some turns)) before after =
-    WritesFaults (told_of (loaded scenario) path turns.0) (lines_of_both scenario turns.1) before after
-TellsAll _ before after = Unit {0}
+-- all that is wrong was reported: with the scenario, or else with the turns
+abbrev pub ReportsAll : Asked → (before after : Option (List ℕ)) → Type 0
+ReportsAll (Of_faults path scenario None) before after = WritesFaults path (fault_lines scenario) before after
+ReportsAll (Of_faults path scenario (Some turns)) before after =
+    WritesFaults (reported_of (loaded scenario) path turns.0) (lines_of_both scenario turns.1) before after
+ReportsAll _ before after = Unit {0}
 
 -- a prefix of such a text was written
-abbrev pub TellsPrefix : Asked → (before after : Option (List ℕ)) → Type 0
-TellsPrefix (Of_faults path scenario None) before after = WritesPrefix path (fault_lines scenario) before after
-TellsPrefix (Of_faults path scenario (Some turns)) before after =
-    WritesPrefix (told_of (loaded scenario) path turns.0) (lines_of_both scenario turns.1) before after
-TellsPrefix _ before after = Unit {0}
+abbrev pub ReportsPrefix : Asked → (before after : Option (List ℕ)) → Type 0
+ReportsPrefix (Of_faults path scenario None) before after = WritesPrefix path (fault_lines scenario) before after
+ReportsPrefix (Of_faults path scenario (Some turns)) before after =
+    WritesPrefix (reported_of (loaded scenario) path turns.0) (lines_of_both scenario turns.1) before after
+ReportsPrefix _ before after = Unit {0}
 
 -- it was not written to its end: a write failed, which was counted, and a prefix was written; or all of it was written, and did not leave the writer
-abbrev pub TellsPart : Asked → (before after : Option (List ℕ)) → ℕ → ℕ → Type 0
-TellsPart asked before after m n = (TellsPrefix asked before after × IsRaised m n) ⊎ TellsAll asked before after
+abbrev pub ReportsPart : Asked → (before after : Option (List ℕ)) → ℕ → ℕ → Type 0
+ReportsPart asked before after m n = (ReportsPrefix asked before after × IsRaised m n) ⊎ ReportsAll asked before after
 
 -- a scenario was read, and this holds of what is asked of it
 pub record ReadsScenario (scenario scenario_left : Option (List ℕ)) (asked : List ℕ → Asked) (holds : Asked → Type 0) : Type 0 where
@@ -259,7 +259,7 @@ Executes table (Help text) scenario scenario_left turns turns_left holds = holds
 
 -- TELLING
 
--- the line of a status; that of a refused scenario or of refused turns is told by their fault
+-- the line of a status; that of a refused scenario or of refused turns is reported by their fault
 abbrev pub status_line : Status → List ℕ
 status_line Done = []
 status_line Refused = []
@@ -268,13 +268,13 @@ status_line HostMemory = refused_with (codes "host memory refused")
 status_line FileFault = refused_with (codes "file fault")
 
 -- a line was written whole, without a failure; or a write failed, and a prefix of it was written
-abbrev pub IsTold : {E : Type 0} → (E → Option (List ℕ)) → (old new : Counted E) → List ℕ → Type 0
-IsTold contents old new line =
+abbrev pub IsReported : {E : Type 0} → (E → Option (List ℕ)) → (old new : Counted E) → List ℕ → Type 0
+IsReported contents old new line =
     (Appends (written_to contents old) (written_to contents new) line × (failures_of new ≡ failures_of old))
-    ⊎ (IsFront (written_to contents old) (written_to contents new) line × IsRaised (failures_of old) (failures_of new))
+    ⊎ (IsPrefix (written_to contents old) (written_to contents new) line × IsRaised (failures_of old) (failures_of new))
 
--- the texts are refused, and the line that says why was told
+-- the texts are refused, and the line that says why was reported
 pub record IsRefusal {E : Type 0} (contents : E → Option (List ℕ)) (asked : Asked) (old new : Counted E) : Type 0 where
   pub line : List ℕ
   pub refused : IsRefusedBy asked line
-  pub told : IsTold contents old new line
+  pub reported : IsReported contents old new line

@@ -1,3 +1,3 @@
-pub mod Ends
+pub mod Early_command_ends
 pub mod Executed
 pub mod internal

@@ -1,2 +1,2 @@
-pub mod Fitting
+pub mod Fit_write_ends
 pub mod Running

@@ -1,40 +1,40 @@
 //! Doing what a command line asks for.
 ghost use Rattle.std.specs.Prelude.{◌≡◌, ◌≢◌, ◌⊎◌, ◌++◌, true, false, codes, string_bytes, None, Ok, Some, Err, IfErr, OnOk};
 ghost use Rattle.std.specs.Io.KnownBytes.{Keeps};
-ghost use Rattle.gq_init.specs.Counts.{written_to, failures_of};
+ghost use Rattle.gq_init.specs.Writer_failures.{written_to, failures_of};
 ghost use Rattle.gq_init.specs.Writes.{IsRaised};
-ghost use Rattle.gq_world.specs.Outcomes.{GivesOf, WritesAs};
+ghost use Rattle.gq_world.specs.Command_outcomes.{GivesOf, WritesAs};
 ghost use Rattle.gq_world.specs.Whole.{refused_with, run_written};
 ghost use Rattle.gq_world.specs.Headline.{WritesPromised};
 ghost use Rattle.gq_command.specs.Input.{GivesAtMost};
-ghost use Rattle.gq_cli.specs.Ends.{Ended, EndedFaults, IsKnown, IsSilent, IsToldAs, IsUntold, LeavesWriter, refusal_fault};
+ghost use Rattle.gq_cli.specs.Early_command_ends.{Ended, EndedFaults, IsKnown, IsSilent, IsReportedAs, IsUntold, LeavesWriter, refusal_fault};
 ghost use Rattle.gq_cli.specs.internal.Running.{RefusesAs};
-ghost use Rattle.gq_cli.specs.Executed.{Executes, IsRefusal, IsTold, IsUpheldBy, ReadsBoth, ReadsScenario, ReadsText, RunsStored};
-ghost use Rattle.gq_cli.specs.Executed.{Of_both, Of_faults, Of_leaf, Of_nothing, Of_scenario, TellsAll, TellsPart, TellsPrefix};
+ghost use Rattle.gq_cli.specs.Executed.{Executes, IsRefusal, IsReported, IsUpheldBy, ReadsBoth, ReadsScenario, ReadsText, RunsStored};
+ghost use Rattle.gq_cli.specs.Executed.{Of_both, Of_faults, Of_leaf, Of_nothing, Of_scenario, ReportsAll, ReportsPart, ReportsPrefix};
 ghost use Rattle.gq_cli.specs.Executed.{both_written, is_never_refused, leaf_written, reads_scenario, reads_turns, rules_written};
 ghost use Rattle.gq_cli.specs.Executed.{WritesCut, WritesWhole, scenario_written, status_line, version_written, writes_refusals};
 ghost use Rattle.gq_cli.specs.declared.execute.Fault.TheVariants as fault;
 ghost use Rattle.gq_command.specs.declared.command.TurnsCommand.TheVariants.{Run};
 
-use crate::fit::of_fit;
-use crate::turns::run_loaded;
+use crate::fit_command::of_fit;
+use crate::reader_turns::run_loaded;
 use gq_command::command::{Command, LeafCommand, ScenarioCommand, TurnsCommand, VERSION};
 use gq_command::input::{InputError, read_input};
 use gq_command::status::Status;
 use gq_command::stored::parted;
-use gq_faults::fault::TellError;
+use gq_faults::fault_laws::first_turn_fault_laws;
 use gq_faults::faults::{File, faults};
-use gq_faults::laws::first_turn_fault_laws;
-use gq_faults::turns::{Refused, faults_of_both};
+use gq_faults::report_error::ReportError;
+use gq_faults::turn_faults::{Refused, faults_of_both};
 use gq_init::counted::{Counted, put};
 use gq_races::races::races;
-use gq_rule_texts::{Rule, rule_of, write_rules};
+use gq_rule_texts::{RuleText, rule_of, write_rules};
 use gq_sizes::size::size;
+use gq_traces::account_state::state;
 use gq_traces::peaks::peaks;
-use gq_traces::state::state;
-use gq_traces::telling::Telling;
+use gq_traces::step_output::Reporting;
 use gq_traces::trace::trace;
-use gq_traces::turns::turns;
+use gq_traces::turn_schedule::turns;
 use gq_views::graph::graph;
 use gq_views::list::list;
 use gq_views::margin::Margin;
@@ -42,8 +42,8 @@ use gq_views::tree::tree;
 use gq_why::why::why;
 use gq_world::asm::asm;
 use gq_world::check::check;
-use gq_world::fault::RunFault;
 use gq_world::run::run;
+use gq_world::run_fault::RunFault;
 use gq_world::world::World;
 use std::alloc::{AllocError, Global};
 use std::io::{Read, Write};
@@ -72,7 +72,7 @@ impl From<AllocError> for Fault {
 }
 
 impl From<InputError> for Fault {
-    ghost use Rattle.gq_cli.specs.Ends.{IsUnread};
+    ghost use Rattle.gq_cli.specs.Early_command_ends.{IsUnread};
 
     ghost from_gives = { λ _ fault. IsUnread fault };
 
@@ -98,14 +98,14 @@ impl From<InputError> for Fault {
 /// failed write on `err` changes nothing.
 pub fn execute<R: Read, T: Read, W: Write, E: Write>(
     alloc: Global,
-    rules: &[&[Rule]],
+    rules: &[&[RuleText]],
     command: &Command,
     scenario: &mut R,
     turns: &mut T,
     out: &mut Counted<W>,
     err: &mut Counted<E>,
 ) -> Status
-    // The whole text was written, that of a run which upholds what is promised, and nothing was told.
+    // The whole text was written, that of a run which upholds what is promised, and nothing was reported.
     ensures done { result ≡ Status.Done → Executes rules.now command.now (R.remaining scenario.old) (R.remaining scenario.new) (T.remaining turns.old)
         (T.remaining turns.new) (λ asked. WritesWhole asked (written_to W.contents out.old) (written_to W.contents out.new)) }
     ensures upheld { result ≡ Status.Done → Executes rules.now command.now (R.remaining scenario.old) (R.remaining scenario.new) (T.remaining turns.old)
@@ -113,23 +113,23 @@ pub fn execute<R: Read, T: Read, W: Write, E: Write>(
     ensures counted { result ≡ Status.Done → failures_of out.new ≡ failures_of out.old }
     ensures quiet { result ≡ Status.Done → err.new ≡ err.old }
 
-    // The texts, or a word, are refused by the line that was told.
+    // The texts, or a word, are refused by the line that was reported.
     ensures refused { result ≡ Status.Refused → Executes rules.now command.now (R.remaining scenario.old) (R.remaining scenario.new) (T.remaining turns.old)
         (T.remaining turns.new) (λ asked. IsRefusal E.contents asked err.old err.new) }
     ensures unwritten { writes_refusals command.now ≡ false → result ≡ Status.Refused → out.new ≡ out.old }
 
-    // Where all that is wrong is asked for, it was told before the texts are refused.
+    // Where all that is wrong is asked for, it was reported before the texts are refused.
     ensures faults { writes_refusals command.now ≡ true → result ≡ Status.Refused → Executes rules.now command.now (R.remaining scenario.old)
         (R.remaining scenario.new) (T.remaining turns.old) (T.remaining turns.new)
-        (λ asked. TellsAll asked (written_to W.contents out.old) (written_to W.contents out.new)) }
+        (λ asked. ReportsAll asked (written_to W.contents out.old) (written_to W.contents out.new)) }
 
-    // Where it was not told to its end, a prefix of it was; where a text was not read, nothing.
+    // Where it was not reported to its end, a prefix of it was; where a text was not read, nothing.
     ensures faults_cut { writes_refusals command.now ≡ true → result ≡ Status.FileFault → (out.new ≡ out.old)
         ⊎ Executes rules.now command.now (R.remaining scenario.old) (R.remaining scenario.new) (T.remaining turns.old) (T.remaining turns.new)
-        (λ asked. TellsPart asked (written_to W.contents out.old) (written_to W.contents out.new) (failures_of out.old) (failures_of out.new)) }
+        (λ asked. ReportsPart asked (written_to W.contents out.old) (written_to W.contents out.new) (failures_of out.old) (failures_of out.new)) }
     ensures faults_stopped { writes_refusals command.now ≡ true → result ≡ Status.HostMemory → (out.new ≡ out.old)
         ⊎ Executes rules.now command.now (R.remaining scenario.old) (R.remaining scenario.new) (T.remaining turns.old) (T.remaining turns.new)
-        (λ asked. TellsPrefix asked (written_to W.contents out.old) (written_to W.contents out.new)) }
+        (λ asked. ReportsPrefix asked (written_to W.contents out.old) (written_to W.contents out.new)) }
 
     // Host memory was refused, and nothing was written.
     ensures silent { writes_refusals command.now ≡ false → result ≡ Status.HostMemory → out.new ≡ out.old }
@@ -141,7 +141,7 @@ pub fn execute<R: Read, T: Read, W: Write, E: Write>(
         × IsRaised (failures_of out.old) (failures_of out.new)) }
 
     // Other refusals have the line of their status.
-    ensures told { result ≢ Status.Refused → IsTold E.contents err.old err.new (status_line result) }
+    ensures reported { result ≢ Status.Refused → IsReported E.contents err.old err.new (status_line result) }
     ensures named { result ≢ Status.BadCommandLine }
     ensures help { is_never_refused command.now ≡ true → (result ≡ Status.Done) ⊎ (result ≡ Status.FileFault) }
 
@@ -154,22 +154,22 @@ pub fn execute<R: Read, T: Read, W: Write, E: Write>(
     match perform(alloc, rules, command, scenario, turns, out) {
         Ok(()) => Status::Done,
         Err(Fault::Refused(line)) => {
-            tell_line(err, line.as_bytes());
+            report_line(err, line.as_bytes());
             Status::Refused
         }
-        Err(Fault::Memory) => tell(err, Status::HostMemory),
-        Err(Fault::Read) => tell(err, Status::FileFault),
-        Err(Fault::Write) => tell(err, Status::FileFault),
+        Err(Fault::Memory) => report(err, Status::HostMemory),
+        Err(Fault::Read) => report(err, Status::FileFault),
+        Err(Fault::Write) => report(err, Status::FileFault),
     }
 }
 
 /// Writes the line of a status, as `trade: file fault`, as far as writes succeed, and gives the status back. `Done` has no line,
 /// and that of `Refused` is the fault's: for these nothing is written.
-pub fn tell<E: Write>(err: &mut Counted<E>, status: Status) -> Status
+pub fn report<E: Write>(err: &mut Counted<E>, status: Status) -> Status
     ensures status { result ≡ status }
-    ensures told { IsTold E.contents err.old err.new (status_line status) }
+    ensures reported { IsReported E.contents err.old err.new (status_line status) }
 {
-    tell_line(err, line_of(status));
+    report_line(err, line_of(status));
     status
 }
 
@@ -186,8 +186,8 @@ fn line_of(status: Status) -> &'static [u8]
 }
 
 // Writes a line, as far as writes succeed.
-fn tell_line<E: Write>(err: &mut Counted<E>, line: &[u8])
-    ensures { IsTold E.contents err.old err.new line.now }
+fn report_line<E: Write>(err: &mut Counted<E>, line: &[u8])
+    ensures { IsReported E.contents err.old err.new line.now }
 {
     match put(err, line) {
         Ok(()) => (),
@@ -198,7 +198,7 @@ fn tell_line<E: Write>(err: &mut Counted<E>, line: &[u8])
 // Does what a command asks for.
 fn perform<R: Read, T: Read, W: Write>(
     alloc: Global,
-    rules: &[&[Rule]],
+    rules: &[&[RuleText]],
     command: &Command,
     scenario: &mut R,
     turns: &mut T,
@@ -212,7 +212,7 @@ fn perform<R: Read, T: Read, W: Write>(
         (EndedFaults result (written_to W.contents out.old) (written_to W.contents out.new) (failures_of out.old) (failures_of out.new)) }
     ensures stopped { writes_refusals command.now ≡ true → result ≡ Err fault.Memory → (out.new ≡ out.old)
         ⊎ Executes rules.now command.now (R.remaining scenario.old) (R.remaining scenario.new) (T.remaining turns.old) (T.remaining turns.new)
-        (λ asked. TellsPrefix asked (written_to W.contents out.old) (written_to W.contents out.new)) }
+        (λ asked. ReportsPrefix asked (written_to W.contents out.old) (written_to W.contents out.new)) }
     ensures failed_read { writes_refusals command.now ≡ true → result ≡ Err fault.Read → out.new ≡ out.old }
     ensures upheld { OnOk result (Executes rules.now command.now (R.remaining scenario.old) (R.remaining scenario.new) (T.remaining turns.old)
         (T.remaining turns.new) (λ asked. IsUpheldBy asked (written_to W.contents out.old) (written_to W.contents out.new))) }
@@ -302,7 +302,7 @@ fn of_both_texts<W: Write>(
 {
     match write_both(alloc, command, scenario, turns, out) {
         Ok(()) => Ok(()),
-        Err(fault) => Err(told(alloc, fault)),
+        Err(fault) => Err(reported(alloc, fault)),
     }
 }
 
@@ -318,8 +318,8 @@ fn write_both<W: Write>(
 {
     match command {
         TurnsCommand::Run => run(alloc, scenario, turns, out),
-        TurnsCommand::Trace => trace(alloc, scenario, turns, Telling::Changes, out),
-        TurnsCommand::TraceAll => trace(alloc, scenario, turns, Telling::All, out),
+        TurnsCommand::Trace => trace(alloc, scenario, turns, Reporting::Changes, out),
+        TurnsCommand::TraceAll => trace(alloc, scenario, turns, Reporting::All, out),
         TurnsCommand::State(first) => state(alloc, scenario, turns, first, out),
         TurnsCommand::Peaks => peaks(alloc, scenario, turns, out),
     }
@@ -368,7 +368,7 @@ fn run_reader<T: Read, W: Write>(
     }
 }
 
-// Why a scenario is not run. The turns are read to their end first, since a read that fails is told before it.
+// Why a scenario is not run. The turns are read to their end first, since a read that fails is reported before it.
 fn refusal<T: Read>(alloc: Global, scenario: &[u8], fault: RunFault, turns: &mut T) -> Fault
     requires { GivesOf fault scenario.now }
     ensures refused { IsKnown {A = Unit {0}} (Err result) → ReadsText (T.remaining turns.old) (T.remaining turns.new) (λ text.
@@ -381,12 +381,12 @@ fn refusal<T: Read>(alloc: Global, scenario: &[u8], fault: RunFault, turns: &mut
         Err(InputError::Memory(_)) => return Fault::Memory,
         Err(InputError::Fault) => return Fault::Read,
     }
-    told(alloc, fault)
+    reported(alloc, fault)
 }
 
 // Why a command was not done, by why what it calls was not: the line of a refusal is made.
-pub(crate) fn told(alloc: Global, fault: RunFault<'_>) -> Fault
-    ensures { IsToldAs fault.entry result }
+pub(crate) fn reported(alloc: Global, fault: RunFault<'_>) -> Fault
+    ensures { IsReportedAs fault.entry result }
 {
     match fault {
         RunFault::Memory => Fault::Memory,
@@ -429,7 +429,7 @@ fn run_texts<W: Write>(
 {
     match run(alloc, scenario, turns, out) {
         Ok(()) => Ok(()),
-        Err(fault) => Err(told(alloc, fault)),
+        Err(fault) => Err(reported(alloc, fault)),
     }
 }
 
@@ -464,7 +464,7 @@ fn of_scenario_text<W: Write>(
 {
     match write_scenario(alloc, command, scenario, out) {
         Ok(()) => Ok(()),
-        Err(fault) => Err(told(alloc, fault)),
+        Err(fault) => Err(reported(alloc, fault)),
     }
 }
 
@@ -488,7 +488,7 @@ fn write_scenario<W: Write>(
     }
 }
 
-// Tells all that is wrong with the scenario that a reader has, whose file has this path.
+// Reports all that is wrong with the scenario that a reader has, whose file has this path.
 fn of_faults<R: Read, W: Write>(
     alloc: Global,
     path: &str,
@@ -499,7 +499,7 @@ fn of_faults<R: Read, W: Write>(
         (EndedFaults result (written_to W.contents out.old) (written_to W.contents out.new) (failures_of out.old) (failures_of out.new)) }
     ensures stopped { result ≡ Err fault.Memory → (out.new ≡ out.old)
         ⊎ ReadsScenario (R.remaining scenario.old) (R.remaining scenario.new) (λ text. Of_faults path.now text None)
-        (λ asked. TellsPrefix asked (written_to W.contents out.old) (written_to W.contents out.new)) }
+        (λ asked. ReportsPrefix asked (written_to W.contents out.old) (written_to W.contents out.new)) }
     ensures failed_read { result ≡ Err fault.Read → out.new ≡ out.old }
     ensures counted { OnOk result (failures_of out.new ≡ failures_of out.old) }
     ensures most { GivesAtMost 18874369 (R.remaining scenario.old) (R.remaining scenario.new) }
@@ -508,7 +508,7 @@ fn of_faults<R: Read, W: Write>(
     of_faults_text(alloc, path, input.as_slice(), out)
 }
 
-// Tells all that is wrong with a scenario, whose file has this path.
+// Reports all that is wrong with a scenario, whose file has this path.
 fn of_faults_text<W: Write>(
     alloc: Global,
     path: &str,
@@ -518,7 +518,7 @@ fn of_faults_text<W: Write>(
     ensures ended { IsKnown result → EndedFaults result (written_to W.contents out.old) (written_to W.contents out.new)
         (failures_of out.old) (failures_of out.new) (Of_faults path.now scenario.now None) }
     ensures stopped { result ≡ Err fault.Memory
-        → TellsPrefix (Of_faults path.now scenario.now None) (written_to W.contents out.old) (written_to W.contents out.new) }
+        → ReportsPrefix (Of_faults path.now scenario.now None) (written_to W.contents out.old) (written_to W.contents out.new) }
     ensures read { IfErr result (λ f. f ≢ fault.Read) }
     ensures counted { OnOk result (failures_of out.new ≡ failures_of out.old) }
 {
@@ -529,7 +529,7 @@ fn of_faults_text<W: Write>(
     match faults(alloc, file, out) {
         Ok(None) => Ok(()),
         Ok(Some(fault)) => Err(refused_after(alloc, RunFault::Load(fault), out)),
-        Err(error) => Err(untold(error)),
+        Err(error) => Err(unreported(error)),
     }
 }
 
@@ -537,25 +537,25 @@ fn of_faults_text<W: Write>(
 fn refused_after<W: Write>(alloc: Global, refused: RunFault<'_>, out: &mut Counted<W>) -> Fault
     ensures bytes { Keeps (written_to W.contents out.old) (written_to W.contents out.new) }
     ensures failures { failures_of out.new ≡ failures_of out.old }
-    ensures told { (result ≡ fault.Write) ⊎ IsToldAs refused.entry result }
+    ensures reported { (result ≡ fault.Write) ⊎ IsReportedAs refused.entry result }
 {
     match out.flush() {
-        Ok(()) => told(alloc, refused),
+        Ok(()) => reported(alloc, refused),
         Err(_) => Fault::Write,
     }
 }
 
-// Why not all that is wrong was told.
-fn untold(error: TellError) -> Fault
+// Why not all that is wrong was reported.
+fn unreported(error: ReportError) -> Fault
     ensures { IsUntold error result }
 {
     match error {
-        TellError::Memory => Fault::Memory,
-        TellError::Write => Fault::Write,
+        ReportError::Memory => Fault::Memory,
+        ReportError::Write => Fault::Write,
     }
 }
 
-// Tells all that is wrong with the scenario that one reader has, or with the turns that another has; their files have these paths.
+// Reports all that is wrong with the scenario that one reader has, or with the turns that another has; their files have these paths.
 fn of_both_faults<R: Read, T: Read, W: Write>(
     alloc: Global,
     path: &str,
@@ -570,7 +570,7 @@ fn of_both_faults<R: Read, T: Read, W: Write>(
     ensures stopped { result ≡ Err fault.Memory → (out.new ≡ out.old)
         ⊎ ReadsBoth (R.remaining scenario.old) (R.remaining scenario.new) (T.remaining turns.old) (T.remaining turns.new)
         (λ text other. Of_faults path.now text (Some (turns_path.now, other)))
-        (λ asked. TellsPrefix asked (written_to W.contents out.old) (written_to W.contents out.new)) }
+        (λ asked. ReportsPrefix asked (written_to W.contents out.old) (written_to W.contents out.new)) }
     ensures failed_read { result ≡ Err fault.Read → out.new ≡ out.old }
     ensures counted { OnOk result (failures_of out.new ≡ failures_of out.old) }
     ensures scenario_most { GivesAtMost 18874369 (R.remaining scenario.old) (R.remaining scenario.new) }
@@ -589,7 +589,7 @@ fn of_both_faults<R: Read, T: Read, W: Write>(
     of_both_files(alloc, scenario, turns, out)
 }
 
-// Tells all that is wrong with a scenario, or with turns.
+// Reports all that is wrong with a scenario, or with turns.
 fn of_both_files<W: Write>(
     alloc: Global,
     scenario: File<'_>,
@@ -600,7 +600,7 @@ fn of_both_files<W: Write>(
         (failures_of out.old) (failures_of out.new)
         (Of_faults scenario.entry.path.now scenario.entry.text.now (Some (turns.entry.path.now, turns.entry.text.now))) }
     ensures stopped { result ≡ Err fault.Memory
-        → TellsPrefix (Of_faults scenario.entry.path.now scenario.entry.text.now (Some (turns.entry.path.now, turns.entry.text.now)))
+        → ReportsPrefix (Of_faults scenario.entry.path.now scenario.entry.text.now (Some (turns.entry.path.now, turns.entry.text.now)))
         (written_to W.contents out.old) (written_to W.contents out.new) }
     ensures read { IfErr result (λ f. f ≢ fault.Read) }
     ensures counted { OnOk result (failures_of out.new ≡ failures_of out.old) }
@@ -609,7 +609,7 @@ fn of_both_files<W: Write>(
     match faults_of_both(alloc, scenario, turns, out) {
         Ok(None) => Ok(()),
         Ok(Some(refused)) => Err(refused_after(alloc, refusal_of(refused), out)),
-        Err(error) => Err(untold(error)),
+        Err(error) => Err(unreported(error)),
     }
 }
 
@@ -653,7 +653,7 @@ fn of_leaf_text<W: Write>(
 {
     match write_leaf(alloc, command, scenario, leaf, out) {
         Ok(()) => Ok(()),
-        Err(fault) => Err(told(alloc, fault)),
+        Err(fault) => Err(reported(alloc, fault)),
     }
 }
 
@@ -675,10 +675,10 @@ fn write_leaf<'a, W: Write>(
     }
 }
 
-// Tells what a code means.
+// Reports what a code means.
 fn of_code<W: Write>(
     alloc: Global,
-    rules: &[&[Rule]],
+    rules: &[&[RuleText]],
     code: &str,
     out: &mut Counted<W>,
 ) -> Result<(), Fault>
@@ -693,7 +693,7 @@ fn of_code<W: Write>(
     }
 }
 
-// Why nothing is told of a word: no rule has such a code. The line of a refusal is made.
+// Why nothing is reported of a word: no rule has such a code. The line of a refusal is made.
 fn no_rule(alloc: Global, code: &str) -> Fault
     ensures refused { RefusesAs (Err (refused_with (codes "no rule " ++ code.now))) result }
     ensures silent { IsSilent result }
@@ -706,7 +706,7 @@ fn no_rule(alloc: Global, code: &str) -> Fault
 }
 
 // Writes the line of each rule.
-fn of_all_codes<W: Write>(rules: &[&[Rule]], out: &mut Counted<W>) -> Result<(), Fault>
+fn of_all_codes<W: Write>(rules: &[&[RuleText]], out: &mut Counted<W>) -> Result<(), Fault>
     ensures ended { Ended result (written_to W.contents out.old) (written_to W.contents out.new) (Of_nothing (rules_written rules.now None)) }
     ensures fault { IfErr result (λ f. f ≡ fault.Write) }
     ensures leaves { LeavesWriter out.old out.new result }

@@ -11,8 +11,8 @@
 #![tactic(auto)]
 
 pub mod execute;
-mod fit;
-mod turns;
+mod fit_command;
+mod reader_turns;
 
 pub use gq_command::{command, command_line, input, status, stored};
 pub use gq_rule_texts as rules;

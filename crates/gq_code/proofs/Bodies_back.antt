@@ -16,8 +16,8 @@ use Rattle.gq_model.proofs.Code_laws.{number_at-spelled_2, number_at-spelled_4, 
 use Rattle.gq_model.proofs.Instruction_laws.{each_spelled, opcode_small, instruction_back}
 use Rattle.gq_code.specs.internal.Bodies.{body_in, opened_at, arms_at, round_at, plain_at, choice_with, round_with, instruction_at, statement_with}
 use Rattle.gq_code.specs.internal.Bodies.{continued, section_at}
-use Rattle.gq_code.proofs.Bodies.{then_along, body_in-cons}
-use Rattle.gq_code.proofs.Lengths.{body_short}
+use Rattle.gq_code.proofs.Coded_body_decoding.{then_along, body_in-cons}
+use Rattle.gq_code.proofs.Code_lengths.{body_short}
 
 -- PARTS
 

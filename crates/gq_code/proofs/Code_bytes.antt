@@ -2,8 +2,8 @@
 use Rattle.std.proofs.Common.{◌≡◌, ℕ, ◌+◌, ◌-◌, ◌^◌, ◌<◌, ◌≤◌, List, [], ◌∷◌, ◌++◌, length, true, if◌then◌else◌, ◌==◌, ap, arith, inl, inr}
 use Rattle.std.specs.Prelude.{nat_lt, nat_le, ◌&&◌, ◌||◌, not}
 use Rattle.std.proofs.lemmas.Bool.{and_parts, or_cases, leb-true, ltb-true, eqb-true, cond_both}
-use Rattle.gq_model.specs.declared.program.Place.{Place}
-use Rattle.gq_model.specs.declared.program.Place.TheVariants.{Own, Shared, Object}
+use Rattle.gq_model.specs.declared.program.OperandSlot.{OperandSlot}
+use Rattle.gq_model.specs.declared.program.OperandSlot.TheVariants.{Own, Shared, Object}
 use Rattle.gq_model.specs.declared.program.Instruction.{Instruction}
 use Rattle.gq_model.specs.machine.Program.{Program, Statements, Done, Do, If, Loop, spelled}
 use Rattle.gq_model.specs.machine.Lists.{all_of, between}
@@ -13,8 +13,8 @@ use Rattle.gq_model.specs.texts.Operands.{Operand, Number, Slot, Bytes, Text, Se
 use Rattle.gq_model.specs.texts.Operands.{slot_code, operand_code, operands_code}
 use Rattle.gq_model.specs.texts.Code.{IsProgram, is_body, body_code, body_length, section_number, are_sections, has_limit, limits_code, section_bits}
 use Rattle.gq_model.specs.texts.Code.{sections_code, code_of}
-use Rattle.gq_model.proofs.Bytes.{AreBytes, spelled_bytes}
-use Rattle.gq_code.proofs.Programs.{Sections, first_of}
+use Rattle.gq_model.proofs.Byte_number_spelling.{AreBytes, spelled_bytes}
+use Rattle.gq_code.proofs.Section_order_bits.{Sections, first_of}
 use Rattle.gq_code.proofs.Limits_back.{local_bits_below}
 use Rattle.gq_code.proofs.Programs_back.{parts_of}
 use Rattle.gq_model.proofs.Assembled_instructions.{or_object}
@@ -25,7 +25,7 @@ bytes_then (x ∷ a) b h k = (h.0, bytes_then a b h.1 k)
 
 -- OPERANDS
 
-slot_byte : (p : Place) → is_slot_or_object p ≡ true → slot_code p < 256
+slot_byte : (p : OperandSlot) → is_slot_or_object p ≡ true → slot_code p < 256
 slot_byte (Own i) h = let k = ltb-true i 64 h in omega (arith, k)
 slot_byte (Shared i) h = let k = ltb-true i 8 h in omega (arith, k)
 slot_byte Object h = omega arith

@@ -12,8 +12,8 @@ use Rattle.gq_model.specs.texts.Code.{has_limit, local_bits, limits_code}
 use Rattle.gq_model.specs.texts.Decode.{decoded_then, number_at, checked, limits_at}
 use Rattle.gq_model.proofs.Code_laws.{number_at-spelled_4, checked_true}
 use Rattle.gq_code.specs.internal.Decoding.{limit_at, after_limits}
-use Rattle.gq_code.proofs.Bodies.{then_along}
-use Rattle.gq_code.proofs.Sections.{limits_step}
+use Rattle.gq_code.proofs.Coded_body_decoding.{then_along}
+use Rattle.gq_code.proofs.Coded_section_limits.{limits_step}
 
 -- a bit for each
 pub local_bits_below : (locals : List ℕ) → local_bits locals < 2 ^ length locals

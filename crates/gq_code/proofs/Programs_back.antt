@@ -11,10 +11,10 @@ use Rattle.gq_model.specs.texts.Code.{IsProgram, are_sections, local_bits, limit
 use Rattle.gq_model.specs.texts.Decode.{Decoded, decoded_then, number_at, limits_at, decoded}
 use Rattle.gq_model.proofs.Code_laws.{number_at-spelled_2}
 use Rattle.gq_model.proofs.Decoded_programs.{all_in_order}
-use Rattle.gq_code.proofs.Programs.{Sections, bits_below}
+use Rattle.gq_code.proofs.Section_order_bits.{Sections, bits_below}
 use Rattle.gq_code.proofs.Limits_back.{local_bits_below, limits_back}
 use Rattle.gq_code.proofs.Sections_back.{ended, sections_back}
-use Rattle.gq_code.proofs.Sections.{program, decoded_sections}
+use Rattle.gq_code.proofs.Coded_section_limits.{program, decoded_sections}
 
 -- the program, if nothing follows it
 abbrev closed : List ℕ → Program → Decoded Program
@@ -76,28 +76,28 @@ refused_longer p b rest h = code_read p (b ∷ rest) (parts_of p h)
 
 -- PREFIXES
 
--- no code of a program is a proper front of another's
-pub no_front : (p q : Program) (rest : List ℕ) → IsProgram p → IsProgram q → code_of q ≡ code_of p ++ rest → (p ≡ q) × (rest ≡ [])
-no_front p q [] h k e = (ok_same p q (sym (read_back p h) ∙ (ap decoded (sym (e ∙ append-nil (code_of p))) ∙ read_back q k)), refl)
+-- no code of a program is a proper prefix of another's
+pub no_prefix : (p q : Program) (rest : List ℕ) → IsProgram p → IsProgram q → code_of q ≡ code_of p ++ rest → (p ≡ q) × (rest ≡ [])
+no_prefix p q [] h k e = (ok_same p q (sym (read_back p h) ∙ (ap decoded (sym (e ∙ append-nil (code_of p))) ∙ read_back q k)), refl)
   where
     ok_same : (p q : Program) → ◌≡◌ {A = Decoded Program} (Ok p) (Ok q) → p ≡ q
     ok_same p q e = cc
-no_front p q (b ∷ rest) h k e = absurd (no_both q (sym (read_back q k) ∙ (ap decoded e ∙ refused_longer p b rest h)))
+no_prefix p q (b ∷ rest) h k e = absurd (no_both q (sym (read_back q k) ∙ (ap decoded e ∙ refused_longer p b rest h)))
   where
     no_both : (q : Program) → ◌≡◌ {A = Decoded Program} (Ok q) (Err TrailingBytes) → ⊥
     no_both q e = cc
 
--- of two lists with the same beginning one is a front of the other
-abbrev Fronts : List ℕ → List ℕ → List ℕ → List ℕ → Type 0
-Fronts xs ys a b = ((r : List ℕ) × (ys ≡ xs ++ r) × (a ≡ r ++ b)) ⊎ ((r : List ℕ) × (xs ≡ ys ++ r) × (b ≡ r ++ a))
+-- of two lists with the same beginning one is a prefix of the other
+abbrev Prefixes : List ℕ → List ℕ → List ℕ → List ℕ → Type 0
+Prefixes xs ys a b = ((r : List ℕ) × (ys ≡ xs ++ r) × (a ≡ r ++ b)) ⊎ ((r : List ℕ) × (xs ≡ ys ++ r) × (b ≡ r ++ a))
 
-fronts : (xs ys a b : List ℕ) → xs ++ a ≡ ys ++ b → Fronts xs ys a b
-fronts [] ys a b e = inl (ys, refl, e)
-fronts (x ∷ xs) [] a b e = inr (x ∷ xs, refl, sym e)
-fronts (x ∷ xs) (y ∷ ys) a b e =
+prefixes : (xs ys a b : List ℕ) → xs ++ a ≡ ys ++ b → Prefixes xs ys a b
+prefixes [] ys a b e = inl (ys, refl, e)
+prefixes (x ∷ xs) [] a b e = inr (x ∷ xs, refl, sym e)
+prefixes (x ∷ xs) (y ∷ ys) a b e =
     let first : x ≡ y = cc in
     let rest : xs ++ a ≡ ys ++ b = cc in
-    elim (fronts xs ys a b rest) [
+    elim (prefixes xs ys a b rest) [
       | inl r ↦ inl (r.0, rw (← first) (ap (λ l. x ∷ l) r.1), r.2)
       | inr r ↦ inr (r.0, rw first (ap (λ l. y ∷ l) r.1), r.2)
     ]
@@ -105,7 +105,7 @@ fronts (x ∷ xs) (y ∷ ys) a b e =
 -- where two codes begin the same bytes, they are one, and so is what follows them
 pub one_spelling : (p q : Program) (a b : List ℕ) → IsProgram p → IsProgram q → code_of p ++ a ≡ code_of q ++ b → (p ≡ q) × (a ≡ b)
 one_spelling p q a b h k e =
-    elim (fronts (code_of p) (code_of q) a b e) [
-      | inl r ↦ let same = no_front p q r.0 h k r.1 in (same.0, r.2 ∙ ap (λ l. l ++ b) same.1)
-      | inr r ↦ let same = no_front q p r.0 k h r.1 in (sym same.0, sym (r.2 ∙ ap (λ l. l ++ a) same.1))
+    elim (prefixes (code_of p) (code_of q) a b e) [
+      | inl r ↦ let same = no_prefix p q r.0 h k r.1 in (same.0, r.2 ∙ ap (λ l. l ++ b) same.1)
+      | inr r ↦ let same = no_prefix q p r.0 k h r.1 in (sym same.0, sym (r.2 ∙ ap (λ l. l ++ a) same.1))
     ]

@@ -4,8 +4,8 @@ use Rattle.gq_model.specs.declared.program.Section.{Section}
 use Rattle.gq_model.specs.machine.Program.{Statements, spelled}
 use Rattle.gq_model.specs.texts.Code.{body_code, sections_code}
 use Rattle.gq_code.specs.Codes.{has_code}
-use Rattle.gq_code.specs.internal.Sections.{have_codes}
-use Rattle.gq_code.proofs.Codes.{parts}
+use Rattle.gq_code.specs.internal.Coded_sections.{have_codes}
+use Rattle.gq_code.proofs.Coded_statements.{parts}
 
 next_is : (sections : List (Section × Statements)) (i : ℕ) (x : Section × Statements) → i < length sections → x ≡ get_or sections i x →
     drop i sections ≡ x ∷ drop (i + 1) sections

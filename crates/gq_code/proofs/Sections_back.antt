@@ -15,10 +15,10 @@ use Rattle.gq_model.specs.texts.Code.{greatest_statements}
 use Rattle.gq_model.specs.texts.Decode.{Decoded, sections_at}
 use Rattle.gq_model.proofs.Decoded_programs.{InOrder}
 use Rattle.gq_code.specs.internal.Bodies.{section_at, after_sections}
-use Rattle.gq_code.proofs.Bodies.{then_along}
+use Rattle.gq_code.proofs.Coded_body_decoding.{then_along}
 use Rattle.gq_code.proofs.Bodies_back.{section_back}
-use Rattle.gq_code.proofs.Programs.{Sections, first_of, number_below}
-use Rattle.gq_code.proofs.Sections.{section_given, section_absent}
+use Rattle.gq_code.proofs.Section_order_bits.{Sections, first_of, number_below}
+use Rattle.gq_code.proofs.Coded_section_limits.{section_given, section_absent}
 
 -- ORDER
 

@@ -22,8 +22,8 @@ abbrev pub OnlyCodeIsRead : Type 0
 OnlyCodeIsRead = (bytes : List ℕ) (p : Program) → AreBytes bytes → decoded bytes ≡ Ok p → IsProgram p × (code_of p ≡ bytes)
 
 -- programs with the same code are the same
-abbrev pub CodeTellsPrograms : Type 0
-CodeTellsPrograms = (p q : Program) → IsProgram p → IsProgram q → code_of p ≡ code_of q → p ≡ q
+abbrev pub CodeReportsPrograms : Type 0
+CodeReportsPrograms = (p q : Program) → IsProgram p → IsProgram q → code_of p ≡ code_of q → p ≡ q
 
 -- no two codes begin the same bytes: none is a proper prefix of another
 abbrev pub CodeEndsItself : Type 0
@@ -31,4 +31,4 @@ CodeEndsItself = (p q : Program) (a b : List ℕ) → IsProgram p → IsProgram 
 
 -- a part of a program's code, from its first byte but not up to its last, is refused
 abbrev pub PartsAreRefused : Type 0
-PartsAreRefused = (p : Program) (front : List ℕ) (b : ℕ) (rest : List ℕ) → IsProgram p → code_of p ≡ front ++ b ∷ rest → IsErr (decoded front)
+PartsAreRefused = (p : Program) (prefix : List ℕ) (b : ℕ) (rest : List ℕ) → IsProgram p → code_of p ≡ prefix ++ b ∷ rest → IsErr (decoded prefix)

@@ -1,3 +1,3 @@
 pub mod Decoding
 pub mod Bodies
-pub mod Sections
+pub mod Coded_sections

@@ -2,22 +2,22 @@
 ghost use Rattle.std.specs.Prelude.{◌≡◌, ◌≤◌, ◌∷◌, [], IfOk, OnOk, Ok, alloc_error, length};
 ghost use Rattle.gq_model.specs.machine.Program.{Do, Done, ◌then◌};
 ghost use Rattle.gq_model.specs.texts.Decode.{one_more, limits_at, sections_at, operands_at, decoded};
-ghost use Rattle.gq_program.specs.Spelling.{shape_of};
-ghost use Rattle.gq_program.specs.Trees.{tree_of};
+ghost use Rattle.gq_program.specs.Statement_table.{shape_of};
+ghost use Rattle.gq_program.specs.Statement_trees.{tree_of};
 ghost use Rattle.gq_code.specs.internal.Decoding.{Answers, limit_at};
 ghost use Rattle.gq_code.specs.internal.Bodies.{Reads, body_in, opened_at, arms_at, round_at, choice_with, round_with, statement_with};
 ghost use Rattle.gq_code.specs.internal.Bodies.{instruction_at, put_at, placed, section_at};
 ghost use Rattle.gq_code.specs.Decoded.{IsDecoded};
 ghost use Rattle.gq_code.specs.declared.decode.DecodeError.TheVariants.{Memory, Fault};
 
-use crate::operands::{
+use crate::coded_operands::{
     cut, number, open, pool, say, with_amount, with_bytes, with_number, with_slot,
 };
 use crate::program_code::NO_LIMIT;
 use gq_model::fault::CodeFault;
 use gq_model::limits::{GREATEST_DEPTH, GREATEST_STATEMENTS, LOCALS};
 use gq_model::program::{Instruction, Section};
-use gq_program::program::{Body, Program, Statement};
+use gq_program::program_tree::{Body, Program, Statement};
 use gq_program::{Shape, shape_of_opcode};
 use std::alloc::{AllocError, AllocFailed, Global};
 use thiserror::Error;
@@ -115,7 +115,7 @@ fn push(body: &mut Body, instruction: Instruction) -> Result<(), AllocError>
     body.push(Statement::Plain(instruction))
 }
 
-/// Puts `say` at the end, whose text stands in front, and gives what follows it. It and the two after it stand alone, since few statements have a
+/// Puts `say` at the end, whose text stands first, and gives what follows it. It and the two after it stand alone, since few statements have a
 /// text, a name or three operands.
 #[inline(never)]
 fn push_said<'a>(alloc: Global, body: &mut Body, bytes: &'a [u8]) -> Result<&'a [u8], DecodeError>
@@ -127,7 +127,7 @@ fn push_said<'a>(alloc: Global, body: &mut Body, bytes: &'a [u8]) -> Result<&'a 
     Ok(rest)
 }
 
-/// Puts `pool` at the end, whose operands stand in front, and gives what follows them.
+/// Puts `pool` at the end, whose operands stand first, and gives what follows them.
 #[inline(never)]
 fn push_pool<'a>(body: &mut Body, bytes: &'a [u8]) -> Result<&'a [u8], DecodeError>
     ensures read { Reads (λ rest. (body.new, rest.now)) result (put_at body.old (operands_at (shape_of Shape.Pool) bytes.now)) }
@@ -138,7 +138,7 @@ fn push_pool<'a>(body: &mut Body, bytes: &'a [u8]) -> Result<&'a [u8], DecodeErr
     Ok(rest)
 }
 
-/// Puts `open` at the end, whose operands stand in front, and gives what follows them.
+/// Puts `open` at the end, whose operands stand first, and gives what follows them.
 #[inline(never)]
 fn push_open<'a>(body: &mut Body, bytes: &'a [u8]) -> Result<&'a [u8], DecodeError>
     ensures read { Reads (λ rest. (body.new, rest.now)) result (put_at body.old (operands_at (shape_of Shape.Open) bytes.now)) }
@@ -149,7 +149,7 @@ fn push_open<'a>(body: &mut Body, bytes: &'a [u8]) -> Result<&'a [u8], DecodeErr
     Ok(rest)
 }
 
-/// Puts a statement with no statement in it at the end, whose operands stand in front, in a way of its own for each shape, and gives what follows
+/// Puts a statement with no statement in it at the end, whose operands stand first, in a way of its own for each shape, and gives what follows
 /// them.
 fn push_plain<'a>(
     alloc: Global,
@@ -369,7 +369,7 @@ fn sections(
 }
 
 /// The program that these bytes spell, or their first fault: the limits of the locals, which sections are there, and each
-/// section's statements. Else refused only for want of host memory.
+/// section's statements. Else refused only if the host refuses memory.
 pub fn decode(alloc: Global, bytes: &[u8]) -> Result<Program, DecodeError>
     ensures { IsDecoded result (decoded bytes.now) }
 {

@@ -5,12 +5,12 @@ ghost use Rattle.gq_model.specs.texts.Operands.{opcode, slot_code, is_slot, is_s
 ghost use Rattle.gq_model.specs.texts.Operands.{instruction_code};
 ghost use Rattle.gq_model.specs.machine.Lists.{all_of};
 ghost use Rattle.gq_model.specs.texts.Code.{body_code, body_length};
-ghost use Rattle.gq_program.specs.Trees.{tree_of};
+ghost use Rattle.gq_program.specs.Statement_trees.{tree_of};
 ghost use Rattle.gq_code.specs.Codes.{has_code};
 
-use gq_model::program::{Instruction, OperandStatement, Place};
+use gq_model::program::{Instruction, OperandSlot, OperandStatement};
 use gq_program::Shape;
-use gq_program::program::{Body, Statement};
+use gq_program::program_tree::{Body, Statement};
 use std::alloc::{AllocError, Global};
 
 /// Puts a number at the end, in so many bytes, the least first.
@@ -33,14 +33,14 @@ pub fn opcode(instruction: &Instruction) -> u8
 }
 
 /// Puts a slot at the end: session slots follow the own ones, and the object follows them.
-fn write_place(out: &mut Vec<u8>, place: Place) -> Result<(), AllocError>
+fn write_place(out: &mut Vec<u8>, place: OperandSlot) -> Result<(), AllocError>
     requires { IsTrue (is_slot_or_object place) }
     ensures { OnOk result (out.new.items ≡ out.old.items ++ slot_code place ∷ []) }
 {
     let code = match place {
-        Place::Own(i) => i,
-        Place::Shared(i) => 64 + i,
-        Place::Object => 72,
+        OperandSlot::Own(i) => i,
+        OperandSlot::Shared(i) => 64 + i,
+        OperandSlot::Object => 72,
     };
     out.push(code)?;
     Ok(())
@@ -152,7 +152,7 @@ fn write_statement(
     }
 }
 
-/// The code of a list of statements, in which every operand is in its range. Refused only for want of host memory.
+/// The code of a list of statements, in which every operand is in its range. Refused only if the host refuses memory.
 #[cycle(bodies)]
 pub fn encode_body(alloc: Global, body: &Body) -> Result<Vec<u8>, AllocError>
     requires { IsTrue (has_code body.now) }

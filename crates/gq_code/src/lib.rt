@@ -9,13 +9,13 @@
 //! ```
 #![tactic(auto)]
 
+pub mod code_laws;
+mod coded_operands;
 pub mod decode;
 pub mod encode;
-pub mod laws;
-mod operands;
 pub mod program_code;
 
 pub use gq_program::{
-    Body, Form, Instruction, Interface, Interfaces, Name, Operator, Place, Program, Section,
-    Statement, Text, Upgrade, Width, interface, program, shapes as spelling,
+    Body, Form, Instruction, Interface, Interfaces, Name, OperandSlot, Operator, Program, Section,
+    Statement, Text, Upgrade, Width, interface, program_tree, shapes as spelling,
 };

@@ -1,11 +1,11 @@
 // Whole programs as bytes.
 ghost use Rattle.std.specs.Prelude.{◌≡◌, ◌≤◌, ◌<◌, ◌^◌, ◌++◌, OnOk, IfOk, IsTrue, length};
 ghost use Rattle.gq_model.specs.texts.Code.{is_section, are_sections, section_number, section_bits, local_bits, limits_code, sections_code, code_of};
-ghost use Rattle.gq_code.specs.internal.Sections.{have_codes};
+ghost use Rattle.gq_code.specs.internal.Coded_sections.{have_codes};
 
 use crate::encode::{encode_body, write_number};
 use gq_model::program::Section;
-use gq_program::program::{Body, Program};
+use gq_program::program_tree::{Body, Program};
 use std::alloc::{AllocError, Global};
 
 /// The number of a local without a limit.

@@ -1,5 +1,5 @@
-pub mod Asked
-pub mod Rows
+pub mod Parser_answer_command
+pub mod Parser_value_rows
 pub mod Stored_laws
 pub mod Rows_stored
-mod Numbers
+mod Number_word_reading

@@ -1,7 +1,7 @@
 -- Texts in the stored form, parted, by computation.
 use Rattle.std.proofs.Common.{◌≡◌, [], refl}
 use Rattle.std.specs.Prelude.{codes}
-use Rattle.gq_command.specs.Stored.{parted}
+use Rattle.gq_command.specs.Stored_run.{parted}
 
 turns_follow : parted (codes "version = 1\n%%\nhello 2\n") ≡ (codes "version = 1\n", codes "hello 2\n")
 turns_follow = refl

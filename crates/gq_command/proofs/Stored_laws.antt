@@ -4,7 +4,7 @@ use Rattle.std.proofs.Common.{length-append, append_assoc, append-nil, arith, co
 use Rattle.std.proofs.Math.Seq.{take-append_seam}
 use Rattle.gq_model.specs.machine.Program.{text_eq}
 use Rattle.gq_model.specs.texts.Letters.{fed_lines, onto_first}
-use Rattle.gq_command.specs.Stored.{IsFirstLine, is_border, fed, joined, parted_lines, parted}
+use Rattle.gq_command.specs.Stored_run.{IsFirstLine, is_border, fed, joined, parted_lines, parted}
 
 -- BORDERS
 
@@ -37,12 +37,12 @@ border-long (a ∷ b ∷ c ∷ d ∷ rest) h = never_both (a == 37) (b == 37)
 
 -- more bytes before the first of these lines
 abbrev pub onto : List ℕ → List (List ℕ) → List (List ℕ)
-onto front [] = front ∷ []
-onto front (line ∷ rest) = (front ++ line) ∷ rest
+onto prefix [] = prefix ∷ []
+onto prefix (line ∷ rest) = (prefix ++ line) ∷ rest
 
-onto-more : (front : List ℕ) (c : ℕ) (lines : List (List ℕ)) → onto front (onto_first c lines) ≡ onto (front ++ c ∷ []) lines
-onto-more front c [] = refl
-onto-more front c (line ∷ rest) = ap (λ (x : List ℕ). x ∷ rest) (sym (append_assoc front (c ∷ []) line))
+onto-more : (prefix : List ℕ) (c : ℕ) (lines : List (List ℕ)) → onto prefix (onto_first c lines) ≡ onto (prefix ++ c ∷ []) lines
+onto-more prefix c [] = refl
+onto-more prefix c (line ∷ rest) = ap (λ (x : List ℕ). x ∷ rest) (sym (append_assoc prefix (c ∷ []) line))
 
 onto-nothing : (c : ℕ) (lines : List (List ℕ)) → onto_first c lines ≡ onto [] (onto_first c lines)
 onto-nothing c [] = refl
@@ -83,24 +83,24 @@ joined-lines (c ∷ rest) = go (joined-lines rest) (c == 10) refl
     go below false e = joined-onto_first c (fed_lines rest) ∙ ap (λ (y : List ℕ). c ∷ y) below
 
 -- a byte that is no line feed goes to the line
-pub lines-next : (front rest : List ℕ) (c : ℕ) → c ≢ 10 → onto front (fed_lines (c ∷ rest)) ≡ onto (front ++ c ∷ []) (fed_lines rest)
-lines-next front rest c ne =
-    ap (λ b. onto front (cond b ([] ∷ fed_lines rest) (onto_first c (fed_lines rest)))) (ne_eqb c 10 ne) ∙ onto-more front c (fed_lines rest)
+pub lines-next : (prefix rest : List ℕ) (c : ℕ) → c ≢ 10 → onto prefix (fed_lines (c ∷ rest)) ≡ onto (prefix ++ c ∷ []) (fed_lines rest)
+lines-next prefix rest c ne =
+    ap (λ b. onto prefix (cond b ([] ∷ fed_lines rest) (onto_first c (fed_lines rest)))) (ne_eqb c 10 ne) ∙ onto-more prefix c (fed_lines rest)
 
 -- PARTS
 
 -- more of the scenario before its rest
 abbrev pub behind : List ℕ → List ℕ × List ℕ → List ℕ × List ℕ
-behind front p = (front ++ p.0, p.1)
+behind prefix p = (prefix ++ p.0, p.1)
 
--- how far a text has been parted: its front is scenario
+-- how far a text has been parted: its prefix is scenario
 pub record IsParted (input rest : List ℕ) : Type 0 where
-  pub front : List ℕ
-  pub text : input ≡ front ++ rest
-  pub parts : parted input ≡ behind front (parted rest)
+  pub prefix : List ℕ
+  pub text : input ≡ prefix ++ rest
+  pub parts : parted input ≡ behind prefix (parted rest)
 
 pub parted-start : (input : List ℕ) → IsParted input input
-parted-start input = record { front = []; text = refl; parts = refl }
+parted-start input = record { prefix = []; text = refl; parts = refl }
 
 parted-next : (rest line more : List ℕ) → IsFirstLine rest line (Some more) → is_border line ≡ false → parted rest ≡ behind (line ++ 10 ∷ []) (parted more)
 parted-next rest line more first plain =
@@ -111,10 +111,11 @@ parted-next rest line more first plain =
 
 pub parted-step : (input rest line more : List ℕ) → IsParted input rest → IsFirstLine rest line (Some more) → is_border line ≡ false → IsParted input more
 parted-step input rest line more so_far first plain = record {
-  front = so_far.front ++ (line ++ 10 ∷ []);
-  text = so_far.text ∙ ap (λ t. so_far.front ++ t) (first.0 ∙ sym (append_assoc line (10 ∷ []) more)) ∙ sym (append_assoc so_far.front (line ++ 10 ∷ []) more);
-  parts = so_far.parts ∙ ap (behind so_far.front) (parted-next rest line more first plain)
-      ∙ ap (λ (t : List ℕ). (t, (parted more).1)) (sym (append_assoc so_far.front (line ++ 10 ∷ []) (parted more).0));
+  prefix = so_far.prefix ++ (line ++ 10 ∷ []);
+  text = so_far.text ∙ ap (λ t. so_far.prefix ++ t) (first.0 ∙ sym (append_assoc line (10 ∷ []) more)) ∙ sym
+      (append_assoc so_far.prefix (line ++ 10 ∷ []) more);
+  parts = so_far.parts ∙ ap (behind so_far.prefix) (parted-next rest line more first plain)
+      ∙ ap (λ (t : List ℕ). (t, (parted more).1)) (sym (append_assoc so_far.prefix (line ++ 10 ∷ []) (parted more).0));
 }
 
 -- what follows a border, if anything does
@@ -130,16 +131,16 @@ parted-border rest line (Some more) first bounded =
     ∙ ap (λ b. cond b ([], joined (fed_lines more)) (line ++ fed (fed_lines more) (parted more).0, (parted more).1)) bounded
     ∙ ap (λ (t : List ℕ). ([], t)) (joined-lines more)
 
-take_front : (input front rest : List ℕ) → input ≡ front ++ rest → take (length input - length rest) input ≡ front
-take_front input front rest e =
-    let n : length input - length rest ≡ length front = omega (arith, ap length e, length-append front rest) in
-    ap₂ (λ (k : ℕ) (t : List ℕ). take k t) n e ∙ take-append_seam front rest
+take_prefix : (input prefix rest : List ℕ) → input ≡ prefix ++ rest → take (length input - length rest) input ≡ prefix
+take_prefix input prefix rest e =
+    let n : length input - length rest ≡ length prefix = omega (arith, ap length e, length-append prefix rest) in
+    ap₂ (λ (k : ℕ) (t : List ℕ). take k t) n e ∙ take-append_seam prefix rest
 
 pub border-scenario : (input rest line : List ℕ) (more : Option (List ℕ)) → IsParted input rest → IsFirstLine rest line more → is_border line ≡ true
     → take (length input - length rest) input ≡ (parted input).0
 border-scenario input rest line more so_far first bounded =
-    take_front input so_far.front rest so_far.text
-    ∙ sym (ap (λ p. p.0) so_far.parts ∙ ap (λ p. so_far.front ++ p.0) (parted-border rest line more first bounded) ∙ append-nil so_far.front)
+    take_prefix input so_far.prefix rest so_far.text
+    ∙ sym (ap (λ p. p.0) so_far.parts ∙ ap (λ p. so_far.prefix ++ p.0) (parted-border rest line more first bounded) ∙ append-nil so_far.prefix)
 
 pub border-turns : (input rest line : List ℕ) (more : Option (List ℕ)) → IsParted input rest → IsFirstLine rest line more → is_border line ≡ true
     → text_after more ≡ (parted input).1
@@ -153,7 +154,7 @@ parted-last rest line first plain =
 
 pub last-parted : (input rest line : List ℕ) → IsParted input rest → IsFirstLine rest line None → is_border line ≡ false → parted input ≡ (input, [])
 last-parted input rest line so_far first plain =
-    so_far.parts ∙ ap (behind so_far.front) (parted-last rest line first plain) ∙ ap (λ (t : List ℕ). (t, [])) (sym so_far.text)
+    so_far.parts ∙ ap (behind so_far.prefix) (parted-last rest line first plain) ∙ ap (λ (t : List ℕ). (t, [])) (sym so_far.text)
 
 pub fallback : (after : Option (Bor (List ℕ))) (empty result : Bor (List ℕ)) → empty.now ≡ [] → result ≡ unwrap_or after empty
     → result.now ≡ text_after (option_map (λ s. s.now) after)

@@ -2,4 +2,4 @@ pub mod CommandLine
 pub mod Status
 pub mod internal
 pub mod Input
-pub mod Stored
+pub mod Stored_run

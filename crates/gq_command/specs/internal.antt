@@ -1,2 +1,2 @@
-pub mod Entries
+pub mod Command_entries
 pub mod Meant

@@ -72,11 +72,11 @@ pub enum Command {
     OfTurns(TurnsCommand, String, String),
     /// Write the scenario at this path with this fitted.
     Fit(Fitting, String),
-    /// Tell all that is wrong with the scenario at the first path and, where there is a second, with the turns there.
+    /// Report all that is wrong with the scenario at the first path and, where there is a second, with the turns there.
     Faults(String, Option<String>),
-    /// Tell what this code of a fault means, or without one list all.
+    /// Report what this code of a fault means, or without one list all.
     Rule(Option<String>),
-    /// Tell which version of the program this is.
+    /// Report which version of the program this is.
     Version,
     /// Run the stored form on standard input.
     Stored,

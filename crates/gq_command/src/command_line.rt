@@ -3,7 +3,7 @@ ghost use Rattle.std.specs.Prelude.{◌≡◌, ◌≢◌, IfOk, IfErr, None, Som
 ghost use Rattle.clap.specs.Words.{first_of, found_of, kind_of, rows_of, subcommand_rows_of};
 ghost use Rattle.gq_command.specs.CommandLine.{IsAsked, IsMisused, IsUsage, IsWanted, wanted_in, wanted_of};
 ghost use Rattle.gq_command.specs.CommandLine as words;
-ghost use Rattle.gq_command.specs.internal.Entries.{IsShown};
+ghost use Rattle.gq_command.specs.internal.Command_entries.{IsShown};
 ghost use Rattle.gq_command.specs.internal.Meant.{meant};
 
 use crate::command::{Command, CommandError, Fitting, LeafCommand, ScenarioCommand, TurnsCommand};

@@ -3,7 +3,7 @@ ghost use Rattle.std.specs.Prelude.{◌≡◌, ◌++◌, IfOk, false, map, codes
 ghost use Rattle.clap.specs.declared.builder.command.Command.TheViews.{out-Command};
 ghost use Rattle.clap.specs.Words.{app_of, new_app, new_rule, rule_of, with_rule, with_subcommand};
 ghost use Rattle.gq_command.specs.CommandLine.{of_scenario, trade, with_commands, word_rule};
-ghost use Rattle.gq_command.specs.internal.Entries.{IsParserOf, entered, option_rule_of, optional, taking};
+ghost use Rattle.gq_command.specs.internal.Command_entries.{IsParserOf, entered, option_rule_of, optional, taking};
 
 use crate::command::VERSION;
 use clap::builder::ValueParser;
@@ -12,7 +12,7 @@ use std::alloc::{AllocError, Global};
 
 // What help says of a command, and what it takes.
 #[derive(Clone, Copy)]
-pub(crate) struct Entry<'a> {
+pub(crate) struct CommandEntry<'a> {
     name: &'a str,
     takes: Takes,
     flag: Option<Flag<'a>>,
@@ -52,7 +52,7 @@ pub(crate) enum FlagKind {
     Number,
 }
 
-const CHECK: Entry<'static> = Entry {
+const CHECK: CommandEntry<'static> = CommandEntry {
     name: "check",
     takes: Takes::Scenario,
     flag: None,
@@ -60,7 +60,7 @@ const CHECK: Entry<'static> = Entry {
     usage: "trade check <SCENARIO>",
 };
 
-const RUN: Entry<'static> = Entry {
+const RUN: CommandEntry<'static> = CommandEntry {
     name: "run",
     takes: Takes::Turns,
     flag: None,
@@ -68,7 +68,7 @@ const RUN: Entry<'static> = Entry {
     usage: "trade run <SCENARIO> <TURNS>",
 };
 
-const ASM: Entry<'static> = Entry {
+const ASM: CommandEntry<'static> = CommandEntry {
     name: "asm",
     takes: Takes::Leaf,
     flag: None,
@@ -76,7 +76,7 @@ const ASM: Entry<'static> = Entry {
     usage: "trade asm <SCENARIO> <LEAF>",
 };
 
-const LIST: Entry<'static> = Entry {
+const LIST: CommandEntry<'static> = CommandEntry {
     name: "list",
     takes: Takes::Leaf,
     flag: Some(Flag {
@@ -88,7 +88,7 @@ const LIST: Entry<'static> = Entry {
     usage: "trade list [--numbers] <SCENARIO> <LEAF>",
 };
 
-const TREE: Entry<'static> = Entry {
+const TREE: CommandEntry<'static> = CommandEntry {
     name: "tree",
     takes: Takes::Scenario,
     flag: Some(Flag {
@@ -100,7 +100,7 @@ const TREE: Entry<'static> = Entry {
     usage: "trade tree [--dot] <SCENARIO>",
 };
 
-const TURNS: Entry<'static> = Entry {
+const TURNS: CommandEntry<'static> = CommandEntry {
     name: "turns",
     takes: Takes::Scenario,
     flag: Some(Flag {
@@ -112,7 +112,7 @@ const TURNS: Entry<'static> = Entry {
     usage: "trade turns [--seed <N>] <SCENARIO>",
 };
 
-const RACES: Entry<'static> = Entry {
+const RACES: CommandEntry<'static> = CommandEntry {
     name: "races",
     takes: Takes::Scenario,
     flag: None,
@@ -120,7 +120,7 @@ const RACES: Entry<'static> = Entry {
     usage: "trade races <SCENARIO>",
 };
 
-const TRACE: Entry<'static> = Entry {
+const TRACE: CommandEntry<'static> = CommandEntry {
     name: "trace",
     takes: Takes::Turns,
     flag: Some(Flag {
@@ -132,7 +132,7 @@ const TRACE: Entry<'static> = Entry {
     usage: "trade trace [--all] <SCENARIO> <TURNS>",
 };
 
-const STATE: Entry<'static> = Entry {
+const STATE: CommandEntry<'static> = CommandEntry {
     name: "state",
     takes: Takes::Turns,
     flag: Some(Flag {
@@ -144,7 +144,7 @@ const STATE: Entry<'static> = Entry {
     usage: "trade state [--at <N>] <SCENARIO> <TURNS>",
 };
 
-const PEAKS: Entry<'static> = Entry {
+const PEAKS: CommandEntry<'static> = CommandEntry {
     name: "peaks",
     takes: Takes::Turns,
     flag: None,
@@ -152,7 +152,7 @@ const PEAKS: Entry<'static> = Entry {
     usage: "trade peaks <SCENARIO> <TURNS>",
 };
 
-const SIZE: Entry<'static> = Entry {
+const SIZE: CommandEntry<'static> = CommandEntry {
     name: "size",
     takes: Takes::Scenario,
     flag: None,
@@ -160,7 +160,7 @@ const SIZE: Entry<'static> = Entry {
     usage: "trade size <SCENARIO>",
 };
 
-const FIT: Entry<'static> = Entry {
+const FIT: CommandEntry<'static> = CommandEntry {
     name: "fit",
     takes: Takes::Scenario,
     flag: Some(Flag {
@@ -172,7 +172,7 @@ const FIT: Entry<'static> = Entry {
     usage: "trade fit [--donations] <SCENARIO>",
 };
 
-const WHY: Entry<'static> = Entry {
+const WHY: CommandEntry<'static> = CommandEntry {
     name: "why",
     takes: Takes::Leaf,
     flag: None,
@@ -180,7 +180,7 @@ const WHY: Entry<'static> = Entry {
     usage: "trade why <SCENARIO> <LEAF>",
 };
 
-const FAULTS: Entry<'static> = Entry {
+const FAULTS: CommandEntry<'static> = CommandEntry {
     name: "faults",
     takes: Takes::MaybeTurns,
     flag: None,
@@ -188,7 +188,7 @@ const FAULTS: Entry<'static> = Entry {
     usage: "trade faults <SCENARIO> [TURNS]",
 };
 
-const RULE: Entry<'static> = Entry {
+const RULE: CommandEntry<'static> = CommandEntry {
     name: "rule",
     takes: Takes::Code,
     flag: None,
@@ -197,7 +197,7 @@ const RULE: Entry<'static> = Entry {
 };
 
 // All commands.
-const ENTRIES: [Entry<'static>; 15] = [
+const ENTRIES: [CommandEntry<'static>; 15] = [
     CHECK, RUN, ASM, LIST, TREE, SIZE, FIT, WHY, TURNS, RACES, TRACE, STATE, PEAKS, FAULTS, RULE,
 ];
 
@@ -256,7 +256,7 @@ pub(crate) fn command_line<'a>(alloc: Global) -> Result<Command<'a>, AllocError>
 fn with_entries<'a>(
     alloc: Global,
     mut line: Command<'a>,
-    entries: &[Entry<'a>],
+    entries: &[CommandEntry<'a>],
 ) -> Result<Command<'a>, AllocError>
     ensures { IfOk result (λ new. app_of new ≡ with_commands (app_of line.entry) (map entered entries.now)) }
 {
@@ -270,7 +270,7 @@ fn with_entries<'a>(
 fn with_entry<'a>(
     alloc: Global,
     line: Command<'a>,
-    entry: &Entry<'a>,
+    entry: &CommandEntry<'a>,
 ) -> Result<Command<'a>, AllocError>
     ensures { IfOk result (λ new. app_of new ≡ with_subcommand (app_of line.entry) (entered entry.now).top) }
 {
@@ -281,7 +281,7 @@ fn with_entry<'a>(
 }
 
 // The command of an entry, for the parser.
-fn command_of<'a>(alloc: Global, entry: &Entry<'a>) -> Result<Command<'a>, AllocError>
+fn command_of<'a>(alloc: Global, entry: &CommandEntry<'a>) -> Result<Command<'a>, AllocError>
     ensures { IfOk result (λ command. IsParserOf (entered entry.now) command) }
 {
     let command = with_words(alloc, entry.name, entry.takes)?;

@@ -9,8 +9,8 @@ const INDENT: &str = "  ";
 // What the parser says of a command that is like the first word, up to its name.
 const SIMILAR: &str = "  tip: a similar subcommand exists: '";
 
-/// The lines that say what is wrong with these words, each indented by two blanks: those of the parser's error up to its usage, without empty ones, and the
-/// usage of the command that the first word names, or of the one that is like it.
+/// The lines that say what is wrong with these words, each indented by two blanks. They are those of the parser's error up to its usage, without empty ones.
+/// Then comes the usage of the command that the first word names, or of the one that is like it.
 pub(crate) fn misuse(alloc: Global, error: &Error, words: &[&str]) -> Result<String, AllocError> {
     let said = format!(in alloc; "{error}")?;
     let mut text = String::new(alloc);

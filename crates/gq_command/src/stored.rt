@@ -1,6 +1,6 @@
 //! The stored form of a run: a scenario, a line `%%` and turns in one text.
 ghost use Rattle.std.specs.Prelude.{◌≡◌, option_map};
-ghost use Rattle.gq_command.specs.Stored.{IsFirstLine, is_border, parted};
+ghost use Rattle.gq_command.specs.Stored_run.{IsFirstLine, is_border, parted};
 
 /// Parts a text into a scenario and turns: the lines before the first line that is `%%`, and what
 /// follows that line. A carriage return at the end of that line is no part of it, and the line may be

@@ -4,7 +4,7 @@ use Rattle.gq_tariff.specs.Prices.{up}
 use Rattle.gq_model.specs.declared.program.Form.TheVariants as form
 use Rattle.gq_model.specs.machine.World as world
 use Rattle.gq_store.specs.Store.{Store}
-use Rattle.gq_store.specs.Bytes.{listed}
+use Rattle.gq_store.specs.Chunk_bytes.{listed}
 use Rattle.gq_heap.specs.declared.heap.Place.{Place}
 use Rattle.gq_heap.specs.Heap.{IsFor, room_of, block_bytes}
 use Rattle.gq_sliced.specs.Slices.{HasSize, slice_bytes}

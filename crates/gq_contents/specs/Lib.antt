@@ -1,3 +1,3 @@
 pub mod Contents
-pub mod Kept
+pub mod Contents_invariant
 pub mod Paid

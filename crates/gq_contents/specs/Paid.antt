@@ -2,7 +2,7 @@
 use Rattle.std.specs.Prelude.{◌≡◌, ℕ, ◌+◌, ◌<◌, ◌≤◌, ◌↔◌, max, List, [], ◌∷◌, ◌++◌, Bool, false, IsTrue, Some, None, Result, IsErrOf}
 use Rattle.gq_tariff.specs.Prices.{classes}
 use Rattle.gq_model.specs.machine.Amounts.{Resource, Ram, Caps}
-use Rattle.gq_model.specs.machine.Prices.{heap as class_prices}
+use Rattle.gq_model.specs.machine.Resource_prices.{heap as class_prices}
 use Rattle.gq_model.specs.machine.Sums.{slot_price, slot_places}
 use Rattle.gq_model.specs.machine.World.{Slot}
 use Rattle.gq_store.specs.declared.GrowFault.{GrowFault}
@@ -13,7 +13,7 @@ use Rattle.gq_heap.specs.Heap.{peaks}
 use Rattle.gq_contents.specs.declared.content.Content.{Content}
 use Rattle.gq_contents.specs.declared.content.Content.TheVariants.{Empty}
 use Rattle.gq_contents.specs.Contents.{added, entry_in, seen, size_of, with_entry}
-use Rattle.gq_contents.specs.Kept.{Changes, KeepsContents}
+use Rattle.gq_contents.specs.Contents_invariant.{Changes, KeepsContents}
 
 -- what these contents cost
 abbrev pub cost : Resource → Store → List Content → ℕ
@@ -42,8 +42,8 @@ raised_by f (c ∷ cs) [] = []
 
 -- Whatever else is kept, the peaks are raised to what is in use with u in the place of t.
 abbrev pub Raises : Heap → Heap → Store → Store → Content → Content → Type 0
-Raises before after old new t u = (front back : List Content) → KeepsContents before old (front ++ t ∷ back)
-    → peaks after ≡ raised_by (places_used new (front ++ u ∷ back)) classes (peaks before)
+Raises before after old new t u = (prefix back : List Content) → KeepsContents before old (prefix ++ t ∷ back)
+    → peaks after ≡ raised_by (places_used new (prefix ++ u ∷ back)) classes (peaks before)
 
 -- A content of n bytes stands where there was none, which reads as this slot: all else that any heap has is kept, and it is paid.
 pub record IsMadeBeside (old new : Store) (t : Content) (slot : Slot) (n : ℕ) : Type 0 where

@@ -41,7 +41,7 @@ impl Content {
     ghost use Rattle.gq_contents.specs.Contents.{IsSlice, seen, shape_of, size_of, bytes_in, put_in, entry_count, entry_size, entry_in, with_entry, added};
     ghost use Rattle.gq_contents.specs.Contents.{removed};
     ghost use Rattle.gq_model.specs.machine.Memory.{entry_byte, entry_with};
-    ghost use Rattle.gq_contents.specs.Kept.{IsAmong, Changes};
+    ghost use Rattle.gq_contents.specs.Contents_invariant.{IsAmong, Changes};
     ghost use Rattle.gq_contents.specs.Paid.{IsMadeBeside, IsMadeIn, IsPaidWhereLeft, IsRaisedWhereLeft, Pays, TakesEntry};
 
     /// Whether it is nothing.

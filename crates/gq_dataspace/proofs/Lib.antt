@@ -1,9 +1,9 @@
-mod Apart
-mod Bytes
-mod Changes
-mod Clearing
-mod Edits
-mod Links
-mod Runs
-pub mod Callers
-mod Tables
+mod Disjoint_frame_lists
+mod Frame_list_bytes
+mod Dataspace_call_effects
+mod Cleared_dataspace_bytes
+mod Repeated_dataspace_sets
+mod Link_table_lists
+mod Consecutive_frame_runs
+pub mod Dataspace_caller_facts
+mod Dataspace_link_tables

@@ -1,6 +1,6 @@
 -- What a contract sees of a `Spaces`.
 use Rattle.std.specs.Prelude.{◌≡◌, ◌<◌, ◌-◌, ℕ, List, Option, Some, None, length, take, get_or, nat_lt, if◌then◌else◌, IsTrue}
-use Rattle.gq_pages.specs.Frames.{has_bytes, its_bytes}
+use Rattle.gq_pages.specs.Frame_map.{has_bytes, its_bytes}
 
 -- an entry for each number that a dataspace may have: its bytes, or None where there is none
 abbrev pub Contents : Type 0

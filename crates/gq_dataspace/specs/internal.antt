@@ -1,5 +1,5 @@
-pub mod Lists
-pub mod Trees
-pub mod Links
+pub mod Frame_lists
+pub mod List_trees
+pub mod Link_table
 pub mod Runs
-pub mod Holding
+pub mod Spaces_fields

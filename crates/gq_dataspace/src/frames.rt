@@ -1,7 +1,7 @@
 // The frames of each dataspace, in two tables of a fixed size. Nothing here knows what the frames have in them.
 ghost use Rattle.std.specs.Prelude.{◌≡◌, [], ◌∷◌, ◌++◌, ◌+◌, ◌*◌, ◌<◌, ◌≤◌, ◌^◌, length, replicate, slice_index, slice_set, IfOk};
-ghost use Rattle.gq_dataspace.specs.internal.Lists.{list_at, AreApart, IsOwn};
-ghost use Rattle.gq_dataspace.specs.internal.Trees.{parent_at};
+ghost use Rattle.gq_dataspace.specs.internal.Frame_lists.{list_at, AreApart, IsOwn};
+ghost use Rattle.gq_dataspace.specs.internal.List_trees.{parent_at};
 
 use std::alloc::{AllocError, Global};
 use std::marker::Model;
@@ -22,7 +22,7 @@ impl Model for FrameTable {
 
     ghost Value = { List (List ℕ) };
 
-    ghost use Rattle.gq_dataspace.specs.internal.Links.{table_view, IsTable};
+    ghost use Rattle.gq_dataspace.specs.internal.Link_table.{table_view, IsTable};
 
     ghost view = { table_view };
 

@@ -14,8 +14,8 @@
 //! ```
 #![tactic(auto)]
 
+mod frame_lists;
 mod frames;
-mod lists;
 mod spaces;
 
 pub use spaces::{DsId, SpaceFault, Spaces};

@@ -2,11 +2,11 @@
 ghost use Rattle.std.specs.Prelude.{◌≡◌, ◌+◌, ◌*◌, ◌%◌, ◌^◌, ◌<◌, ◌≤◌, ◌↔◌, ◌++◌, length, Some, None, slice_index, slice_set, IfOk, OnOk, OnErr, IsOk};
 ghost use Rattle.std.specs.Int.{w32, to_le_bytes};
 ghost use Rattle.gq_tariff.specs.Prices.{up};
-ghost use Rattle.gq_pages.specs.Bytes.{zeros, zeroed, word_at, with_bytes};
-ghost use Rattle.gq_pages.specs.Frames.{all_free, count_free, zero_frame, IsFree};
+ghost use Rattle.gq_pages.specs.Frame_bytes.{zeros, zeroed, word_at, with_bytes};
+ghost use Rattle.gq_pages.specs.Frame_map.{all_free, count_free, zero_frame, IsFree};
 ghost use Rattle.gq_dataspace.specs.Dataspaces.{IsLive, IsVacant, content_of, shorter};
 
-use crate::lists::FrameLists;
+use crate::frame_lists::FrameLists;
 use gq_pages::{FrameNo, Pages};
 use gq_tariff::price::PAGE;
 use gq_tariff::round_up;
@@ -30,7 +30,7 @@ pub enum SpaceFault {
 }
 
 /// Dataspaces, each a list of bytes in whole pages of 4096 bytes, wherever frames are free. A contract sees a list with an entry for each
-/// number that a dataspace may have, its bytes or `None`, and how many frames are free. No call but `new` takes host memory.
+/// number that a dataspace may have, its bytes or `None`, and how many frames are free. No call but `new` allocates host memory.
 #[derive(Drop)]
 pub struct Spaces {
     pages: Pages,
@@ -42,7 +42,7 @@ impl Model for Spaces {
 
     ghost Value = { Dataspaces };
 
-    ghost use Rattle.gq_dataspace.specs.internal.Holding.{spaces_view, IsSpaces};
+    ghost use Rattle.gq_dataspace.specs.internal.Spaces_fields.{spaces_view, IsSpaces};
 
     ghost view = { spaces_view };
 

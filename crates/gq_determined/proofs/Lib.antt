@@ -1,11 +1,11 @@
 pub mod machines
-pub mod passing
+pub mod passing_threads
 pub mod regions
-pub mod standing
-pub mod stepping
-pub mod running
-pub mod unread
-pub mod writing
-pub mod accounting
+pub mod thread_positions
+pub mod thread_steps
+pub mod thread_runs
+pub mod without_inputs
+pub mod written_lines
+pub mod rest_accounts
 -- worked examples
-mod Rows
+mod Counting_server_rows

@@ -1,6 +1,6 @@
 // Laws of scenarios without races.
 ghost use Rattle.gq_model.specs.machine.Scenario.{Scenario};
-ghost use Rattle.gq_laws.specs.Sound.{IsSound};
+ghost use Rattle.gq_laws.specs.Sound_scenarios.{IsSound};
 ghost use Rattle.gq_races.specs.Races.{IsOrderFree, IsRaceFree};
 ghost use Rattle.gq_determined.specs.Determined.{IsLeaf, LeavesSame, ProvidesNothing, WritesSame};
 

@@ -3,10 +3,10 @@
 //! ```rust
 //! use gq_determined::determined::determined_laws;
 //!
-//! // From here on the proof of this function knows of any two runs of a scenario of which `races` tells nothing.
+//! // From here on the proof of this function knows of any two runs of a scenario of which `races` reports nothing.
 //! determined_laws();
 //! ```
 #![tactic(auto)]
 
 pub mod determined;
-pub mod owners;
+pub mod ownership;

@@ -1,4 +1,4 @@
--- The first of a document's faults is the one that its reader tells: of counts and of names, where its tables have none.
+-- The first of a document's faults is the one that its reader reports: of counts and of names, where its tables have none.
 use Rattle.std.proofs.Common.{◌≡◌, ℕ, zero, suc, ◌+◌, Bool, true, false, ◌||◌, cond, List, [], ◌∷◌, ◌++◌, length, filter, Option, Some, None}
 use Rattle.std.proofs.Common.{refl, ap, sym, ◌∙◌, append-nil, length-append}
 use Rattle.std.specs.Prelude.{codes, nat_lt, is_some}
@@ -9,21 +9,22 @@ use Rattle.gq_model.specs.machine.Lists.{any_of, all_of, or_first}
 use Rattle.gq_model.specs.machine.Program.{text_eq}
 use Rattle.gq_model.specs.machine.Scenario.{Nodes, End, Leaf_node, Init_node}
 use Rattle.gq_model.specs.texts.Letters.{is_name}
-use Rattle.gq_model.proofs.Small.{or_first_none}
+use Rattle.gq_model.proofs.Small_facts.{or_first_none}
 use Rattle.gq_scenario.specs.Document.{described, document_fault, first_of, list_at, table_of, keys_of, is_init, is_long, routes_at, routes_fault, node_fault}
 use Rattle.gq_scenario.specs.Document.{walk_fault, nodes_by, node_onto, leaf_of, init_of, init_count, has_long_routes, counts_fault, names_of}
 use Rattle.gq_scenario.specs.Document.{name_twice, name_at, or_empty, value_of, interfaces_of}
-use Rattle.gq_scenario.specs.Keys.{DocumentFault, NameTwice, TooMany, members_of, is_table, is_name_text, text_of, table_fault, passes}
+use Rattle.gq_scenario.specs.Table_keys.{DocumentFault, NameTwice, TooMany, members_of, is_table, is_name_text, text_of, table_fault, passes}
 use Rattle.gq_scenario.specs.Document.{interfaces_fault}
-use Rattle.gq_scenario.specs.Tables.{top_keys, init_keys, leaf_keys, version_of}
-use Rattle.gq_reader.proofs.Kept.{kept, fits_or_none, one_there}
-use Rattle.gq_faults.specs.Lists.{when, all_found, first}
-use Rattle.gq_faults.specs.Documents.{in_table, in_tables, Node, nodes_below, nodes_in, is_inner, is_leaf, long_lists, counts_faults, named, names_twice}
+use Rattle.gq_scenario.specs.Document_tables.{top_keys, init_keys, leaf_keys, version_of}
+use Rattle.gq_reader.proofs.Table_rules_kept.{kept, fits_or_none, one_there}
+use Rattle.gq_faults.specs.Found_lists.{when, all_found, first}
+use Rattle.gq_faults.specs.Documents.{in_table, in_tables, DocumentNode, nodes_below, nodes_in, is_inner, is_leaf, long_lists, counts_faults, named}
+use Rattle.gq_faults.specs.Documents.{names_twice}
 use Rattle.gq_faults.specs.Documents.{keys_of_node, names_faults, walk_faults, document_faults}
-use Rattle.gq_faults.proofs.Firsts.{first_both, first_then, first_when, all_found-append, or_assoc}
+use Rattle.gq_faults.proofs.First_fault_found.{first_both, first_then, first_when, all_found-append, or_assoc}
 use Rattle.gq_faults.proofs.First_of_documents.{HasParts, lists_of, parts_of, at_table, walk_first}
 
-abbrev node_of : Members → Node
+abbrev node_of : Members → DocumentNode
 node_of entries = record { deep = false; entries = entries }
 
 -- WHAT IS KEPT OF EACH NODE
@@ -33,7 +34,7 @@ no_list : (entries : Members) (key : List ℕ) (o : Option Data) → get_member 
 no_list entries key None is e = rw is refl
 no_list entries key (Some d) is e = absurd cc
 
-module _ {B : Type 0} (m : Nodes → List B) (p : Node → List B) (version : ℕ) (services : List (List ℕ)) (end : m End ≡ [])
+module _ {B : Type 0} (m : Nodes → List B) (p : DocumentNode → List B) (version : ℕ) (services : List (List ℕ)) (end : m End ≡ [])
     (leaf : (entries : Members) (rest : Nodes) → is_init entries ≡ false → table_fault (leaf_keys version services) entries ≡ None
     → m (Leaf_node (leaf_of entries) rest) ≡ p (node_of entries) ++ m rest)
     (init : (entries : Members) (children rest : Nodes) → is_init entries ≡ true → table_fault (init_keys version) entries ≡ None
@@ -53,7 +54,7 @@ module _ {B : Type 0} (m : Nodes → List B) (p : Node → List B) (version : �
       ∙ (ap (λ l. all_found p l ++ all_found p (in_tables (nodes_below n) ds)) (sym (at_table (nodes_below n) d q.0))
       ∙ sym (all_found-append p (in_table (nodes_below n) d) (in_tables (nodes_below n) ds))))
 
-  of_init : (n : ℕ) (entries : Members) (rest : Nodes) (children : Nodes) (below : List Node) → is_init entries ≡ true
+  of_init : (n : ℕ) (entries : Members) (rest : Nodes) (children : Nodes) (below : List DocumentNode) → is_init entries ≡ true
       → table_fault (init_keys version) entries ≡ None → m children ≡ all_found p below
       → m (Init_node (init_of entries) children rest) ≡ all_found p (node_of entries ∷ below) ++ m rest
   of_init n entries rest children below is none e =
@@ -118,7 +119,7 @@ inits_are (Init_node node children rest) =
     ∙ (ap (λ n. n + length (inits rest)) (inits_are children) ∙ ap (λ n. init_count children + n) (inits_are rest)))
 
 -- a mark for each node that passes a test
-marked : (test : Node → Bool) (nodes : List Node) → length {A = ℕ} (all_found (λ node. when (test node) 0) nodes) ≡ length (filter test nodes)
+marked : (test : DocumentNode → Bool) (nodes : List DocumentNode) → length {A = ℕ} (all_found (λ node. when (test node) 0) nodes) ≡ length (filter test nodes)
 marked test [] = refl
 marked test (node ∷ nodes) = by (test node) (marked test nodes)
   where
@@ -134,44 +135,44 @@ longs (Leaf_node node rest) = when (is_long node.routes) TooMany ++ longs rest
 longs (Init_node node children rest) =
     when (is_long node.routes) TooMany ++ when (is_long node.default_routes) TooMany ++ longs children ++ longs rest
 
-abbrev told : Bool → Option DocumentFault
-told b = cond b (Some TooMany) None
+abbrev reported : Bool → Option DocumentFault
+reported b = cond b (Some TooMany) None
 
-told_either : (a b : Bool) → or_first (told a) (told b) ≡ told (a || b)
-told_either true b = refl
-told_either false b = refl
+reported_either : (a b : Bool) → or_first (reported a) (reported b) ≡ reported (a || b)
+reported_either true b = refl
+reported_either false b = refl
 
-first_told : (b : Bool) → first (when b TooMany) ≡ told b
-first_told true = refl
-first_told false = refl
+first_reported : (b : Bool) → first (when b TooMany) ≡ reported b
+first_reported true = refl
+first_reported false = refl
 
-longs_are : (nodes : Nodes) → first (longs nodes) ≡ told (has_long_routes nodes)
+longs_are : (nodes : Nodes) → first (longs nodes) ≡ reported (has_long_routes nodes)
 longs_are End = refl
 longs_are (Leaf_node node rest) =
-    first_both (when (is_long node.routes) TooMany) (longs rest) (told (is_long node.routes)) (told (has_long_routes rest))
-    (first_told (is_long node.routes)) (longs_are rest)
-    ∙ told_either (is_long node.routes) (has_long_routes rest)
+    first_both (when (is_long node.routes) TooMany) (longs rest) (reported (is_long node.routes)) (reported (has_long_routes rest))
+    (first_reported (is_long node.routes)) (longs_are rest)
+    ∙ reported_either (is_long node.routes) (has_long_routes rest)
 longs_are (Init_node node children rest) =
     let a = is_long node.routes in
     let b = is_long node.default_routes in
     let c = has_long_routes children in
     let d = has_long_routes rest in
-    first_both (when a TooMany ++ when b TooMany ++ longs children) (longs rest) (told (a || b || c)) (told d)
-    (first_both (when a TooMany ++ when b TooMany) (longs children) (told (a || b)) (told c)
-    (first_both (when a TooMany) (when b TooMany) (told a) (told b) (first_told a) (first_told b) ∙ told_either a b) (longs_are children)
-    ∙ told_either (a || b) c) (longs_are rest)
-    ∙ told_either (a || b || c) d
+    first_both (when a TooMany ++ when b TooMany ++ longs children) (longs rest) (reported (a || b || c)) (reported d)
+    (first_both (when a TooMany ++ when b TooMany) (longs children) (reported (a || b)) (reported c)
+    (first_both (when a TooMany) (when b TooMany) (reported a) (reported b) (first_reported a) (first_reported b) ∙ reported_either a b) (longs_are children)
+    ∙ reported_either (a || b) c) (longs_are rest)
+    ∙ reported_either (a || b || c) d
 
-five : (a b c d e : Bool) (rest : List DocumentFault) → first rest ≡ told e
-    → first (when a TooMany ++ when b TooMany ++ when c TooMany ++ when d TooMany ++ rest) ≡ told (a || b || c || d || e)
+five : (a b c d e : Bool) (rest : List DocumentFault) → first rest ≡ reported e
+    → first (when a TooMany ++ when b TooMany ++ when c TooMany ++ when d TooMany ++ rest) ≡ reported (a || b || c || d || e)
 five a b c d e rest h =
-    first_both (when a TooMany ++ when b TooMany ++ when c TooMany ++ when d TooMany) rest (told (a || b || c || d)) (told e)
-    (first_both (when a TooMany ++ when b TooMany ++ when c TooMany) (when d TooMany) (told (a || b || c)) (told d)
-    (first_both (when a TooMany ++ when b TooMany) (when c TooMany) (told (a || b)) (told c)
-    (first_both (when a TooMany) (when b TooMany) (told a) (told b) (first_told a) (first_told b) ∙ told_either a b) (first_told c)
-    ∙ told_either (a || b) c) (first_told d)
-    ∙ told_either (a || b || c) d) h
-    ∙ told_either (a || b || c || d) e
+    first_both (when a TooMany ++ when b TooMany ++ when c TooMany ++ when d TooMany) rest (reported (a || b || c || d)) (reported e)
+    (first_both (when a TooMany ++ when b TooMany ++ when c TooMany) (when d TooMany) (reported (a || b || c)) (reported d)
+    (first_both (when a TooMany ++ when b TooMany) (when c TooMany) (reported (a || b)) (reported c)
+    (first_both (when a TooMany) (when b TooMany) (reported a) (reported b) (first_reported a) (first_reported b) ∙ reported_either a b) (first_reported c)
+    ∙ reported_either (a || b) c) (first_reported d)
+    ∙ reported_either (a || b || c) d) h
+    ∙ reported_either (a || b || c || d) e
 
 interfaces_count : (version : ℕ) (entries : Members) → length (keys_of entries) ≡ length (interfaces_of version entries)
 interfaces_count version no_members = refl
@@ -218,7 +219,7 @@ module _ (version : ℕ) (services : List (List ℕ)) (ds : List Data) (tables :
       4 ds tables none)
       ∙ marked is_inner (in_tables (nodes_below 4) ds))
 
-  longs_here : first (all_found long_lists (in_tables (nodes_below 4) ds)) ≡ told (has_long_routes (nodes_by (node_onto 4) ds))
+  longs_here : first (all_found long_lists (in_tables (nodes_below 4) ds)) ≡ reported (has_long_routes (nodes_by (node_onto 4) ds))
   longs_here =
       ap first (sym (of_nodes longs long_lists version services refl
       (λ entries rest is e. rw is (ap (λ l. l ++ longs rest) (sym (append-nil (when (is_long (routes_at (codes "route") entries)) TooMany)))))
@@ -233,7 +234,7 @@ module _ (version : ℕ) (services : List (List ℕ)) (ds : List Data) (tables :
       (init_name version entries e) refl) 4 ds tables none)
 
 same_counts : (a b c : ℕ) (a2 b2 c2 : ℕ) (d e : Bool) → a ≡ a2 → b ≡ b2 → c ≡ c2
-    → told (nat_lt 64 a || nat_lt 64 b || nat_lt 64 c || d || e) ≡ told (nat_lt 64 a2 || nat_lt 64 b2 || nat_lt 64 c2 || d || e)
+    → reported (nat_lt 64 a || nat_lt 64 b || nat_lt 64 c || d || e) ≡ reported (nat_lt 64 a2 || nat_lt 64 b2 || nat_lt 64 c2 || d || e)
 same_counts a b c a2 b2 c2 d e p q r = rw (p, q, r) refl
 
 module _ (top : Members) (none : walk_fault top ≡ None) where

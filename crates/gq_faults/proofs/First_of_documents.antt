@@ -1,4 +1,4 @@
--- The first of a document's faults is the one that its reader tells.
+-- The first of a document's faults is the one that its reader reports.
 use Rattle.std.proofs.Common.{◌≡◌, ℕ, zero, suc, nat_le, Bool, true, false, ◌&&◌, not, cond, List, []}
 use Rattle.std.proofs.Common.{◌∷◌, ◌++◌, Option, Some, None}
 use Rattle.std.proofs.Common.{refl, ap, ◌∙◌}
@@ -7,23 +7,23 @@ use Rattle.toml.specs.Data.{Data, string, integer, float, boolean, datetime, arr
 use Rattle.gq_model.specs.machine.Amounts.{counts_caps}
 use Rattle.gq_model.specs.machine.Lists.{any_of, all_of, or_first}
 use Rattle.gq_model.specs.machine.Program.{text_eq}
-use Rattle.gq_model.proofs.Small.{or_first_none}
+use Rattle.gq_model.proofs.Small_facts.{or_first_none}
 use Rattle.gq_scenario.specs.Document.{first_of, list_at, table_of, keys_of, is_init, routes_fault, interfaces_fault, node_fault}
-use Rattle.gq_scenario.specs.Keys.{DocumentFault, MissingKey, BadValue, UnknownKey, KeyRule, members_of, is_table, unknown_key, missing_key}
-use Rattle.gq_scenario.specs.Keys.{bad_value, table_fault}
-use Rattle.gq_scenario.specs.Tables.{top_keys, interface_keys, route_keys, version_of}
-use Rattle.gq_faults.specs.Lists.{all_found, first}
+use Rattle.gq_scenario.specs.Table_keys.{DocumentFault, MissingKey, BadValue, UnknownKey, KeyRule, members_of, is_table, unknown_key, missing_key}
+use Rattle.gq_scenario.specs.Table_keys.{bad_value, table_fault}
+use Rattle.gq_scenario.specs.Document_tables.{top_keys, interface_keys, route_keys, version_of}
+use Rattle.gq_faults.specs.Found_lists.{all_found, first}
 use Rattle.gq_faults.specs.Documents.{unknown_keys, missing_of, bad_of, table_faults, in_table, in_tables, interfaces_faults, routes_faults, nodes_below}
 use Rattle.gq_faults.specs.Documents.{keys_of_node, nodes_in, own_faults, node_faults, walk_faults}
-use Rattle.gq_faults.proofs.Firsts.{first_both, first_then, first_when, all_found-append, or_assoc}
+use Rattle.gq_faults.proofs.First_fault_found.{first_both, first_then, first_when, all_found-append, or_assoc}
 use Rattle.std.proofs.lemmas.Bool.{and_parts}
 use Rattle.gq_model.specs.texts.Letters.{is_name}
 use Rattle.gq_scenario.specs.Document.{list_of, walk_fault}
-use Rattle.gq_scenario.specs.Keys.{items_of, is_list, required, optional, either, other, is_number, is_quantity, is_text, is_hex, is_name_text}
-use Rattle.gq_scenario.specs.Tables.{are_named_tables, is_named_tables, is_named_names, is_total, is_declared, is_inputs, greatest_caps}
+use Rattle.gq_scenario.specs.Table_keys.{items_of, is_list, required, optional, either, other, is_number, is_quantity, is_text, is_hex, is_name_text}
+use Rattle.gq_scenario.specs.Document_tables.{are_named_tables, is_named_tables, is_named_names, is_total, is_declared, is_inputs, greatest_caps}
 use Rattle.gq_reader.specs.internal.Walk.{own_fault}
-use Rattle.gq_reader.proofs.Kept.{kept, fits_or_none}
-use Rattle.gq_reader.proofs.Passed.{absent}
+use Rattle.gq_reader.proofs.Table_rules_kept.{kept, fits_or_none}
+use Rattle.gq_reader.proofs.Faultless_table_facts.{absent}
 
 -- TABLES
 

@@ -1,4 +1,4 @@
--- The first of all faults of a scenario that was read is the one that `check` tells.
+-- The first of all faults of a scenario that was read is the one that `check` reports.
 use Rattle.std.proofs.Common.{◌≡◌, ℕ, suc, Bool, true, false, not, cond, List, [], ◌∷◌, ◌++◌, length, map, Option, Some, None, option_map}
 use Rattle.std.proofs.Common.{refl, ap, sym, ◌∙◌}
 use Rattle.std.specs.Prelude.{codes, nat_le}
@@ -16,10 +16,10 @@ use Rattle.gq_model.specs.rules.Verdict.{program_fault, greatest_cost}
 use Rattle.gq_resolve.specs.Served.{once}
 use Rattle.gq_resolve.proofs.Each_once.{fault_once}
 use Rattle.gq_load.specs.Load.{Refused_for, source_fault, sources_fault, refused, scenario_fault}
-use Rattle.gq_faults.specs.Lists.{listed_if, all_found, or_else, first}
+use Rattle.gq_faults.specs.Found_lists.{listed_if, all_found, or_else, first}
 use Rattle.gq_faults.specs.Scenario_faults.{sources_faults, rules_faults, all_exceeding, quanta_faults, offers_bad, all_bad_offers, after_faults, services_lost}
 use Rattle.gq_faults.specs.Scenario_faults.{routes_lost, cycles, unresolved_all, over_own, over_steps, over_budgets, scenario_faults}
-use Rattle.gq_faults.proofs.Firsts.{first_both, first_when, first_listed, first_else, first_map, or_assoc}
+use Rattle.gq_faults.proofs.First_fault_found.{first_both, first_when, first_listed, first_else, first_map, or_assoc}
 
 first_of_each : {A B : Type 0} (f : A → Option B) (a : A) (rest : List A) (o : Option B) → first (all_found (λ a. listed_if (f a)) rest) ≡ o
     → first (all_found (λ a. listed_if (f a)) (a ∷ rest)) ≡ or_first (f a) o

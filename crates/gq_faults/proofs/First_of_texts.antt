@@ -1,19 +1,19 @@
--- The first of all faults is the one that `check` tells.
+-- The first of all faults is the one that `check` reports.
 use Rattle.std.proofs.Common.{◌≡◌, ℕ, List, [], map, Option, Some, None, option_map, Result, Ok, Err}
 use Rattle.std.proofs.Common.{refl, ap, ◌∙◌}
 use Rattle.toml.specs.Data.{Members}
 use Rattle.gq_model.specs.machine.Lists.{or_first}
 use Rattle.gq_model.specs.machine.Scenario.{Scenario}
 use Rattle.gq_scenario.specs.Document.{described, document_fault}
-use Rattle.gq_scenario.specs.Keys.{DocumentFault}
-use Rattle.gq_scenario.specs.Reading.{ReadFault, Bad_document, document_in, described_or, read_from}
+use Rattle.gq_scenario.specs.Table_keys.{DocumentFault}
+use Rattle.gq_scenario.specs.Top_table.{ReadFault, Bad_document, document_in, described_or, read_from}
 use Rattle.gq_load.specs.Load.{Fault, Unread, scenario_fault, loaded_or, loaded_from, loaded}
-use Rattle.gq_faults.specs.Lists.{first}
-use Rattle.gq_faults.proofs.Firsts.{first_else, first_map, first_none}
+use Rattle.gq_faults.specs.Found_lists.{first}
+use Rattle.gq_faults.proofs.First_fault_found.{first_else, first_map, first_none}
 use Rattle.gq_faults.specs.Scenario_faults.{scenario_faults}
 use Rattle.gq_faults.proofs.First_of_scenarios.{first_of_scenario}
 use Rattle.gq_faults.specs.Documents.{document_faults}
-use Rattle.gq_faults.specs.Faults.{faults_from, faults_of, refusal_of}
+use Rattle.gq_faults.specs.First_stage_faults.{faults_from, faults_of, refusal_of}
 use Rattle.gq_faults.proofs.First_of_counts.{first_of_document}
 
 abbrev bad : DocumentFault → Fault
@@ -38,6 +38,6 @@ by_text (Ok top) =
 pub first_of_all : (text : List ℕ) → first (faults_of text) ≡ refusal_of (loaded text)
 first_of_all text = by_text (document_in text)
 
--- none is told of a text that is accepted
+-- none is reported of a text that is accepted
 pub none_of_accepted : (text : List ℕ) (s : Scenario) → loaded text ≡ Ok s → faults_of text ≡ []
 none_of_accepted text s e = first_none (faults_of text) (first_of_all text ∙ ap refusal_of e)

@@ -16,11 +16,11 @@ use Rattle.gq_model.specs.texts.Operands.{greatest_number}
 use Rattle.gq_model.specs.declared.fault.TurnFault.{TurnFault}
 use Rattle.gq_model.specs.declared.fault.TurnFault.TheVariants.{BadLine, NoSuchComponent, TooMany, NoInput, InputTooLarge}
 use Rattle.gq_model.specs.texts.Turns.{after_line, greatest_turns, turns_from, turned}
-use Rattle.gq_scenario.specs.Lines.{lines_left}
+use Rattle.gq_scenario.specs.Text_pieces.{lines_left}
 use Rattle.gq_init.specs.TurnLines.{given_in, turn_on}
 use Rattle.gq_init.specs.internal.Ahead.{IsLineAhead}
-use Rattle.gq_faults.specs.Lists.{first, listed_if}
-use Rattle.gq_faults.specs.Turn_faults.{too_many_at, past_line, line_faults, turn_faults, fault_of_turns, told_fault, turns_after, faults_left}
+use Rattle.gq_faults.specs.Found_lists.{first, listed_if}
+use Rattle.gq_faults.specs.Turn_faults.{too_many_at, past_line, line_faults, turn_faults, fault_of_turns, reported_fault, turns_after, faults_left}
 
 -- THE FIRST
 
@@ -102,23 +102,23 @@ own_in version all (input ∷ sign ∷ number ∷ []) =
     (own_setting all (input_in (pieces (λ c. c == 46) input)) (number_in 10 0 greatest_number number)) tt
 own_in version all (name ∷ count ∷ number ∷ more ∷ rest) = tt
 
--- what is told of the k-th line, which says this after so many turns, and of those after it
-abbrev told_by : Result (Option (ℕ × Act)) TurnFault → ℕ → Option ℕ → (Option ℕ → List (TurnFault × ℕ)) → List (TurnFault × ℕ)
-told_by said k before go = listed_if (option_map (λ fault. (fault, k)) (told_fault said before)) ++ go (turns_after said before)
+-- what is reported of the k-th line, which says this after so many turns, and of those after it
+abbrev reported_by : Result (Option (ℕ × Act)) TurnFault → ℕ → Option ℕ → (Option ℕ → List (TurnFault × ℕ)) → List (TurnFault × ℕ)
+reported_by said k before go = listed_if (option_map (λ fault. (fault, k)) (reported_fault said before)) ++ go (turns_after said before)
 
 none_more : (b : Bool) (turn : ℕ × Act) (k : ℕ) (go : Option ℕ → List (TurnFault × ℕ))
-    → go None ≡ told_by (cond b (Ok (Some turn)) (Err TooMany)) k None go
+    → go None ≡ reported_by (cond b (Ok (Some turn)) (Err TooMany)) k None go
 none_more true turn k go = refl
 none_more false turn k go = refl
 
 some_more : (b : Bool) (turn : ℕ × Act) (k n : ℕ) (go : Option ℕ → List (TurnFault × ℕ))
     → too_many_at k (Some n) (cond b (Some (n + turns_given turn.1)) None) ++ go (cond b (Some (n + turns_given turn.1)) None)
-    ≡ told_by (cond b (Ok (Some turn)) (Err TooMany)) k (Some n) go
+    ≡ reported_by (cond b (Ok (Some turn)) (Err TooMany)) k (Some n) go
 some_more true turn k n go = refl
 some_more false turn k n go = refl
 
 past_is : (b : Bool) (turn : Given) (k : ℕ) (before : Option ℕ) (go : Option ℕ → List (TurnFault × ℕ)) → IsOwn turn
-    → past_line b turn k before go ≡ told_by (turn_on b (unwrap_or before 0) turn) k before go
+    → past_line b turn k before go ≡ reported_by (turn_on b (unwrap_or before 0) turn) k before go
 past_is true turn k before go h = refl
 past_is false (Err TooMany) k before go h = absurd h
 past_is false (Err BadLine) k before go h = refl
@@ -128,36 +128,37 @@ past_is false (Err InputTooLarge) k before go h = refl
 past_is false (Ok turn) k None go h = none_more (nat_le (0 + turns_given turn.1) greatest_turns) turn k go
 past_is false (Ok turn) k (Some n) go h = some_more (nat_le (n + turns_given turn.1) greatest_turns) turn k n go
 
--- what is told of what is left, whose first line says this
-pub line_told : (s : Scenario) (k : ℕ) (before : Option ℕ) (text : List ℕ) (said : Result (Option (ℕ × Act)) TurnFault) (rest : Option (List ℕ))
+-- what is reported of what is left, whose first line says this
+pub line_reported : (s : Scenario) (k : ℕ) (before : Option ℕ) (text : List ℕ) (said : Result (Option (ℕ × Act)) TurnFault) (rest : Option (List ℕ))
     → IsLineAhead s (unwrap_or before 0) text said rest
     → faults_left s k before (Some text)
-    ≡ listed_if (option_map (λ fault. (fault, k + 1)) (told_fault said before)) ++ faults_left s (k + 1) (turns_after said before) rest
-line_told s k before text said rest h =
+    ≡ listed_if (option_map (λ fault. (fault, k + 1)) (reported_fault said before)) ++ faults_left s (k + 1) (turns_after said before) rest
+line_reported s k before text said rest h =
     let turn = given_in s (pieces (λ c. c == 32) h.line) in
     let go : Option ℕ → List (TurnFault × ℕ) = λ after. line_faults s (suc (k + 1)) after (lines_left rest) in
     let next : suc (k + 1) ≡ k + 1 + 1 = omega arith in
     ap (line_faults s (k + 1) before) h.is
     ∙ (past_is (says_nothing h.line) turn (k + 1) before go (own_in s.version (components s) (pieces (λ c. c == 32) h.line))
-    ∙ (ap (λ w. told_by w (k + 1) before go) (sym h.said_is)
-    ∙ ap (λ j. listed_if (option_map (λ fault. (fault, k + 1)) (told_fault said before)) ++ line_faults s j (turns_after said before) (lines_left rest)) next))
+    ∙ (ap (λ w. reported_by w (k + 1) before go) (sym h.said_is)
+    ∙ ap (λ j. listed_if (option_map (λ fault. (fault, k + 1)) (reported_fault said before)) ++ line_faults s j (turns_after said before) (lines_left rest))
+    next))
 
--- nothing is told of it
+-- nothing is reported of it
 pub line_right : (s : Scenario) (k n : ℕ) (before after : Option ℕ) (text : List ℕ) (said : Result (Option (ℕ × Act)) TurnFault)
-    (rest : Option (List ℕ)) (told : Option TurnFault) → n ≡ unwrap_or before 0 → IsLineAhead s n text said rest → told ≡ told_fault said before
-    → after ≡ turns_after said before → told ≡ None → faults_left s k before (Some text) ≡ faults_left s (k + 1) after rest
-line_right s k n before after text said rest told is h e f none =
-    line_told s k before text said rest (subst (λ m. IsLineAhead s m text said rest) is h)
+    (rest : Option (List ℕ)) (reported : Option TurnFault) → n ≡ unwrap_or before 0 → IsLineAhead s n text said rest → reported ≡ reported_fault said before
+    → after ≡ turns_after said before → reported ≡ None → faults_left s k before (Some text) ≡ faults_left s (k + 1) after rest
+line_right s k n before after text said rest reported is h e f none =
+    line_reported s k before text said rest (subst (λ m. IsLineAhead s m text said rest) is h)
     ∙ (ap (λ t. listed_if (option_map (λ fault. (fault, k + 1)) t) ++ faults_left s (k + 1) (turns_after said before) rest) (sym e ∙ none)
     ∙ ap (λ a. faults_left s (k + 1) a rest) (sym f))
 
--- this fault is told of it
+-- this fault is reported of it
 pub line_wrong : (s : Scenario) (k n : ℕ) (before after : Option ℕ) (text : List ℕ) (said : Result (Option (ℕ × Act)) TurnFault)
-    (rest : Option (List ℕ)) (told : Option TurnFault) (fault : TurnFault) → n ≡ unwrap_or before 0 → IsLineAhead s n text said rest
-    → told ≡ told_fault said before → after ≡ turns_after said before → told ≡ Some fault
+    (rest : Option (List ℕ)) (reported : Option TurnFault) (fault : TurnFault) → n ≡ unwrap_or before 0 → IsLineAhead s n text said rest
+    → reported ≡ reported_fault said before → after ≡ turns_after said before → reported ≡ Some fault
     → faults_left s k before (Some text) ≡ (fault, k + 1) ∷ faults_left s (k + 1) after rest
-line_wrong s k n before after text said rest told fault is h e f some =
-    line_told s k before text said rest (subst (λ m. IsLineAhead s m text said rest) is h)
+line_wrong s k n before after text said rest reported fault is h e f some =
+    line_reported s k before text said rest (subst (λ m. IsLineAhead s m text said rest) is h)
     ∙ (ap (λ t. listed_if (option_map (λ fault. (fault, k + 1)) t) ++ faults_left s (k + 1) (turns_after said before) rest) (sym e ∙ some)
     ∙ ap (λ a. (fault, k + 1) ∷ faults_left s (k + 1) a rest) (sym f))
 

@@ -5,9 +5,9 @@ use Rattle.gq_model.specs.machine.Lists.{any_of}
 use Rattle.gq_model.specs.machine.Program.{text_eq}
 use Rattle.gq_model.specs.texts.Letters.{is_name}
 use Rattle.gq_scenario.specs.Document.{name_at, list_at, table_of, keys_of, is_init, is_long, routes_at}
-use Rattle.gq_scenario.specs.Keys.{DocumentFault, MissingKey, BadValue, UnknownKey, NameTwice, TooDeep, TooMany, KeyRule, has, is_bad}
-use Rattle.gq_scenario.specs.Tables.{version_of, top_keys, interface_keys, init_keys, leaf_keys, route_keys}
-use Rattle.gq_faults.specs.Lists.{when, all_found}
+use Rattle.gq_scenario.specs.Table_keys.{DocumentFault, MissingKey, BadValue, UnknownKey, NameTwice, TooDeep, TooMany, KeyRule, has, is_bad}
+use Rattle.gq_scenario.specs.Document_tables.{version_of, top_keys, interface_keys, init_keys, leaf_keys, route_keys}
+use Rattle.gq_faults.specs.Found_lists.{when, all_found}
 
 -- TABLES
 
@@ -48,17 +48,17 @@ routes_faults key entries = in_tables (table_faults route_keys) (list_at key ent
 -- NODES
 
 -- a node's table, and whether it is too deep
-pub record Node : Type 0 where
+pub record DocumentNode : Type 0 where
   pub deep : Bool
   pub entries : Members
 
 -- a node and those below it in preorder, down to n levels and one more, at which they are too deep
-abbrev pub nodes_below : ℕ → Members → List Node
+abbrev pub nodes_below : ℕ → Members → List DocumentNode
 nodes_below zero entries = record { deep = true; entries = entries } ∷ []
 nodes_below (suc n) entries = record { deep = false; entries = entries } ∷ in_tables (nodes_below n) (list_at (codes "start") entries)
 
 -- the nodes of a top table; those at depth 1 to 4 are not too deep
-abbrev pub nodes_in : Members → List Node
+abbrev pub nodes_in : Members → List DocumentNode
 nodes_in top = in_tables (nodes_below 4) (list_at (codes "start") top)
 
 -- the rules of a node's table: one with `start` is an init
@@ -71,7 +71,7 @@ own_faults version services entries =
     table_faults (keys_of_node version services entries) entries
     ++ routes_faults (codes "route") entries ++ routes_faults (codes "default-route") entries
 
-abbrev pub node_faults : ℕ → List (List ℕ) → Node → List DocumentFault
+abbrev pub node_faults : ℕ → List (List ℕ) → DocumentNode → List DocumentFault
 node_faults version services node = if node.deep then TooDeep (name_at node.entries) ∷ [] else own_faults version services node.entries
 
 -- the top table, the interfaces, the root's routes, the nodes
@@ -88,14 +88,14 @@ walk_faults top =
 abbrev pub too_many : ℕ → List DocumentFault
 too_many count = when (nat_lt 64 count) TooMany
 
-abbrev pub is_inner : Node → Bool
+abbrev pub is_inner : DocumentNode → Bool
 is_inner node = not node.deep && is_init node.entries
 
-abbrev pub is_leaf : Node → Bool
+abbrev pub is_leaf : DocumentNode → Bool
 is_leaf node = not node.deep && not (is_init node.entries)
 
 -- each list of routes that is too long; only inits have default routes
-abbrev pub long_lists : Node → List DocumentFault
+abbrev pub long_lists : DocumentNode → List DocumentFault
 long_lists node =
     if node.deep then []
     else when (is_long (routes_at (codes "route") node.entries)) TooMany
@@ -110,7 +110,7 @@ counts_faults top =
     ++ when (is_long (routes_at (codes "default-route") top)) TooMany ++ all_found long_lists nodes
 
 -- the name of a node that is not too deep, where it is one
-abbrev pub named : Node → List (List ℕ)
+abbrev pub named : DocumentNode → List (List ℕ)
 named node = when (not node.deep && is_name (name_at node.entries)) (name_at node.entries)
 
 -- each name that was seen before

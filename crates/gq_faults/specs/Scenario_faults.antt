@@ -1,4 +1,4 @@
--- All faults of a scenario that was read that are told at once: those of the first stage that has any.
+-- All faults of a scenario that was read that are reported at once: those of the first stage that has any.
 use Rattle.std.specs.Prelude.{ℕ, suc, nat_le, not, List, [], ◌∷◌, ◌++◌, length, map, codes}
 use Rattle.gq_model.specs.machine.Amounts.{Resource, Ram, Caps, part}
 use Rattle.gq_model.specs.machine.Routes.{route}
@@ -9,7 +9,7 @@ use Rattle.gq_model.specs.rules.Use.{services, reaches, subject}
 use Rattle.gq_model.specs.rules.Verdict.{program_fault, greatest_cost}
 use Rattle.gq_resolve.specs.Served.{once}
 use Rattle.gq_load.specs.Load.{Fault, Refused_for, source_fault}
-use Rattle.gq_faults.specs.Lists.{listed_if, when, all_found, or_else}
+use Rattle.gq_faults.specs.Found_lists.{listed_if, when, all_found, or_else}
 
 -- PROGRAMS
 
@@ -54,7 +54,7 @@ after_faults all earlier (c ∷ rest) =
 abbrev pub services_lost : Component → List (List ℕ) → List Unresolved
 services_lost c = all_found (λ service. listed_if (unrouted c service (route c.levels service)))
 
--- each service of each leaf that does, told once
+-- each service of each leaf that does, reported once
 abbrev pub routes_lost : List Component → List Unresolved
 routes_lost = all_found (λ c. services_lost c (once (services c)))
 

@@ -1,4 +1,4 @@
--- All faults of a text of turns and settings that are told at once, and why a scenario and turns are refused.
+-- All faults of a text of turns and settings that are reported at once, and why a scenario and turns are refused.
 use Rattle.std.specs.Prelude.{◌≡◌, ℕ, suc, ◌+◌, ◌^◌, nat_le, ◌==◌, if◌then◌else◌, Bool, true, false, List, [], ◌∷◌, ◌++◌, length, map}
 use Rattle.std.specs.Prelude.{Option, Some, None, option_map, Result, Ok, Err, codes, decimal}
 use Rattle.gq_model.specs.declared.act.Act.{Act}
@@ -8,13 +8,13 @@ use Rattle.gq_model.specs.texts.Letters.{pieces, lines}
 use Rattle.gq_model.specs.texts.Turns.{Given, Turned, says_nothing, turns_given, greatest_turns, turned}
 use Rattle.gq_model.specs.declared.fault.TurnFault.{TurnFault}
 use Rattle.gq_model.specs.declared.fault.TurnFault.TheVariants.{BadLine, NoSuchComponent, TooMany, NoInput, InputTooLarge}
-use Rattle.gq_scenario.specs.Lines.{lines_left}
+use Rattle.gq_scenario.specs.Text_pieces.{lines_left}
 use Rattle.gq_init.specs.TurnLines.{given_in}
 use Rattle.gq_load.specs.Load.{Fault, fault_text, loaded}
-use Rattle.gq_load.specs.Faults.{load_fault_text}
-use Rattle.gq_faults.specs.Faults.{fault_lines}
-use Rattle.gq_faults.specs.declared.turns.Refused.{Refused}
-use Rattle.gq_faults.specs.declared.turns.Refused.TheVariants as refused
+use Rattle.gq_load.specs.Load_faults.{load_fault_text}
+use Rattle.gq_faults.specs.First_stage_faults.{fault_lines}
+use Rattle.gq_faults.specs.declared.turn_faults.Refused.{Refused}
+use Rattle.gq_faults.specs.declared.turn_faults.Refused.TheVariants as refused
 
 -- FAULTS
 
@@ -23,7 +23,7 @@ abbrev pub with_turns : ℕ → Option ℕ → Option ℕ
 with_turns count None = None
 with_turns count (Some n) = if nat_le (n + count) greatest_turns then Some (n + count) else None
 
--- that there are too many turns is told once, at the line with which there are
+-- that there are too many turns is reported once, at the line with which there are
 abbrev pub too_many_at : ℕ → Option ℕ → Option ℕ → List (TurnFault × ℕ)
 too_many_at k (Some n) None = (TooMany, k) ∷ []
 too_many_at k before after = []
@@ -45,7 +45,7 @@ line_faults s k before (line ∷ rest) =
 abbrev pub turn_faults : Scenario → List ℕ → List (TurnFault × ℕ)
 turn_faults s text = if nat_le (length text) (2 ^ 24) then line_faults s 1 (Some 0) (lines text) else (TooMany, 0) ∷ []
 
--- the line that tells a fault of turns
+-- the line that reports a fault of turns
 abbrev pub turn_fault_line : TurnFault × ℕ → List ℕ
 turn_fault_line fault = turn_fault_word fault.0 ++ codes " line " ++ decimal fault.1
 
@@ -56,10 +56,10 @@ fault_of_turns (Err fault) = Some fault
 
 -- BOTH
 
--- what is told of a scenario that is refused, or else of turns
-abbrev pub told_of : {A : Type 0} → Result Scenario Fault → A → A → A
-told_of (Err fault) scenario turns = scenario
-told_of (Ok s) scenario turns = turns
+-- what is reported of a scenario that is refused, or else of turns
+abbrev pub reported_of : {A : Type 0} → Result Scenario Fault → A → A → A
+reported_of (Err fault) scenario turns = scenario
+reported_of (Ok s) scenario turns = turns
 
 -- the faults of a scenario's text, or else those of a text of turns
 abbrev pub lines_from : Result Scenario Fault → List ℕ → List ℕ → List (List ℕ)
@@ -88,14 +88,14 @@ Answers answer (Ok s) turns = AnswersTurns answer (fault_of_turns (turned s turn
 
 -- WALKS
 
--- the fault that is told of a line that says this after so many turns
-abbrev pub told_fault : Result (Option (ℕ × Act)) TurnFault → Option ℕ → Option TurnFault
-told_fault (Ok turn) before = None
-told_fault (Err TooMany) before = option_map (λ n. TooMany) before
-told_fault (Err BadLine) before = Some BadLine
-told_fault (Err NoSuchComponent) before = Some NoSuchComponent
-told_fault (Err NoInput) before = Some NoInput
-told_fault (Err InputTooLarge) before = Some InputTooLarge
+-- the fault that is reported of a line that says this after so many turns
+abbrev pub reported_fault : Result (Option (ℕ × Act)) TurnFault → Option ℕ → Option TurnFault
+reported_fault (Ok turn) before = None
+reported_fault (Err TooMany) before = option_map (λ n. TooMany) before
+reported_fault (Err BadLine) before = Some BadLine
+reported_fault (Err NoSuchComponent) before = Some NoSuchComponent
+reported_fault (Err NoInput) before = Some NoInput
+reported_fault (Err InputTooLarge) before = Some InputTooLarge
 
 -- how many turns there are after it
 abbrev pub turns_after : Result (Option (ℕ × Act)) TurnFault → Option ℕ → Option ℕ

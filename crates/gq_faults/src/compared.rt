@@ -3,15 +3,15 @@
 ghost use Rattle.std.specs.Prelude.{◌≡◌, ◌≤◌, length};
 ghost use Rattle.gq_model.specs.texts.Code.{is_section};
 
-use crate::found::{Compared, Holder, Needed};
+use crate::fault_value::{Compared, Holder, Needed};
 use crate::pushers::Pushers;
-use crate::session::session_cost_of;
+use crate::session_cost::session_cost_of;
 use crate::statement::of_statement;
 use gq_caps::Kind;
 use gq_model::fault::Rule;
-use gq_model::program::Place;
+use gq_model::program::OperandSlot;
 use gq_program::{Body, Section, Statement};
-use gq_rules::{Context, State, Subject};
+use gq_rules::{AbstractState, Context, Subject};
 use gq_verify::{Fault, Starts, section_cost};
 use std::alloc::{AllocError, Global};
 
@@ -106,7 +106,7 @@ fn in_section(alloc: Global, subject: &Subject<'_>, fault: &Fault) -> Result<Com
 fn at_start(
     alloc: Global,
     context: &Context<'_>,
-    state: &State,
+    state: &AbstractState,
     rule: Rule,
 ) -> Result<Compared, AllocError> {
     match rule {
@@ -116,7 +116,12 @@ fn at_start(
 }
 
 // What a rule compared at the end of a section.
-fn at_end(subject: &Subject<'_>, start: &State, fault: &Fault, state: &mut State) -> Compared {
+fn at_end(
+    subject: &Subject<'_>,
+    start: &AbstractState,
+    fault: &Fault,
+    state: &mut AbstractState,
+) -> Compared {
     match (fault.rule, fault.section) {
         (Rule::ValueTooLarge, _) => match state.pop() {
             Ok(reply) => Compared::Value(reply, subject.reply(), Holder::Reply),
@@ -140,10 +145,10 @@ fn u8_of(slot: usize) -> u8 {
 }
 
 // The first own slot that has a link.
-fn first_link(state: &State) -> Compared {
+fn first_link(state: &AbstractState) -> Compared {
     for (slot, kind) in state.own().kinds().iter().enumerate() {
         if matches!(kind, Kind::Link(_)) {
-            return Compared::Slot(Place::Own(u8_of(slot)), Some(*kind), Needed::Empty);
+            return Compared::Slot(OperandSlot::Own(u8_of(slot)), Some(*kind), Needed::Empty);
         }
     }
     Compared::Nothing
@@ -153,7 +158,7 @@ fn first_link(state: &State) -> Compared {
 fn first_full(kinds: &[Kind]) -> Compared {
     for (slot, kind) in kinds.iter().enumerate() {
         if !matches!(kind, Kind::Empty | Kind::Waiting) {
-            return Compared::Slot(Place::Shared(u8_of(slot)), Some(*kind), Needed::Empty);
+            return Compared::Slot(OperandSlot::Shared(u8_of(slot)), Some(*kind), Needed::Empty);
         }
     }
     Compared::Nothing
@@ -173,15 +178,15 @@ fn difference(first: &[Kind], second: &[Kind]) -> Option<(u8, Kind, Kind)> {
 
 fn shared_difference(first: &[Kind], second: &[Kind]) -> Compared {
     match difference(first, second) {
-        Some((slot, kind, other)) => Compared::Kinds(Place::Shared(slot), kind, other),
+        Some((slot, kind, other)) => Compared::Kinds(OperandSlot::Shared(slot), kind, other),
         None => Compared::Nothing,
     }
 }
 
 // The first slot of which two ways differ, the own ones before those of the session.
-fn joined(first: &State, second: &State) -> Compared {
+fn joined(first: &AbstractState, second: &AbstractState) -> Compared {
     match difference(first.own().kinds(), second.own().kinds()) {
-        Some((slot, kind, other)) => Compared::Kinds(Place::Own(slot), kind, other),
+        Some((slot, kind, other)) => Compared::Kinds(OperandSlot::Own(slot), kind, other),
         None => shared_difference(first.bank().kinds(), second.bank().kinds()),
     }
 }
@@ -206,7 +211,7 @@ impl Search {
         &mut self,
         context: &Context<'_>,
         loops: usize,
-        state: &mut State,
+        state: &mut AbstractState,
         body: &Body,
     ) -> Result<(), AllocError>
         requires { length context.now.counts ≤ loops }
@@ -225,7 +230,7 @@ impl Search {
         &mut self,
         context: &Context<'_>,
         loops: usize,
-        state: &mut State,
+        state: &mut AbstractState,
         statement: &Statement,
     ) -> Result<(), AllocError>
         requires { length context.now.counts ≤ loops }
@@ -253,7 +258,7 @@ impl Search {
         &mut self,
         context: &Context<'_>,
         loops: usize,
-        state: &mut State,
+        state: &mut AbstractState,
         arm: &Body,
         other: &Body,
     ) -> Result<(), AllocError>
@@ -290,7 +295,7 @@ impl Search {
         &mut self,
         context: &Context<'_>,
         loops: usize,
-        state: &mut State,
+        state: &mut AbstractState,
         count: u16,
         body: &Body,
     ) -> Result<(), AllocError>

@@ -3,25 +3,25 @@ ghost use Rattle.std.specs.Prelude.{◌≡◌, ◌&&◌, codes, length, map, fil
 ghost use Rattle.toml.specs.Data.{get_member};
 ghost use Rattle.toml.specs.View.{table_view};
 ghost use Rattle.gq_scenario.specs.Document.{is_long, keys_of, routes_at, table_of};
-ghost use Rattle.gq_scenario.specs.Keys.{TooMany};
-ghost use Rattle.gq_scenario.specs.Words.{key_text};
+ghost use Rattle.gq_scenario.specs.Table_keys.{TooMany};
+ghost use Rattle.gq_scenario.specs.Fault_words.{key_text};
 ghost use Rattle.gq_scenario.specs.Document.{is_init};
-ghost use Rattle.gq_faults.specs.Lists.{all_found, when};
+ghost use Rattle.gq_faults.specs.Found_lists.{all_found, when};
 ghost use Rattle.gq_faults.specs.Documents.{counts_faults, is_inner, is_leaf, long_lists, nodes_in, too_many};
-ghost use Rattle.gq_faults.specs.Nodes.{node_of};
-ghost use Rattle.gq_faults.specs.Told.{TellsOf};
+ghost use Rattle.gq_faults.specs.Document_nodes.{node_of};
+ghost use Rattle.gq_faults.specs.Reported_faults.{ReportsOf};
 
-use crate::fault::TellError;
-use crate::found::{Crowd, Detail, Spot};
-use crate::nodes::NodeAt;
+use crate::document_nodes::NodeAt;
+use crate::fault_lines::Reporter;
+use crate::fault_value::{Crowd, Detail, FaultPart};
 use crate::path::with_step;
-use crate::tables::tell_fault;
-use crate::tell::Teller;
+use crate::report_error::ReportError;
+use crate::table_faults::report_fault;
 use gq_init::counted::Counted;
 use gq_reader::value::{count_at, has, table_at};
-use gq_scenario::fault::ScenarioFault;
+use gq_scenario::component_tree::GREATEST_COUNT;
 use gq_scenario::key::Key;
-use gq_scenario::tree::GREATEST_COUNT;
+use gq_scenario::scenario_fault::ScenarioFault;
 use gq_toml_places::Step;
 use std::io::Write;
 use toml::Table;
@@ -84,29 +84,29 @@ fn first_too_many<'n, 'd>(nodes: &'n [NodeAt<'d>], crowd: Crowd) -> Option<&'n N
 }
 
 // That there are too many nodes of a kind, where there are so many.
-fn tell_crowd<W: Write>(
-    teller: &Teller<'_>,
+fn report_crowd<W: Write>(
+    reporter: &Reporter<'_>,
     out: &mut Counted<W>,
     crowd: Crowd,
     count: usize,
     nodes: &[NodeAt<'_>],
-) -> Result<(), TellError>
-    ensures { TellsOf W.contents teller.now.path.now (too_many count) out.old out.new result }
+) -> Result<(), ReportError>
+    ensures { ReportsOf W.contents reporter.now.path.now (too_many count) out.old out.new result }
 {
     if count <= GREATEST_COUNT {
         return Ok(());
     }
     let way = match first_too_many(nodes, crowd) {
-        Some(node) => node.place.way(teller.alloc())?,
-        None => Vec::new(teller.alloc()),
+        Some(node) => node.place.way(reporter.alloc())?,
+        None => Vec::new(reporter.alloc()),
     };
     let detail = Detail::TooMany(crowd, count);
-    tell_fault(
-        teller,
+    report_fault(
+        reporter,
         out,
         ScenarioFault::TooMany,
         way.as_slice(),
-        Spot::Table,
+        FaultPart::Table,
         &detail,
     )
 }
@@ -133,13 +133,13 @@ fn interface_too_many(top: &Table) -> &str {
 }
 
 // That there are too many interfaces, where there are so many.
-fn tell_interfaces<W: Write>(
-    teller: &Teller<'_>,
+fn report_interfaces<W: Write>(
+    reporter: &Reporter<'_>,
     out: &mut Counted<W>,
     count: usize,
     top: &Table,
-) -> Result<(), TellError>
-    ensures { TellsOf W.contents teller.now.path.now (too_many count) out.old out.new result }
+) -> Result<(), ReportError>
+    ensures { ReportsOf W.contents reporter.now.path.now (too_many count) out.old out.new result }
 {
     if count <= GREATEST_COUNT {
         return Ok(());
@@ -149,115 +149,119 @@ fn tell_interfaces<W: Write>(
         Step::Key(interface_too_many(top)),
     ];
     let detail = Detail::TooMany(Crowd::Interfaces, count);
-    tell_fault(
-        teller,
+    report_fault(
+        reporter,
         out,
         ScenarioFault::TooMany,
         &way,
-        Spot::Key,
+        FaultPart::Key,
         &detail,
     )
 }
 
 // That there are too many routes at a key of a table, to which a way leads, where there are so many.
-fn tell_routes<W: Write>(
-    teller: &Teller<'_>,
+fn report_routes<W: Write>(
+    reporter: &Reporter<'_>,
     out: &mut Counted<W>,
     count: usize,
     way: &[Step<'_>],
     key: Key,
-) -> Result<(), TellError>
-    ensures { TellsOf W.contents teller.now.path.now (too_many count) out.old out.new result }
+) -> Result<(), ReportError>
+    ensures { ReportsOf W.contents reporter.now.path.now (too_many count) out.old out.new result }
 {
     if count <= GREATEST_COUNT {
         return Ok(());
     }
-    let list = with_step(teller.alloc(), way, Step::Key(key.word()))?;
-    let way = with_step(teller.alloc(), list.as_slice(), Step::Index(GREATEST_COUNT))?;
+    let list = with_step(reporter.alloc(), way, Step::Key(key.word()))?;
+    let way = with_step(
+        reporter.alloc(),
+        list.as_slice(),
+        Step::Index(GREATEST_COUNT),
+    )?;
     let detail = Detail::TooMany(Crowd::Routes, count);
-    tell_fault(
-        teller,
+    report_fault(
+        reporter,
         out,
         ScenarioFault::TooMany,
         way.as_slice(),
-        Spot::Key,
+        FaultPart::Key,
         &detail,
     )
 }
 
 // The routes at a key of a table, where they are too many.
-fn tell_long<W: Write>(
-    teller: &Teller<'_>,
+fn report_long<W: Write>(
+    reporter: &Reporter<'_>,
     out: &mut Counted<W>,
     way: &[Step<'_>],
     key: Key,
     table: &Table,
-) -> Result<(), TellError>
-    ensures { TellsOf W.contents teller.now.path.now (when (is_long (routes_at (key_text key) (table_view table.now))) TooMany) out.old out.new result }
+) -> Result<(), ReportError>
+    ensures { ReportsOf W.contents reporter.now.path.now (when (is_long (routes_at (key_text key) (table_view table.now))) TooMany) out.old out.new result }
 {
-    tell_routes(teller, out, count_at(table, key), way, key)
+    report_routes(reporter, out, count_at(table, key), way, key)
 }
 
 // The default routes of an init.
-fn tell_default<W: Write>(
-    teller: &Teller<'_>,
+fn report_default<W: Write>(
+    reporter: &Reporter<'_>,
     out: &mut Counted<W>,
     way: &[Step<'_>],
     table: &Table,
-) -> Result<(), TellError>
-    ensures { TellsOf W.contents teller.now.path.now
+) -> Result<(), ReportError>
+    ensures { ReportsOf W.contents reporter.now.path.now
         (when (is_init (table_view table.now) && is_long (routes_at (codes "default-route") (table_view table.now))) TooMany) out.old out.new result }
 {
     if has(table, Key::Start) {
-        tell_long(teller, out, way, Key::DefaultRoute, table)
+        report_long(reporter, out, way, Key::DefaultRoute, table)
     } else {
         Ok(())
     }
 }
 
 // The lists of routes of a node.
-fn tell_lists<W: Write>(
-    teller: &Teller<'_>,
+fn report_lists<W: Write>(
+    reporter: &Reporter<'_>,
     out: &mut Counted<W>,
     node: &NodeAt<'_>,
-) -> Result<(), TellError>
-    ensures { TellsOf W.contents teller.now.path.now (long_lists (node_of node.now)) out.old out.new result }
+) -> Result<(), ReportError>
+    ensures { ReportsOf W.contents reporter.now.path.now (long_lists (node_of node.now)) out.old out.new result }
 {
     if node.is_deep {
         return Ok(());
     }
-    let way = node.place.way(teller.alloc())?;
-    tell_long(teller, out, way.as_slice(), Key::Route, node.table)?;
-    tell_default(teller, out, way.as_slice(), node.table)
+    let way = node.place.way(reporter.alloc())?;
+    report_long(reporter, out, way.as_slice(), Key::Route, node.table)?;
+    report_default(reporter, out, way.as_slice(), node.table)
 }
 
 // The lists of routes of all nodes.
-fn tell_all_lists<W: Write>(
-    teller: &Teller<'_>,
+fn report_all_lists<W: Write>(
+    reporter: &Reporter<'_>,
     out: &mut Counted<W>,
     nodes: &[NodeAt<'_>],
-) -> Result<(), TellError>
-    ensures { TellsOf W.contents teller.now.path.now (all_found long_lists (map node_of nodes.now)) out.old out.new result }
+) -> Result<(), ReportError>
+    ensures { ReportsOf W.contents reporter.now.path.now (all_found long_lists (map node_of nodes.now)) out.old out.new result }
 {
     for node in nodes {
-        tell_lists(teller, out, node)?;
+        report_lists(reporter, out, node)?;
     }
     Ok(())
 }
 
-/// Tells what there is too much of: leaves, inits below the root, interfaces, and routes of each list that is too long.
-pub(crate) fn tell_counts<W: Write>(
-    teller: &Teller<'_>,
+/// Reports what there is too much of: leaves, inits below the root, interfaces, and routes of each list that is too long.
+pub(crate) fn report_counts<W: Write>(
+    reporter: &Reporter<'_>,
     out: &mut Counted<W>,
     top: &Table,
     nodes: &[NodeAt<'_>],
-) -> Result<(), TellError>
+) -> Result<(), ReportError>
     requires { map node_of nodes.now ≡ nodes_in (table_view top.now) }
-    ensures { TellsOf W.contents teller.now.path.now (counts_faults (table_view top.now)) out.old out.new result }
+    ensures { ReportsOf W.contents reporter.now.path.now (counts_faults (table_view top.now)) out.old out.new result }
 {
-    tell_crowd(teller, out, Crowd::Leaves, count_leaves(nodes), nodes)?;
-    tell_crowd(teller, out, Crowd::Inits, count_inits(nodes), nodes)?;
-    tell_interfaces(teller, out, count_interfaces(top), top)?;
-    tell_long(teller, out, &[], Key::DefaultRoute, top)?;
-    tell_all_lists(teller, out, nodes)
+    report_crowd(reporter, out, Crowd::Leaves, count_leaves(nodes), nodes)?;
+    report_crowd(reporter, out, Crowd::Inits, count_inits(nodes), nodes)?;
+    report_interfaces(reporter, out, count_interfaces(top), top)?;
+    report_long(reporter, out, &[], Key::DefaultRoute, top)?;
+    report_all_lists(reporter, out, nodes)
 }

@@ -1,30 +1,30 @@
 // All that is wrong with a scenario, with its place in the file.
 ghost use Rattle.std.specs.Prelude.{◌≡◌, ◌∷◌, [], Ok, map};
 ghost use Rattle.toml.specs.View.{table_view};
-ghost use Rattle.gq_scenario.specs.Reading.{document_in, scenario_in};
-ghost use Rattle.gq_scenario.specs.Words.{scenario_fault_text};
+ghost use Rattle.gq_scenario.specs.Top_table.{document_in, scenario_in};
+ghost use Rattle.gq_scenario.specs.Fault_words.{scenario_fault_text};
 ghost use Rattle.gq_load.specs.Load.{fault_text};
-ghost use Rattle.gq_faults.specs.Answered.{TellsText};
+ghost use Rattle.gq_faults.specs.Answered.{ReportsText};
 ghost use Rattle.gq_faults.specs.Documents.{document_faults};
 ghost use Rattle.gq_faults.specs.Scenario_faults.{scenario_faults};
-ghost use Rattle.gq_faults.specs.Told.{Tells, TellsOf};
+ghost use Rattle.gq_faults.specs.Reported_faults.{Reports, ReportsOf};
 
-use crate::bytes::position_in;
-use crate::document::tell_document;
-use crate::fault::TellError;
+use crate::byte_columns::position_in;
+use crate::document_faults::report_document;
+use crate::fault_lines::{Reporter, push_line, put_fault};
+use crate::report_error::ReportError;
 use crate::stages::scenario_faults;
-use crate::tell::{Teller, push_line, put_fault};
-use crate::words::Details;
+use crate::value_words::Details;
 use gq_init::counted::Counted;
 use gq_load::checked::scenario_lines;
-use gq_load::fault::{LoadError, LoadFault};
+use gq_load::load_fault::{LoadError, LoadFault};
 use gq_model::limits::GREATEST_SCENARIO;
 use gq_reader::document::read_document;
+use gq_reader::first_fault_walk::walk_fault;
 use gq_reader::reader::read_scenario;
-use gq_reader::walk::walk_fault;
-use gq_scenario::fault::{ScenarioError, ScenarioFault};
 use gq_scenario::scenario::Scenario;
-use gq_toml_places::{Places, Position, not_toml};
+use gq_scenario::scenario_fault::{ScenarioError, ScenarioFault};
+use gq_toml_places::{Position, SourceMap, not_toml};
 use std::alloc::{AllocError, Global};
 use std::io::Write;
 use toml::Table;
@@ -41,7 +41,7 @@ fn stop_in(alloc: Global, text: &str, details: &mut Details) -> Result<Position,
     let Some(stop) = not_toml(alloc, text)? else {
         return Ok(Position { line: 1, column: 1 });
     };
-    let places = Places::read(alloc, text)?;
+    let places = SourceMap::read(alloc, text)?;
     let position = places.position(stop.at);
     push_line(details, places.line(position.line))?;
     details.line(stop.error.message())?;
@@ -64,13 +64,13 @@ fn stop_of(alloc: Global, text: &[u8], details: &mut Details) -> Result<Position
 }
 
 // Writes that a text is no document: where it stops being one, and what it stops with.
-fn tell_stop<W: Write>(
+fn report_stop<W: Write>(
     alloc: Global,
     file: File<'_>,
     fault: &ScenarioFault,
     out: &mut Counted<W>,
-) -> Result<(), TellError>
-    ensures { Tells W.contents file.entry.path.now (scenario_fault_text fault.now ∷ []) out.old out.new result }
+) -> Result<(), ReportError>
+    ensures { Reports W.contents file.entry.path.now (scenario_fault_text fault.now ∷ []) out.old out.new result }
 {
     let mut details = Details::new(alloc);
     let position = stop_of(alloc, file.text, &mut details)?;
@@ -79,32 +79,32 @@ fn tell_stop<W: Write>(
 }
 
 // Writes the faults of a document, which is that of a text.
-fn tell_tables<W: Write>(
+fn report_tables<W: Write>(
     alloc: Global,
     file: File<'_>,
     top: &Table,
     out: &mut Counted<W>,
-) -> Result<(), TellError>
-    ensures { TellsOf W.contents file.entry.path.now (document_faults (table_view top.now)) out.old out.new result }
+) -> Result<(), ReportError>
+    ensures { ReportsOf W.contents file.entry.path.now (document_faults (table_view top.now)) out.old out.new result }
 {
     let text = str::from_utf8(file.text).unwrap_or("");
-    let teller = Teller::new(alloc, file.path, text)?;
-    tell_document(&teller, out, top)
+    let reporter = Reporter::new(alloc, file.path, text)?;
+    report_document(&reporter, out, top)
 }
 
 // Writes the faults of a scenario, which is that of a text.
-fn tell_scenario<W: Write>(
+fn report_scenario<W: Write>(
     alloc: Global,
     file: File<'_>,
     scenario: &Scenario,
     out: &mut Counted<W>,
-) -> Result<(), TellError>
-    ensures { Tells W.contents file.entry.path.now (map fault_text (scenario_faults scenario.now)) out.old out.new result }
+) -> Result<(), ReportError>
+    ensures { Reports W.contents file.entry.path.now (map fault_text (scenario_faults scenario.now)) out.old out.new result }
 {
     let found = scenario_faults(alloc, scenario)?;
     let text = str::from_utf8(file.text).unwrap_or("");
-    let teller = Teller::new(alloc, file.path, text)?;
-    teller.tell_each(out, found.as_slice())
+    let reporter = Reporter::new(alloc, file.path, text)?;
+    reporter.report_each(out, found.as_slice())
 }
 
 // Writes the faults of a scenario, which is that of a text, and answers why it is refused, if it is. It is judged as `check` does it; where it is accepted,
@@ -114,18 +114,18 @@ fn faults_of_scenario<W: Write>(
     file: File<'_>,
     scenario: &Scenario,
     out: &mut Counted<W>,
-) -> Result<Option<LoadFault>, TellError>
+) -> Result<Option<LoadFault>, ReportError>
     requires { scenario_in file.text.now ≡ Ok scenario.now }
-    ensures { TellsText W.contents file.entry.path.now file.entry.text.now out.old out.new result }
+    ensures { ReportsText W.contents file.entry.path.now file.entry.text.now out.old out.new result }
 {
     match scenario_lines(alloc, scenario) {
         Ok(lines) => {
             drop(lines);
             Ok(None)
         }
-        Err(LoadError::Memory) => Err(TellError::Memory),
+        Err(LoadError::Memory) => Err(ReportError::Memory),
         Err(LoadError::Fault(fault)) => {
-            tell_scenario(alloc, file, scenario, out)?;
+            report_scenario(alloc, file, scenario, out)?;
             Ok(Some(fault))
         }
     }
@@ -138,18 +138,18 @@ fn faults_of_described<W: Write>(
     file: File<'_>,
     top: Table,
     out: &mut Counted<W>,
-) -> Result<Option<LoadFault>, TellError>
+) -> Result<Option<LoadFault>, ReportError>
     requires { document_in file.text.now ≡ Ok (table_view top) }
-    ensures { TellsText W.contents file.entry.path.now file.entry.text.now out.old out.new result }
+    ensures { ReportsText W.contents file.entry.path.now file.entry.text.now out.old out.new result }
 {
     match read_scenario(alloc, file.text) {
         Ok(scenario) => {
             drop(top);
             faults_of_scenario(alloc, file, &scenario, out)
         }
-        Err(ScenarioError::Memory(_)) => Err(TellError::Memory),
+        Err(ScenarioError::Memory(_)) => Err(ReportError::Memory),
         Err(ScenarioError::Fault(fault)) => {
-            tell_tables(alloc, file, &top, out)?;
+            report_tables(alloc, file, &top, out)?;
             Ok(Some(LoadFault::Scenario(fault)))
         }
     }
@@ -162,36 +162,36 @@ fn faults_of_document<W: Write>(
     file: File<'_>,
     top: Table,
     out: &mut Counted<W>,
-) -> Result<Option<LoadFault>, TellError>
+) -> Result<Option<LoadFault>, ReportError>
     requires { document_in file.text.now ≡ Ok (table_view top) }
-    ensures { TellsText W.contents file.entry.path.now file.entry.text.now out.old out.new result }
+    ensures { ReportsText W.contents file.entry.path.now file.entry.text.now out.old out.new result }
 {
     match walk_fault(&top) {
         Some(fault) => {
-            tell_tables(alloc, file, &top, out)?;
+            report_tables(alloc, file, &top, out)?;
             Ok(Some(LoadFault::Scenario(fault)))
         }
         None => faults_of_described(alloc, file, top, out),
     }
 }
 
-/// Writes all that is wrong with a scenario and can be told at once, each fault as `PATH:LINE:COLUMN: FAULT` with its details below it: the faults of the first
-/// stage that has any. These are: that the text is no document; all faults of its tables, counts and names; the first of each program's text or code; the rule
-/// that each program breaks first; all of quanta, offers, leaves that start after others, routes and cycles; all of budgets. Answers why the scenario is
-/// refused, if it is: the fault that `check` prints, which is the first of these (`laws`). Nothing is written where it is accepted. Ends early where host
-/// memory is refused or a write fails; then a prefix of the text was written.
+/// Writes all that is wrong with a scenario and can be reported at once, each fault as `PATH:LINE:COLUMN: FAULT` with its details below it: the faults of the
+/// first stage that has any. The stages are: that the text is no document. All faults of its tables, counts and names. The first of each program's text or
+/// code. The rule that each program breaks first. All of quanta, offers, leaves that start after others, routes and cycles. All of budgets. Answers why the
+/// scenario is refused, if it is: the fault that `check` prints, which is the first of these (`laws`). Nothing is written where it is accepted. Ends early
+/// where host memory is refused or a write fails; then a prefix of the text was written.
 pub fn faults<W: Write>(
     alloc: Global,
     file: File<'_>,
     out: &mut Counted<W>,
-) -> Result<Option<LoadFault>, TellError>
-    ensures { TellsText W.contents file.entry.path.now file.entry.text.now out.old out.new result }
+) -> Result<Option<LoadFault>, ReportError>
+    ensures { ReportsText W.contents file.entry.path.now file.entry.text.now out.old out.new result }
 {
     match read_document(alloc, file.text) {
         Ok(top) => faults_of_document(alloc, file, top, out),
-        Err(ScenarioError::Memory(_)) => Err(TellError::Memory),
+        Err(ScenarioError::Memory(_)) => Err(ReportError::Memory),
         Err(ScenarioError::Fault(fault)) => {
-            tell_stop(alloc, file, &fault, out)?;
+            report_stop(alloc, file, &fault, out)?;
             Ok(Some(LoadFault::Scenario(fault)))
         }
     }

@@ -1,9 +1,9 @@
 // How a service that is refused is led, an init after the other.
 // No contract: its results are details alone. Tests show them.
-use crate::after::is_same;
-use crate::found::{Hop, Owner, Where};
-use crate::lines::nth_word;
+use crate::fault_value::{Hop, Owner, Where};
 use crate::meant::Nearest;
+use crate::program_lines::nth_word;
+use crate::start_after_faults::is_same;
 use gq_model::program::Name;
 use gq_resolve::component::Component;
 use gq_resolve::routing::{Level, fits, offer_of, provider};

@@ -1,6 +1,6 @@
 // Which statements pushed the operands that are there.
 // No contract: its results are details alone. Tests show them.
-use crate::found::{Compared, Pusher};
+use crate::fault_value::{Compared, Pusher};
 use gq_model::program::{Bare, Instruction, OperandStatement, WithNumber};
 use gq_program::Section;
 use std::alloc::{AllocError, Global};

@@ -2,23 +2,23 @@
 ghost use Rattle.std.specs.Prelude.{◌≡◌, ◌∷◌, ◌++◌, [], None, IfOk, OnOk, map, option_map};
 ghost use Rattle.gq_model.specs.rules.Verdict.{program_fault};
 ghost use Rattle.gq_model.specs.texts.Fault_texts.{refusal_text};
-ghost use Rattle.gq_load.specs.Faults.{load_fault_text};
-ghost use Rattle.gq_load.specs.declared.fault.LoadError.TheVariants as load;
+ghost use Rattle.gq_load.specs.Load_faults.{load_fault_text};
+ghost use Rattle.gq_load.specs.declared.load_fault.LoadError.TheVariants as load;
 ghost use Rattle.gq_load.specs.Load.{fault_text, source_fault, sources_fault};
-ghost use Rattle.gq_load.specs.internal.Judged.{judged_by, leaf_refusal};
-ghost use Rattle.gq_verify.specs.Faults.{known_fault};
-ghost use Rattle.gq_faults.specs.Lists.{all_found, listed_if};
+ghost use Rattle.gq_load.specs.internal.Judged_programs.{judged_by, leaf_refusal};
+ghost use Rattle.gq_verify.specs.Program_faults.{known_fault};
+ghost use Rattle.gq_faults.specs.Found_lists.{all_found, listed_if};
 ghost use Rattle.gq_faults.specs.Scenario_faults.{sources_faults};
 ghost use Rattle.gq_faults.specs.Found_lines.{lines_found};
 
 use crate::compared::compared;
-use crate::found::{Compared, Detail, Found, Mistake, Pusher, Spot, push_fault};
-use crate::leaves::way_to;
-use crate::lines::{line_at, line_of, nth_word};
+use crate::fault_value::{Compared, Detail, FaultPart, FoundFault, Mistake, Pusher, push_fault};
+use crate::leaf_tables::way_to;
 use crate::meant::near_interfaces;
+use crate::program_lines::{line_at, line_of, nth_word};
 use crate::text_faults::mistake_on;
-use gq_load::fault::{LoadError, LoadFault};
-use gq_load::programs::read_program;
+use gq_load::leaf_programs::read_program;
+use gq_load::load_fault::{LoadError, LoadFault};
 use gq_model::fault::Rule;
 use gq_program::{Interfaces, Program, Section};
 use gq_resolve::component::Component;
@@ -43,14 +43,14 @@ fn text_fault(
     alloc: Global,
     leaf: &Leaf,
     fault: &LoadFault,
-) -> Result<(Spot, Detail<'static>), AllocError> {
+) -> Result<(FaultPart, Detail<'static>), AllocError> {
     match (leaf.source(), fault) {
         (Source::Text(text), LoadFault::Text { fault, line, .. }) => {
             let line = *line as usize;
             let (at, mistake) = mistake_on(alloc, leaf.inputs(), text.as_slice(), *fault, line)?;
-            Ok((Spot::Word(line, at), Detail::Text(mistake)))
+            Ok((FaultPart::Word(line, at), Detail::Text(mistake)))
         }
-        _ => Ok((Spot::Key, Detail::Text(Mistake::Nothing))),
+        _ => Ok((FaultPart::Key, Detail::Text(Mistake::Nothing))),
     }
 }
 
@@ -78,18 +78,18 @@ fn word_at(text: &[u8], line: usize, word: usize) -> usize {
 }
 
 // Where a rule is broken.
-fn rule_spot(leaf: &Leaf, fault: &Fault) -> Spot {
+fn rule_part(leaf: &Leaf, fault: &Fault) -> FaultPart {
     match leaf.source() {
         Source::Text(text) => match line_of(text.as_slice(), fault.section, fault.place) {
-            Some(line) => Spot::Word(line, word_at(text.as_slice(), line, word_of(fault))),
-            None => Spot::Key,
+            Some(line) => FaultPart::Word(line, word_at(text.as_slice(), line, word_of(fault))),
+            None => FaultPart::Key,
         },
-        Source::Code(_) => Spot::Key,
+        Source::Code(_) => FaultPart::Key,
     }
 }
 
-// The fault that an error tells.
-fn told(error: LoadError) -> Result<LoadFault, AllocError>
+// The fault that an error reports.
+fn reported(error: LoadError) -> Result<LoadFault, AllocError>
     ensures { IfOk result (λ fault. error ≡ load.Fault fault) }
 {
     match error {
@@ -107,28 +107,28 @@ fn read_fault(alloc: Global, leaf: &Leaf) -> Result<Option<LoadFault>, AllocErro
             drop(program);
             Ok(None)
         }
-        Err(error) => Ok(Some(told(error)?)),
+        Err(error) => Ok(Some(reported(error)?)),
     }
 }
 
 // A fault of the text or the code of a leaf at the end of those that were found.
 fn push_of_text(
     alloc: Global,
-    found: &mut Vec<Found<'_>>,
+    found: &mut Vec<FoundFault<'_>>,
     leaf: &Leaf,
     fault: &LoadFault,
     way: Vec<Step<'static>>,
 ) -> Result<(), AllocError>
     ensures { OnOk result (lines_found found.new.items ≡ lines_found found.old.items ++ load_fault_text fault.now ∷ []) }
 {
-    let (spot, detail) = text_fault(alloc, leaf, fault)?;
-    push_fault(alloc, found, fault, way, spot, detail)
+    let (part, detail) = text_fault(alloc, leaf, fault)?;
+    push_fault(alloc, found, fault, way, part, detail)
 }
 
 // The same at the end of those that were found.
 fn push_source(
     alloc: Global,
-    found: &mut Vec<Found<'_>>,
+    found: &mut Vec<FoundFault<'_>>,
     component: &Component<'_>,
     leaves: &[Vec<Step<'static>>],
     place: usize,
@@ -149,7 +149,7 @@ fn push_source(
 /// The first fault of each text and code.
 pub(crate) fn push_sources(
     alloc: Global,
-    found: &mut Vec<Found<'_>>,
+    found: &mut Vec<FoundFault<'_>>,
     components: &[Component<'_>],
     leaves: &[Vec<Step<'static>>],
 ) -> Result<(), AllocError>
@@ -230,7 +230,7 @@ fn read(alloc: Global, leaf: &Leaf) -> Result<Program, AllocError>
     match read_program(alloc, leaf) {
         Ok(program) => Ok(program),
         Err(error) => {
-            let fault = told(error)?;
+            let fault = reported(error)?;
             drop(fault);
             unreachable!()
         }
@@ -252,7 +252,7 @@ fn broken(component: &Component<'_>, program: &Program, interfaces: &Interfaces)
 // The same at the end of those that were found.
 fn push_judged(
     alloc: Global,
-    found: &mut Vec<Found<'_>>,
+    found: &mut Vec<FoundFault<'_>>,
     component: &Component<'_>,
     program: &Program,
     interfaces: &Interfaces,
@@ -266,14 +266,14 @@ fn push_judged(
     match broken(component, program, interfaces) {
         Some(fault) => {
             let detail = detail_of(alloc, leaf, program, interfaces, &fault)?;
-            let spot = rule_spot(leaf, &fault);
+            let part = rule_part(leaf, &fault);
             let fault = LoadFault::Rule {
                 leaf: leaf.name().copied(),
                 rule: fault.rule,
                 section: fault.section,
                 place: fault.place,
             };
-            push_fault(alloc, found, &fault, way, spot, Detail::Rule(detail))
+            push_fault(alloc, found, &fault, way, part, Detail::Rule(detail))
         }
         None => Ok(()),
     }
@@ -282,7 +282,7 @@ fn push_judged(
 // The same of a leaf whose text or code is a program.
 fn push_rule(
     alloc: Global,
-    found: &mut Vec<Found<'_>>,
+    found: &mut Vec<FoundFault<'_>>,
     component: &Component<'_>,
     interfaces: &Interfaces,
     leaves: &[Vec<Step<'static>>],
@@ -301,7 +301,7 @@ fn push_rule(
 /// The rule that each program breaks first, where all texts and codes are programs.
 pub(crate) fn push_rules(
     alloc: Global,
-    found: &mut Vec<Found<'_>>,
+    found: &mut Vec<FoundFault<'_>>,
     components: &[Component<'_>],
     interfaces: &Interfaces,
     leaves: &[Vec<Step<'static>>],

@@ -4,21 +4,21 @@ ghost use Rattle.gq_model.specs.machine.Scenario as model;
 ghost use Rattle.gq_model.specs.rules.Use.{services};
 ghost use Rattle.gq_model.specs.texts.Fault_texts.{refusal_text, unresolved_text};
 ghost use Rattle.gq_load.specs.Load.{fault_text, sources_fault};
-ghost use Rattle.gq_load.specs.internal.Judged.{first_refusal};
+ghost use Rattle.gq_load.specs.internal.Judged_programs.{first_refusal};
 ghost use Rattle.gq_load.specs.internal.Surveys.{AreSurveys};
 ghost use Rattle.gq_faults.specs.Scenario_faults as spec;
 ghost use Rattle.gq_faults.specs.Scenario_faults.{unresolved_all};
 ghost use Rattle.gq_faults.specs.Found_lines.{lines_found};
 
-use crate::after::push_after;
-use crate::budgets::push_budgets;
-use crate::found::Found;
-use crate::leaves::push_leaves;
-use crate::offers::push_bad_offers;
-use crate::quanta::push_quanta;
-use crate::routes::{push_cycles, push_routes};
+use crate::budget_faults::push_budgets;
+use crate::fault_value::FoundFault;
+use crate::leaf_tables::push_leaves;
+use crate::offer_faults::push_bad_offers;
+use crate::quantum_faults::push_quanta;
+use crate::route_faults::{push_cycles, push_routes};
 use crate::sources::{push_rules, push_sources};
-use gq_load::fault::LoadError;
+use crate::start_after_faults::push_after;
+use gq_load::load_fault::LoadError;
 use gq_load::surveys::{Surveys, survey_sources};
 use gq_model::program::Name;
 use gq_program::Interfaces;
@@ -31,7 +31,7 @@ use std::alloc::{AllocError, Global};
 // All faults of quanta, offers, leaves that start after others, routes and cycles. The components are those of the scenario, which open these services.
 fn push_unresolved<'s>(
     alloc: Global,
-    found: &mut Vec<Found<'s>>,
+    found: &mut Vec<FoundFault<'s>>,
     scenario: &'s Scenario,
     components: &[Component<'_>],
     opened: &[Vec<Name>],
@@ -70,7 +70,7 @@ fn surveys_of(
 // All faults of quanta, offers, leaves that start after others, routes and cycles; where there is none, all of budgets.
 fn push_rest<'s>(
     alloc: Global,
-    found: &mut Vec<Found<'s>>,
+    found: &mut Vec<FoundFault<'s>>,
     scenario: &'s Scenario,
     components: &[Component<'_>],
     leaves: &[Vec<Step<'static>>],
@@ -99,7 +99,7 @@ fn push_rest<'s>(
 // The first fault of each text and code; where there is none, the rule that each program breaks first; where there is none, the rest.
 fn push_all<'s>(
     alloc: Global,
-    found: &mut Vec<Found<'s>>,
+    found: &mut Vec<FoundFault<'s>>,
     scenario: &'s Scenario,
     components: &[Component<'_>],
     leaves: &[Vec<Step<'static>>],
@@ -125,7 +125,7 @@ fn no_ways(alloc: Global) -> Vec<Vec<Step<'static>>> {
 }
 
 // The same of faults.
-fn none_found<'s>(alloc: Global) -> Vec<Found<'s>>
+fn none_found<'s>(alloc: Global) -> Vec<FoundFault<'s>>
     ensures { result.items ≡ [] }
 {
     Vec::new(alloc)
@@ -144,7 +144,7 @@ fn found_in<'s>(
     scenario: &'s Scenario,
     components: &[Component<'_>],
     leaves: &[Vec<Step<'static>>],
-) -> Result<Vec<Found<'s>>, AllocError>
+) -> Result<Vec<FoundFault<'s>>, AllocError>
     requires { components.now ≡ model.components scenario.now }
     ensures { IfOk result (λ found. lines_found found.items ≡ map fault_text (spec.scenario_faults scenario.now)) }
 {
@@ -153,12 +153,13 @@ fn found_in<'s>(
     Ok(found)
 }
 
-/// The faults of a scenario: the first of each text and code that is no program; where there is none, the rule that each program breaks first; then all of
-/// quanta, offers, leaves that start after others, routes and cycles; then all of budgets. None where the scenario is accepted.
+/// The faults of a scenario, by stages. First comes the first fault of each text and code that is no program. Without one comes the rule that each program
+/// breaks first. Then come all faults of quanta, offers, leaves that start after others, routes and cycles, and last all of budgets. None where the scenario is
+/// accepted.
 pub fn scenario_faults<'s>(
     alloc: Global,
     scenario: &'s Scenario,
-) -> Result<Vec<Found<'s>>, AllocError>
+) -> Result<Vec<FoundFault<'s>>, AllocError>
     ensures { IfOk result (λ found. lines_found found.items ≡ map fault_text (spec.scenario_faults scenario.now)) }
 {
     let leaves = all_leaves(alloc, scenario)?;

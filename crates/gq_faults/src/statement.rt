@@ -1,20 +1,20 @@
 // What a rule compared at a statement, from what is known before it.
 // No contract: its results are details alone. Tests show them.
-use crate::found::{Compared, Holder, Needed, Unit};
-use crate::session::session_cost_of;
+use crate::fault_value::{Compared, Holder, Needed, Unit};
+use crate::session_cost::session_cost_of;
 use gq_caps::Kind;
 use gq_model::fault::Rule;
 use gq_model::limits::INPUTS;
-use gq_model::program::{Instruction, Name, OperandStatement, Place, Width, WithNumber};
+use gq_model::program::{Instruction, Name, OperandSlot, OperandStatement, Width, WithNumber};
 use gq_program::Interface;
-use gq_rules::{Context, State};
+use gq_rules::{AbstractState, Context};
 use std::alloc::{AllocError, Global};
 
 /// What a rule that an instruction breaks compared.
 pub(crate) fn of_statement(
     alloc: Global,
     context: &Context<'_>,
-    state: &mut State,
+    state: &mut AbstractState,
     instruction: &Instruction,
     rule: Rule,
 ) -> Result<Compared, AllocError> {
@@ -36,7 +36,7 @@ pub(crate) fn of_statement(
 }
 
 // The slot of an instruction, and what it needs there.
-fn slot_of(instruction: &Instruction) -> Option<(Place, Needed)> {
+fn slot_of(instruction: &Instruction) -> Option<(OperandSlot, Needed)> {
     match instruction {
         Instruction::Make(_, place, _)
         | Instruction::MakePool(place, _, _)
@@ -59,7 +59,7 @@ fn slot_of(instruction: &Instruction) -> Option<(Place, Needed)> {
 // What the slot of an instruction holds, and what is needed there.
 fn of_slot(
     context: &Context<'_>,
-    state: &State,
+    state: &AbstractState,
     instruction: &Instruction,
     rule: Rule,
 ) -> Compared {
@@ -73,7 +73,7 @@ fn of_slot(
 }
 
 // The pool in a slot: the bytes of an entry, and how many entries there are.
-fn pool_at(context: &Context<'_>, state: &State, place: Place) -> Option<(u64, u64)> {
+fn pool_at(context: &Context<'_>, state: &AbstractState, place: OperandSlot) -> Option<(u64, u64)> {
     match context.kind_at(state, place) {
         Some(Kind::Pool(size, count)) => Some((u64::from(size), u64::from(count))),
         _ => None,
@@ -83,8 +83,8 @@ fn pool_at(context: &Context<'_>, state: &State, place: Place) -> Option<(u64, u
 // The interface of the link in a slot, with the level that it has.
 fn linked<'c>(
     context: &'c Context<'_>,
-    state: &State,
-    place: Place,
+    state: &AbstractState,
+    place: OperandSlot,
 ) -> Option<(&'c Interface, Name, u8)> {
     let link = context.link_at(state, place)?;
     let name = Name::new(link.service())?;
@@ -103,9 +103,9 @@ fn unit_of(width: Width) -> Unit {
 // An index of bytes, which is the top operand once so many others are taken off.
 fn byte_index(
     context: &Context<'_>,
-    state: &mut State,
+    state: &mut AbstractState,
     width: Width,
-    place: Place,
+    place: OperandSlot,
     others: usize,
 ) -> Option<Compared> {
     let bytes = context.bytes_at(state, place)?;
@@ -114,7 +114,7 @@ fn byte_index(
 }
 
 // The greatest value of the operand below so many others.
-fn operand(state: &mut State, others: usize) -> Option<u32> {
+fn operand(state: &mut AbstractState, others: usize) -> Option<u32> {
     for _other in 0..others {
         if state.pop().is_err() {
             return None;
@@ -124,7 +124,11 @@ fn operand(state: &mut State, others: usize) -> Option<u32> {
 }
 
 // An index of an entry.
-fn entry_index(context: &Context<'_>, state: &mut State, place: Place) -> Option<Compared> {
+fn entry_index(
+    context: &Context<'_>,
+    state: &mut AbstractState,
+    place: OperandSlot,
+) -> Option<Compared> {
     let (_, count) = pool_at(context, state, place)?;
     let index = operand(state, 0)?;
     Some(Compared::Index(place, u64::from(index), count, Unit::Entries))
@@ -133,8 +137,8 @@ fn entry_index(context: &Context<'_>, state: &mut State, place: Place) -> Option
 // An index of an entry, and one of a byte in it, below so many others: the one that is out of range.
 fn entry_byte_index(
     context: &Context<'_>,
-    state: &mut State,
-    place: Place,
+    state: &mut AbstractState,
+    place: OperandSlot,
     others: usize,
 ) -> Option<Compared> {
     let (size, count) = pool_at(context, state, place)?;
@@ -148,13 +152,21 @@ fn entry_byte_index(
 }
 
 // An upgrade past those that the service has.
-fn level_past(context: &Context<'_>, state: &State, place: Place) -> Option<Compared> {
+fn level_past(
+    context: &Context<'_>,
+    state: &AbstractState,
+    place: OperandSlot,
+) -> Option<Compared> {
     let (interface, name, level) = linked(context, state, place)?;
     Some(Compared::Level(name, level.saturating_add(1), interface.upgrades().len()))
 }
 
 // The index of an instruction, and what it is compared with.
-fn of_index(context: &Context<'_>, state: &mut State, instruction: &Instruction) -> Compared {
+fn of_index(
+    context: &Context<'_>,
+    state: &mut AbstractState,
+    instruction: &Instruction,
+) -> Compared {
     let found = match instruction {
         Instruction::Load(width, place) => byte_index(context, state, *width, *place, 0),
         Instruction::Store(width, place) => byte_index(context, state, *width, *place, 1),
@@ -168,7 +180,11 @@ fn of_index(context: &Context<'_>, state: &mut State, instruction: &Instruction)
 }
 
 // The value that an instruction takes off, and what it is compared with.
-fn of_value(context: &Context<'_>, state: &mut State, instruction: &Instruction) -> Compared {
+fn of_value(
+    context: &Context<'_>,
+    state: &mut AbstractState,
+    instruction: &Instruction,
+) -> Compared {
     let Some(value) = operand(state, 0) else {
         return Compared::Nothing;
     };
@@ -212,7 +228,11 @@ fn of_input(
 }
 
 // What an instruction gives, and what a session needs.
-fn of_donation(context: &Context<'_>, state: &State, instruction: &Instruction) -> Compared {
+fn of_donation(
+    context: &Context<'_>,
+    state: &AbstractState,
+    instruction: &Instruction,
+) -> Compared {
     match instruction {
         Instruction::Open(_, service, given) => {
             match context.subject().interface(service.as_bytes()) {
@@ -227,7 +247,12 @@ fn of_donation(context: &Context<'_>, state: &State, instruction: &Instruction) 
     }
 }
 
-fn of_upgrade(context: &Context<'_>, state: &State, place: Place, given: u32) -> Compared {
+fn of_upgrade(
+    context: &Context<'_>,
+    state: &AbstractState,
+    place: OperandSlot,
+    given: u32,
+) -> Compared {
     let Some((interface, name, level)) = linked(context, state, place) else {
         return Compared::Nothing;
     };

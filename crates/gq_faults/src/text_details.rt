@@ -1,13 +1,13 @@
 // The details of a line of a program's text.
 // No contract: its results are details alone. Tests show them.
-use crate::found::{Mistake, Operand};
-use crate::words::Details;
+use crate::fault_value::{Mistake, Operand};
+use crate::value_words::Details;
 use gq_model::program::Name;
 use gq_reader::rules::ValueRule;
 use std::alloc::AllocError;
 
 /// Puts what is wrong on a line of a program's text at the end of details.
-pub(crate) fn push_mistake(told: &mut Details, mistake: &Mistake) -> Result<(), AllocError> {
+pub(crate) fn push_mistake(reported: &mut Details, mistake: &Mistake) -> Result<(), AllocError> {
     match mistake {
         Mistake::Nothing => Ok(()),
         Mistake::Unknown {
@@ -17,35 +17,35 @@ pub(crate) fn push_mistake(told: &mut Details, mistake: &Mistake) -> Result<(), 
             near,
         } => {
             unknown(
-                told,
+                reported,
                 word.as_str(),
                 *is_inside,
                 *is_elsewhere,
                 near.as_slice(),
             )?;
-            begins(told, *is_inside)?;
-            push_comment(told, word.as_bytes())
+            begins(reported, *is_inside)?;
+            push_comment(reported, word.as_bytes())
         }
         Mistake::Surplus {
             word,
             first,
             operands,
         } => {
-            surplus(told, word.as_str(), first.as_str(), operands)?;
-            push_comment(told, word.as_bytes())
+            surplus(reported, word.as_str(), first.as_str(), operands)?;
+            push_comment(reported, word.as_bytes())
         }
         Mistake::Operand { word, wanted } => match word {
-            Some(word) => other_word(told, word.as_str(), *wanted),
-            None => no_word(told, *wanted),
+            Some(word) => other_word(reported, word.as_str(), *wanted),
+            None => no_word(reported, *wanted),
         },
     }
 }
 
 /// Puts at the end of details where comments stand, if a word looks as if it began one.
-pub(crate) fn push_comment(told: &mut Details, word: &[u8]) -> Result<(), AllocError> {
+pub(crate) fn push_comment(reported: &mut Details, word: &[u8]) -> Result<(), AllocError> {
     match word {
         [b'#' | b';', ..] | [b'/', b'/', ..] | [b'-', b'-', ..] => {
-            told.line("a comment stands on a line of its own, which begins with #")
+            reported.line("a comment stands on a line of its own, which begins with #")
         }
         _ => Ok(()),
     }
@@ -53,26 +53,26 @@ pub(crate) fn push_comment(told: &mut Details, word: &[u8]) -> Result<(), AllocE
 
 // A word with which no line begins there, and those like it with which one does.
 fn unknown(
-    told: &mut Details,
+    reported: &mut Details,
     word: &str,
     is_inside: bool,
     is_elsewhere: bool,
     near: &[Name],
 ) -> Result<(), AllocError> {
-    told.quoted(word)?;
-    told.text(match (is_inside, is_elsewhere) {
+    reported.quoted(word)?;
+    reported.text(match (is_inside, is_elsewhere) {
         (true, true) => " stands outside of sections, and this section has no end yet",
         (true, false) => " is no statement",
         (false, true) => " stands in a section, and none has begun",
         (false, false) => " is no heading",
     })?;
-    told.meant(near)?;
-    told.end()
+    reported.meant(near)?;
+    reported.end()
 }
 
 // With what a line begins.
-fn begins(told: &mut Details, is_inside: bool) -> Result<(), AllocError> {
-    told.line(if is_inside {
+fn begins(reported: &mut Details, is_inside: bool) -> Result<(), AllocError> {
+    reported.line(if is_inside {
         "a line in a section begins with a statement, if, loop, else or end"
     } else {
         "a line outside of sections begins with main, open, up, call, close or local"
@@ -91,48 +91,48 @@ fn operand_word(operand: Operand) -> &'static str {
 
 // A word that is one too many, and the form of a line with this first word.
 fn surplus(
-    told: &mut Details,
+    reported: &mut Details,
     word: &str,
     first: &str,
     operands: &[Option<Operand>; 3],
 ) -> Result<(), AllocError> {
-    told.quoted(word)?;
-    told.text(" is a word too many: the whole line is ")?;
-    told.quoted(first)?;
+    reported.quoted(word)?;
+    reported.text(" is a word too many: the whole line is ")?;
+    reported.quoted(first)?;
     for operand in operands {
         if let Some(operand) = operand {
-            told.text(operand_word(*operand))?;
+            reported.text(operand_word(*operand))?;
         }
     }
-    told.end()
+    reported.end()
 }
 
 // What an operand is.
-fn operand(told: &mut Details, operand: Operand) -> Result<(), AllocError> {
+fn operand(reported: &mut Details, operand: Operand) -> Result<(), AllocError> {
     match operand {
         Operand::Number(low, high) => {
-            told.range("a number", u64::from(low), u64::from(high))?;
-            told.text(", in one to ten digits")
+            reported.range("a number", u64::from(low), u64::from(high))?;
+            reported.text(", in one to ten digits")
         }
-        Operand::Slot => told.text("a slot, o0 to o63 or s0 to s7"),
-        Operand::SlotOrObject => told.text("a slot, o0 to o63 or s0 to s7, or obj"),
-        Operand::Service => told.rule(ValueRule::NameText),
-        Operand::Said => told.text("a text of at most 64 letters, between quotation marks"),
+        Operand::Slot => reported.text("a slot, o0 to o63 or s0 to s7"),
+        Operand::SlotOrObject => reported.text("a slot, o0 to o63 or s0 to s7, or obj"),
+        Operand::Service => reported.rule(ValueRule::NameText),
+        Operand::Said => reported.text("a text of at most 64 letters, between quotation marks"),
     }
 }
 
 // Another word than an operand.
-fn other_word(told: &mut Details, word: &str, wanted: Operand) -> Result<(), AllocError> {
-    told.quoted(word)?;
-    told.text(": wanted is ")?;
-    operand(told, wanted)?;
-    told.end()
+fn other_word(reported: &mut Details, word: &str, wanted: Operand) -> Result<(), AllocError> {
+    reported.quoted(word)?;
+    reported.text(": wanted is ")?;
+    operand(reported, wanted)?;
+    reported.end()
 }
 
 // No word where an operand has to stand.
-fn no_word(told: &mut Details, wanted: Operand) -> Result<(), AllocError> {
-    told.text("wanted is ")?;
-    operand(told, wanted)?;
-    told.text(", and nothing stands there")?;
-    told.end()
+fn no_word(reported: &mut Details, wanted: Operand) -> Result<(), AllocError> {
+    reported.text("wanted is ")?;
+    operand(reported, wanted)?;
+    reported.text(", and nothing stands there")?;
+    reported.end()
 }

@@ -1,8 +1,8 @@
 // What is wrong on a line of a program's text, and which of its words.
 // No contract: its results are places and details alone. Tests show them.
-use crate::found::{Mistake, Operand};
-use crate::lines::{Word, line_at, nth_word};
+use crate::fault_value::{Mistake, Operand};
 use crate::meant::Nearest;
+use crate::program_lines::{LineWord, line_at, nth_word};
 use gq_model::fault::TextFault;
 use gq_model::program::{Name, WithNumber};
 use gq_program::shapes::SHAPES;
@@ -90,7 +90,7 @@ fn operands_of(is_inside: bool, word: &[u8]) -> Option<Operands> {
 }
 
 // A word as a text.
-fn told(alloc: Global, word: &[u8]) -> Result<String, AllocError> {
+fn reported(alloc: Global, word: &[u8]) -> Result<String, AllocError> {
     String::from_str(alloc, str::from_utf8(word).unwrap_or("?"))
 }
 
@@ -156,7 +156,7 @@ fn unknown(
 ) -> Result<Mistake, AllocError> {
     let is_elsewhere = operands_of(!is_inside, word).is_some();
     Ok(Mistake::Unknown {
-        word: told(alloc, word)?,
+        word: reported(alloc, word)?,
         is_inside,
         is_elsewhere,
         near: near_words(alloc, inputs, word, is_inside, is_elsewhere)?,
@@ -178,15 +178,15 @@ fn count_of(operands: &Operands) -> usize {
 fn surplus(
     alloc: Global,
     line: &[u8],
-    first: Word<'_>,
+    first: LineWord<'_>,
     operands: &Operands,
 ) -> Result<(usize, Mistake), AllocError> {
     let Some(word) = nth_word(line, count_of(operands).saturating_add(1)) else {
         return Ok((first.at, Mistake::Nothing));
     };
     let mistake = Mistake::Surplus {
-        word: told(alloc, word.text)?,
-        first: told(alloc, first.text)?,
+        word: reported(alloc, word.text)?,
+        first: reported(alloc, first.text)?,
         operands: *operands,
     };
     Ok((word.at, mistake))
@@ -207,7 +207,7 @@ fn is_number(word: &[u8], low: u32, high: u32) -> bool {
 }
 
 // Whether an operand is the one for which a line has this fault. The numbers before a bad one are good; a slot and a text stand before the numbers.
-fn is_bad(fault: TextFault, operand: Operand, word: Option<Word<'_>>) -> bool {
+fn is_bad(fault: TextFault, operand: Operand, word: Option<LineWord<'_>>) -> bool {
     match (fault, operand) {
         (TextFault::BadNumber, Operand::Number(low, high)) => match word {
             Some(word) => !is_number(word.text, low, high),
@@ -222,12 +222,12 @@ fn is_bad(fault: TextFault, operand: Operand, word: Option<Word<'_>>) -> bool {
 // An operand that is missing or is another word.
 fn bad(
     alloc: Global,
-    first: Word<'_>,
-    word: Option<Word<'_>>,
+    first: LineWord<'_>,
+    word: Option<LineWord<'_>>,
     wanted: Operand,
 ) -> Result<(usize, Mistake), AllocError> {
     let (at, word) = match word {
-        Some(word) => (word.at, Some(told(alloc, word.text)?)),
+        Some(word) => (word.at, Some(reported(alloc, word.text)?)),
         None => (first.at, None),
     };
     Ok((at, Mistake::Operand { word, wanted }))
@@ -237,7 +237,7 @@ fn bad(
 fn first_bad(
     alloc: Global,
     line: &[u8],
-    first: Word<'_>,
+    first: LineWord<'_>,
     operands: &Operands,
     fault: TextFault,
 ) -> Result<(usize, Mistake), AllocError> {
@@ -258,7 +258,7 @@ fn mistake_in(
     inputs: &[u32],
     line: &[u8],
     is_inside: bool,
-    first: Word<'_>,
+    first: LineWord<'_>,
     fault: TextFault,
 ) -> Result<(usize, Mistake), AllocError> {
     match (operands_of(is_inside, first.text), fault) {

@@ -1,12 +1,12 @@
 // The details of a line of turns or of a setting, and which of its words is wrong.
 // No contract: its results are places and details alone. Tests show them.
 use crate::details::push_inputs;
-use crate::lines::nth_word;
+use crate::fault_lines::push_line;
 use crate::meant::{Nearest, compare_leaves};
-use crate::tell::push_line;
+use crate::program_lines::nth_word;
 use crate::text_details::push_comment;
-use crate::turns::Wrong;
-use crate::words::Details;
+use crate::turn_faults::WrongLine;
+use crate::value_words::Details;
 use gq_model::fault::TurnFault;
 use gq_model::letters::is_name;
 use gq_model::limits::GREATEST_TURNS;
@@ -107,7 +107,7 @@ fn form_at(line: &[u8]) -> usize {
 }
 
 /// The byte, from 0, with which that begins what is wrong on a line of turns.
-pub(crate) fn wrong_at(wrong: &Wrong<'_>) -> usize {
+pub(crate) fn wrong_at(wrong: &WrongLine<'_>) -> usize {
     match wrong.fault {
         TurnFault::BadLine => form_at(wrong.text),
         TurnFault::NoSuchComponent => 0,
@@ -118,17 +118,19 @@ pub(crate) fn wrong_at(wrong: &Wrong<'_>) -> usize {
 }
 
 // The form of a line.
-fn push_form(told: &mut Details, table: &NodeTable, line: &[u8]) -> Result<(), AllocError> {
-    told.line("a line of turns is NAME COUNT, and COUNT has one to seven digits, the first not 0")?;
+fn push_form(reported: &mut Details, table: &NodeTable, line: &[u8]) -> Result<(), AllocError> {
+    reported.line(
+        "a line of turns is NAME COUNT, and COUNT has one to seven digits, the first not 0",
+    )?;
     if table.scenario().version().number() >= 3 {
-        told.line(
+        reported.line(
             "a setting is NAME.I = N: I is 0 to 7, N has one to ten digits and is at most 4294967295",
         )?;
     } else if is_meant_as_setting(line) {
-        told.line("only a scenario of version 3 has inputs that can be set")?;
+        reported.line("only a scenario of version 3 has inputs that can be set")?;
     }
     match line.get(form_at(line)..) {
-        Some(word) => push_comment(told, word),
+        Some(word) => push_comment(reported, word),
         None => Ok(()),
     }
 }
@@ -138,45 +140,45 @@ const LINES_COMPARED: u64 = 10_000;
 
 // A name that is no leaf's, and those of leaves that are like it.
 fn push_unknown(
-    told: &mut Details,
+    reported: &mut Details,
     table: &NodeTable,
-    wrong: &Wrong<'_>,
+    wrong: &WrongLine<'_>,
 ) -> Result<(), AllocError> {
     let name = leaf_in(wrong.text);
-    let mut nearest = Nearest::new(told.alloc());
+    let mut nearest = Nearest::new(reported.alloc());
     if wrong.line <= LINES_COMPARED {
         compare_leaves(&mut nearest, name, table.scenario().nodes())?;
     }
-    told.raw(name)?;
-    told.text(" is no leaf")?;
-    told.meant(nearest.names().as_slice())?;
-    told.end()
+    reported.raw(name)?;
+    reported.text(" is no leaf")?;
+    reported.meant(nearest.names().as_slice())?;
+    reported.end()
 }
 
 // An input that a leaf has not, or a value that is too large for it, and the inputs that the leaf has.
 fn push_bad_input(
-    told: &mut Details,
+    reported: &mut Details,
     table: &NodeTable,
-    wrong: &Wrong<'_>,
+    wrong: &WrongLine<'_>,
 ) -> Result<(), AllocError> {
     let at = wrong_at(wrong);
     if let TurnFault::NoInput = wrong.fault {
-        told.text("input ")?;
+        reported.text("input ")?;
     }
-    told.raw(name_in(wrong.text.get(at..).unwrap_or(wrong.text)))?;
-    told.text(", and ")?;
+    reported.raw(name_in(wrong.text.get(at..).unwrap_or(wrong.text)))?;
+    reported.text(", and ")?;
     match table.leaf_named(leaf_in(wrong.text)) {
-        Some(leaf) => push_inputs(told, table.scenario().leaf(leaf).inputs())?,
-        None => told.text("there is no such leaf")?,
+        Some(leaf) => push_inputs(reported, table.scenario().leaf(leaf).inputs())?,
+        None => reported.text("there is no such leaf")?,
     }
-    told.end()
+    reported.end()
 }
 
 /// The details of a line of turns or of a setting that is wrong.
 pub(crate) fn turn_details(
     alloc: Global,
     table: &NodeTable,
-    wrong: &Wrong<'_>,
+    wrong: &WrongLine<'_>,
 ) -> Result<Details, AllocError> {
     let mut details = Details::new(alloc);
     let line = str::from_utf8(wrong.text).unwrap_or("this is no UTF-8");

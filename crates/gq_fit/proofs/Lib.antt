@@ -1,4 +1,4 @@
-mod Changing
+mod Text_value_changes
 mod Fault_words
 mod Made_again
-mod Writing
+mod Fitted_text_written

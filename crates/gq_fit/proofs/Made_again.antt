@@ -2,19 +2,19 @@
 use Rattle.std.proofs.Common.{◌≡◌, ◌≢◌, ◌∙◌, List, ℕ, Option, Some, None, Result, Ok, [], ap, subst, sym}
 use Rattle.std.specs.Prelude.{IsOkAnd}
 use Rattle.gq_model.specs.machine.Scenario.{Scenario}
-use Rattle.gq_scenario.specs.Reading.{scenario_in}
-use Rattle.gq_load.specs.Faults.{Prints, PrintsFault, Refuses}
+use Rattle.gq_scenario.specs.Top_table.{scenario_in}
+use Rattle.gq_load.specs.Load_faults.{Prints, PrintsFault, Refuses}
 use Rattle.gq_load.specs.Load.{Fault, loaded, loaded_from, loaded_or, scenario_fault}
-use Rattle.gq_load.specs.declared.fault.LoadError.{LoadError}
-use Rattle.gq_load.specs.declared.fault.LoadError.TheVariants as error
-use Rattle.gq_load.specs.declared.fault.LoadFault.{LoadFault}
-use Rattle.gq_sizes.specs.Judged.{fault_without, judged_without, judged_without_from}
+use Rattle.gq_load.specs.declared.load_fault.LoadError.{LoadError}
+use Rattle.gq_load.specs.declared.load_fault.LoadError.TheVariants as error
+use Rattle.gq_load.specs.declared.load_fault.LoadFault.{LoadFault}
+use Rattle.gq_sizes.specs.Judged_scenario.{fault_without, judged_without, judged_without_from}
 use Rattle.gq_sizes.specs.Least.{NoneShort, shorts_of}
 use Rattle.gq_fit.specs.Fitted.{IsBefore, IsReason, IsReasonWhole, fit_fault_of, made_fault_of}
-use Rattle.gq_fit.specs.declared.fault.FitFault.{FitFault}
-use Rattle.gq_fit.specs.declared.fault.FitFault.TheVariants as faults
-use Rattle.gq_fit.specs.declared.fault.MakeError.{MakeError}
-use Rattle.gq_fit.specs.declared.fault.MakeError.TheVariants as errors
+use Rattle.gq_fit.specs.declared.fit_fault.FitFault.{FitFault}
+use Rattle.gq_fit.specs.declared.fit_fault.FitFault.TheVariants as faults
+use Rattle.gq_fit.specs.declared.fit_fault.MakeError.{MakeError}
+use Rattle.gq_fit.specs.declared.fit_fault.MakeError.TheVariants as errors
 use Rattle.gq_fit.specs.internal.Making.{IsShort, IsRefusedBy}
 
 -- a scenario that was read and has no fault is loaded; without its quantities it is judged

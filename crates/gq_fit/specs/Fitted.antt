@@ -2,21 +2,21 @@
 use Rattle.std.specs.Prelude.{◌≡◌, ◌≢◌, ℕ, List, [], Option, Result, Ok, Err, IsOkAnd, OnOk, IfErr}
 use Rattle.std.specs.Io.KnownBytes.{Appends}
 use Rattle.gq_init.specs.declared.counted.Counted.{Counted}
-use Rattle.gq_init.specs.Counts.{written_to, failures_of}
-use Rattle.gq_init.specs.Writes.{IsFront, IsRaised}
+use Rattle.gq_init.specs.Writer_failures.{written_to, failures_of}
+use Rattle.gq_init.specs.Writes.{IsPrefix, IsRaised}
 use Rattle.gq_model.specs.machine.Scenario.{Scenario}
 use Rattle.gq_load.specs.Load.{loaded}
-use Rattle.gq_load.specs.Faults.{Refuses}
-use Rattle.gq_load.specs.declared.fault.LoadError.{LoadError}
-use Rattle.gq_load.specs.declared.fault.LoadError.TheVariants as error
+use Rattle.gq_load.specs.Load_faults.{Refuses}
+use Rattle.gq_load.specs.declared.load_fault.LoadError.{LoadError}
+use Rattle.gq_load.specs.declared.load_fault.LoadError.TheVariants as error
 use Rattle.gq_sizes.specs.Gives.{GivesLeast}
-use Rattle.gq_sizes.specs.Judged.{judged_without}
+use Rattle.gq_sizes.specs.Judged_scenario.{judged_without}
 use Rattle.gq_sizes.specs.Least.{NoneShort, shorts_of, sized}
-use Rattle.gq_fit.specs.Layout.{DiffersInValues}
-use Rattle.gq_fit.specs.declared.fault.MakeError.{MakeError}
-use Rattle.gq_fit.specs.declared.fault.MakeError.TheVariants as errors
-use Rattle.gq_fit.specs.declared.fault.FitFault.{FitFault}
-use Rattle.gq_fit.specs.declared.fault.FitFault.TheVariants as faults
+use Rattle.gq_fit.specs.Value_edits.{DiffersInValues}
+use Rattle.gq_fit.specs.declared.fit_fault.MakeError.{MakeError}
+use Rattle.gq_fit.specs.declared.fit_fault.MakeError.TheVariants as errors
+use Rattle.gq_fit.specs.declared.fit_fault.FitFault.{FitFault}
+use Rattle.gq_fit.specs.declared.fit_fault.FitFault.TheVariants as faults
 
 -- A text fits one whose scenario is judged without its quantities: its scenario is that one with the least quantities, and is accepted; its own least
 -- quantities are those that it has; and the two texts differ in values alone.
@@ -80,7 +80,7 @@ pub record WritesSome (fits : List ℕ → Type 0) (before after : Option (List 
 pub record WritesPart (fits : List ℕ → Type 0) (before after : Option (List ℕ)) : Type 0 where
   pub text : List ℕ
   pub fitted : fits text
-  pub written : IsFront before after text
+  pub written : IsPrefix before after text
 
 -- a command writes a text of which this holds, for the text of a scenario
 pub record WritesFit {W A : Type 0} (contents : W → Option (List ℕ)) (fits : List ℕ → Type 0) (why : FitFault → List ℕ → Type 0) (scenario : List ℕ)

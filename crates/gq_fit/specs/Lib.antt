@@ -1,4 +1,4 @@
 pub mod Fitted
 pub mod internal
-pub mod Layout
-pub mod Words
+pub mod Value_edits
+pub mod Fit_words

@@ -1,9 +1,9 @@
 // Texts that differ in values alone.
 ghost use Rattle.std.specs.Prelude.{◌≡◌, ◌-◌, ◌==◌, ◌&&◌, IfOk, OnOk, length, slice_index};
-ghost use Rattle.gq_fit.specs.Layout.{DiffersInValues, EndsAs, is_spelled, is_spelled_byte, is_value, is_value_byte};
+ghost use Rattle.gq_fit.specs.Value_edits.{DiffersInValues, EndsAs, is_spelled, is_spelled_byte, is_value, is_value_byte};
 ghost use Rattle.gq_model.specs.machine.Lists.{all_of};
 
-use crate::fault::{MakeError, NoFit};
+use crate::fit_fault::{MakeError, NoFit};
 use std::alloc::{AllocError, Global};
 
 /// A value of a text, from one offset up to another, and what is to stand in its place.

@@ -1,6 +1,6 @@
 // Where values of a TOML text end.
 // No contract: what is made of them is read again (`made`). Tests show them.
-use crate::spelling::{Form, form_of};
+use crate::quantity_text::{Form, form_of};
 use std::alloc::{AllocError, Global};
 use toml_parser::text::{first, skip, skip_blank};
 use toml_parser::{ParseError, quoted, starts_string, unquoted};

@@ -1,10 +1,10 @@
 // Scenarios with the least quantities in place of their own.
 ghost use Rattle.std.specs.Prelude.{◌≡◌, IfErr};
-ghost use Rattle.gq_init.specs.Counts.{Writes};
-ghost use Rattle.gq_fit.specs.declared.fault.FitFault.TheVariants as faults;
+ghost use Rattle.gq_init.specs.Writer_failures.{Writes};
+ghost use Rattle.gq_fit.specs.declared.fit_fault.FitFault.TheVariants as faults;
 ghost use Rattle.gq_fit.specs.Fitted.{IsFitted, IsFittedWhole, IsReason, IsReasonWhole, WritesFit};
 
-use crate::fault::FitFault;
+use crate::fit_fault::FitFault;
 use crate::given::given_text;
 use crate::made::fitted_text;
 use gq_init::counted::{Counted, put};

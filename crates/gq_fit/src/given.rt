@@ -1,16 +1,16 @@
 // What is made of a scenario's text, and that its programs give just what sessions need.
 ghost use Rattle.std.specs.Prelude.{◌≡◌, Ok, IfOk, IfErr, OnOk};
-ghost use Rattle.gq_scenario.specs.Reading.{scenario_in};
-ghost use Rattle.gq_sizes.specs.Judged.{judged_without};
+ghost use Rattle.gq_scenario.specs.Top_table.{scenario_in};
+ghost use Rattle.gq_sizes.specs.Judged_scenario.{judged_without};
 ghost use Rattle.gq_fit.specs.Fitted.{IsBefore, IsFittedWhole, IsReasonWhole};
-ghost use Rattle.gq_fit.specs.Layout.{DiffersInValues};
+ghost use Rattle.gq_fit.specs.Value_edits.{DiffersInValues};
 ghost use Rattle.gq_fit.specs.internal.Making.{IsGiven};
 
 use crate::edits::Edit;
-use crate::fault::{FitFault, MakeError, NoFit};
+use crate::fit_fault::{FitFault, MakeError, NoFit};
 use crate::giving::program_edits;
 use crate::made::{check_sized, edited_in_order, loaded_again, read_again, read_first, refused};
-use crate::quantities::with_quantities;
+use crate::quantity_edits::with_quantities;
 use gq_scenario::scenario::Scenario;
 use gq_sizes::donations::{Donations, least_donations};
 use gq_sizes::gives::gives_least;

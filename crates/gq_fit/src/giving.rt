@@ -1,14 +1,14 @@
 // What changes in the programs of a scenario's text.
 // No contract but that nothing is out of range: what is made of it is read again (`made`). Tests show it.
 use crate::edits::Edit;
-use crate::fault::{MakeError, NoFit};
-use crate::programs::push_program;
+use crate::fit_fault::{MakeError, NoFit};
+use crate::program_edits::push_program;
 use crate::ways::with_step;
 use gq_scenario::key::Key;
 use gq_scenario::scenario::{Leaf, Node, Nodes, Scenario};
 use gq_scenario::source::Source;
 use gq_sizes::donations::SectionDonations;
-use gq_toml_places::{Places, Step};
+use gq_toml_places::{SourceMap, Step};
 use std::alloc::Global;
 
 /// What the leaves that are left are to give, the next one first.
@@ -19,7 +19,7 @@ type Left<'d> = &'d [Vec<SectionDonations>];
 struct Programs<'t> {
     alloc: Global,
     text: &'t str,
-    places: Places<'t>,
+    places: SourceMap<'t>,
     edits: Vec<Edit>,
 }
 
@@ -90,7 +90,7 @@ pub(crate) fn program_edits(
     let mut programs = Programs {
         alloc,
         text,
-        places: Places::read(alloc, text)?,
+        places: SourceMap::read(alloc, text)?,
         edits: Vec::new(alloc),
     };
     programs.nodes(&[], scenario.nodes(), given)?;

@@ -11,20 +11,20 @@
 //! fit_donations(alloc, scenario, &mut out)?;
 //! ```
 //!
-//! Both commands collect what changes: quantities (`quantities`, by the places of `extent` and the words of `spelling`), and what programs give (`giving`,
-//! `programs`, by the places of `letters`). They make the new text of it (`edits`) and read that before they write it (`made`, `given`). The contract rests on
-//! this reading alone: `specs/Fitted`.
+//! Both commands collect what changes: quantities (`quantity_edits`, by the places of `extent` and the words of `quantity_text`), and what programs give
+//! (`giving`, `program_edits`, by the places of `string_letters`). They make the new text of it (`edits`) and read that before they write it (`made`, `given`).
+//! The contract rests on this reading alone: `specs/Fitted`.
 #![tactic(auto)]
 
 mod edits;
 mod extent;
-pub mod fault;
 pub mod fit;
+pub mod fit_fault;
 mod given;
 mod giving;
-mod letters;
 mod made;
-mod programs;
-mod quantities;
-mod spelling;
+mod program_edits;
+mod quantity_edits;
+mod quantity_text;
+mod string_letters;
 mod ways;

@@ -1,21 +1,21 @@
 // What is made of a scenario's text, and that its scenario has the least quantities of the old one.
 ghost use Rattle.std.specs.Prelude.{◌≡◌, [], Ok, IfOk, IfErr, OnOk};
-ghost use Rattle.gq_scenario.specs.Reading.{scenario_in};
+ghost use Rattle.gq_scenario.specs.Top_table.{scenario_in};
 ghost use Rattle.gq_load.specs.Load.{loaded};
-ghost use Rattle.gq_sizes.specs.Judged.{judged_without};
+ghost use Rattle.gq_sizes.specs.Judged_scenario.{judged_without};
 ghost use Rattle.gq_sizes.specs.Least.{sized};
 ghost use Rattle.gq_fit.specs.Fitted.{IsBefore, IsFitted, IsReason};
-ghost use Rattle.gq_fit.specs.Layout.{DiffersInValues};
+ghost use Rattle.gq_fit.specs.Value_edits.{DiffersInValues};
 ghost use Rattle.gq_fit.specs.internal.Making.{IsRefusedBy, IsShort};
 
 use crate::edits::{Edit, edited};
-use crate::fault::{FitFault, MakeError, NoFit};
-use crate::quantities::with_quantities;
+use crate::fit_fault::{FitFault, MakeError, NoFit};
+use crate::quantity_edits::with_quantities;
 use gq_load::checked::scenario_lines;
-use gq_load::fault::{LoadError, LoadFault};
+use gq_load::load_fault::{LoadError, LoadFault};
 use gq_reader::reader::read_scenario;
-use gq_scenario::fault::ScenarioError;
 use gq_scenario::scenario::Scenario;
+use gq_scenario::scenario_fault::ScenarioError;
 use gq_sizes::leasts::{Leasts, least_quantities};
 use gq_sizes::sized::is_sized;
 use std::alloc::Global;

@@ -3,14 +3,14 @@ use Rattle.std.specs.Prelude.{◌≡◌, ℕ, ◌+◌, ◌-◌, ◌*◌, ◌/◌
 use Rattle.gq_tariff.specs.Prices.{up, class_size, size_for}
 use Rattle.gq_tariff.specs.declared.class.Class.{Class}
 use Rattle.gq_model.specs.machine.Amounts.{Ram, Caps}
-use Rattle.gq_model.specs.machine.Prices.{heap as class_prices}
+use Rattle.gq_model.specs.machine.Resource_prices.{heap as class_prices}
 use Rattle.gq_store.specs.Store.{Store, Spares, TakesNew, plus_caps}
-use Rattle.gq_store.specs.Bytes.{listed, PutsBytes}
+use Rattle.gq_store.specs.Chunk_bytes.{listed, PutsBytes}
 use Rattle.gq_heap.specs.declared.bin.Bin.{Bin}
 use Rattle.gq_heap.specs.declared.heap.Heap.{Heap}
 use Rattle.gq_heap.specs.declared.heap.Place.{Place}
 use Rattle.gq_heap.specs.declared.heap.Place.TheVariants.{Small, Large}
-use Rattle.gq_heap.specs.Counts.{times}
+use Rattle.gq_heap.specs.List_occurrences.{times}
 use Rattle.gq_heap.specs.Classes.{index_of, size_at, places_at, class_for}
 use Rattle.gq_heap.specs.internal.Bin.{KeepsBin}
 use Rattle.gq_heap.specs.Bins.{bin_price, next_peak}
@@ -50,7 +50,7 @@ AreLarge st (Large k n ∷ ps) = (st.size k ≡ up n) × (2048 < n) × (n ≤ 67
 
 -- new has p once more than old, somewhere
 abbrev pub Inserts : Place → List Place → List Place → Type 0
-Inserts p old new = (front : List Place) × (back : List Place) × (old ≡ front ++ back) × (new ≡ front ++ p ∷ back)
+Inserts p old new = (prefix : List Place) × (back : List Place) × (old ≡ prefix ++ back) × (new ≡ prefix ++ p ∷ back)
 
 -- where a block lies: its chunk, the offset of its first byte, and how many bytes it has
 abbrev pub chunk_of : Place → ℕ

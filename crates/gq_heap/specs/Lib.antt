@@ -1,5 +1,5 @@
 pub mod Classes
-pub mod Counts
+pub mod List_occurrences
 pub mod Bins
 pub mod Heap
 pub mod internal

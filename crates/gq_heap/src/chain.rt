@@ -3,7 +3,7 @@ ghost use Rattle.std.specs.Prelude.{◌≡◌, ℕ, ◌+◌, ◌-◌, ◌*◌, �
 ghost use Rattle.gq_store.specs.Store.{Store, word, Writes};
 ghost use Rattle.gq_heap.specs.internal.Chain.{IsSize, IsChain, place_byte, link, descending};
 
-use crate::class::spot;
+use crate::cell_class::cell_position;
 use gq_store::{ByteStore, ChunkNo};
 
 /// Chains all places of a chunk, the last one first, and gives the head.
@@ -22,7 +22,7 @@ pub fn chain_all<S: ByteStore>(store: &mut S, chunk: ChunkNo, size: u32, places:
     head
 }
 
-/// Puts a place in front of the chain, and gives the new head.
+/// Puts a place before the chain, and gives the new head.
 pub fn push<S: ByteStore>(
     store: &mut S,
     size: u32,
@@ -39,7 +39,7 @@ pub fn push<S: ByteStore>(
     ensures alone { Writes (S.state store.old) (S.state store.new) (place / places) (place % places * size) 4 }
     ensures rest { S.same_rest store.old store.new }
 {
-    let (chunk, index) = spot(place, places, bits);
+    let (chunk, index) = cell_position(place, places, bits);
     store.store4(ChunkNo::new(chunk), index * size, head);
     place + 1
 }
@@ -54,7 +54,7 @@ pub fn pop<S: ByteStore>(store: &mut S, size: u32, places: u32, bits: u32, place
     ensures alone { Writes (S.state store.old) (S.state store.new) (place / places) (place % places * size) size }
     ensures rest { S.same_rest store.old store.new }
 {
-    let (chunk, index) = spot(place, places, bits);
+    let (chunk, index) = cell_position(place, places, bits);
     let chunk = ChunkNo::new(chunk);
     let offset = index * size;
     let next = store.load4(chunk, offset);

@@ -3,7 +3,9 @@ ghost use Rattle.std.specs.Prelude.{◌≡◌, ◌+◌, ◌*◌, ◌<◌, ◌≤
 ghost use Rattle.gq_tariff.specs.Prices.{up};
 
 use crate::bin::{Bin, give, take};
-use crate::class::{class_for_size, class_index, place_bits, place_size, places_per_chunk, spot};
+use crate::cell_class::{
+    cell_position, class_for_size, class_index, place_bits, place_size, places_per_chunk,
+};
 use gq_store::{ByteStore, ChunkNo, GrowFault};
 use gq_tariff::price::{GREATEST_PLACE, PAGE};
 use gq_tariff::{Class, price_class, round_up};
@@ -28,7 +30,7 @@ impl Place {
     {
         match *self {
             Place::Small(class, number) => {
-                ChunkNo::new(spot(number, places_per_chunk(class), place_bits(class)).0)
+                ChunkNo::new(cell_position(number, places_per_chunk(class), place_bits(class)).0)
             }
             Place::Large(number, _) => ChunkNo::new(number),
         }
@@ -41,7 +43,8 @@ impl Place {
     {
         match *self {
             Place::Small(class, number) => {
-                spot(number, places_per_chunk(class), place_bits(class)).1 * place_size(class)
+                cell_position(number, places_per_chunk(class), place_bits(class)).1
+                    * place_size(class)
             }
             Place::Large(_, _) => 0,
         }
@@ -50,11 +53,11 @@ impl Place {
 
 /// A heap in a store of chunks.
 ///
-/// A block of at most 2048 bytes is a place of the least class that holds it. A free place of the class is used before a new chunk is taken,
-/// and a chunk of a class stays the heap's; so the chunks of a class are paid by the greatest number of its places in use at one time so far,
-/// its peak. A greater block is paid by itself, as long as it is in use.
+/// A block of at most 2048 bytes is a place of the least class that holds it. A free place of the class is used before a new chunk is taken, and a chunk of a
+/// class stays the heap's. So the chunks of a class are paid by its peak, the greatest number of its places in use at one time so far. A greater block is paid
+/// by itself, as long as it is in use.
 ///
-/// The heap takes no host memory. It holds no part of the store, which each call is given; what lies in other chunks of the store stays.
+/// The heap allocates no host memory. It holds no part of the store, which each call is given; what lies in other chunks of the store stays.
 #[derive(Drop)]
 pub struct Heap {
     bins: [Bin; 8],
@@ -69,7 +72,7 @@ pub struct Heap {
 impl Heap {
     ghost use Rattle.std.specs.Prelude.{◌≡◌, ℕ, ◌+◌, ◌*◌, ◌/◌, ◌<◌, ◌≤◌, ◌↔◌, [], ◌∷◌, Some, IfOk, OnErr, IsErrOf, replicate};
     ghost use Rattle.gq_model.specs.machine.Amounts.{Ram};
-    ghost use Rattle.gq_model.specs.machine.Prices.{heap as class_prices};
+    ghost use Rattle.gq_model.specs.machine.Resource_prices.{heap as class_prices};
     ghost use Rattle.gq_tariff.specs.declared.class.Class.{Class};
     ghost use Rattle.gq_model.specs.machine.Program.{spelled};
     ghost use Rattle.gq_store.specs.Store.{Store, word};

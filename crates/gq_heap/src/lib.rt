@@ -15,8 +15,8 @@
 #![tactic(auto)]
 
 mod bin;
+mod cell_class;
 mod chain;
-mod class;
 mod heap;
 
 pub use gq_store::{ByteStore, ChunkNo, GrowFault};

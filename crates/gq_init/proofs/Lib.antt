@@ -1,8 +1,8 @@
-pub mod Turning
-pub mod Reading
-pub mod Counts
+pub mod Line_turn_lists
+pub mod Piecewise_turn_lines
+pub mod Line_number_counts
 pub mod Setting_lines
-pub mod Named
-pub mod Ahead
-pub mod Fronts
-pub mod Known
+pub mod Name_index_leaves
+pub mod First_turn_line
+pub mod Name_prefix_test
+pub mod Written_byte_facts

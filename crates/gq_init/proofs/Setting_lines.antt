@@ -8,7 +8,7 @@ use Rattle.gq_model.specs.texts.Letters.{number_in, pieces}
 use Rattle.gq_model.specs.texts.Operands.{greatest_number}
 use Rattle.gq_model.specs.texts.Turns.{Given, has_inputs, input_in, input_of, setting_at, setting_of}
 use Rattle.gq_init.specs.TurnLines.{given_in}
-use Rattle.gq_init.proofs.Counts.{number_in-other, one_or_more}
+use Rattle.gq_init.proofs.Line_number_counts.{number_in-other, one_or_more}
 
 -- a name, a dot and the rest of a word
 input_in-pieces : (name digit : List ℕ) → input_in (name ∷ pieces (λ c. c == 46) digit) ≡ input_of name (number_in 1 0 7 digit)

@@ -1,8 +1,8 @@
-pub mod Items
+pub mod Turn_items
 pub mod TurnLines
 pub mod TurnReading
 pub mod internal
-pub mod Counts
+pub mod Writer_failures
 pub mod LeafLines
-pub mod Told
+pub mod Account_values
 pub mod Writes

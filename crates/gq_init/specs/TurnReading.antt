@@ -28,10 +28,10 @@ unless None turned = turned
 unless (Some fault) turned = Err fault
 
 -- what all lines say, when these are still to come
-abbrev pub told : Scenario → Acts → (total line : ℕ) → Option (TurnFault × ℕ) → List (List ℕ) → Turned
-told s items total line fault more = unless fault (prepended items (turns_from s.version (components s) (line + 1) total more))
+abbrev pub reported : Scenario → Acts → (total line : ℕ) → Option (TurnFault × ℕ) → List (List ℕ) → Turned
+reported s items total line fault more = unless fault (prepended items (turns_from s.version (components s) (line + 1) total more))
 
 -- what all of the text says, when this is still to come
 abbrev pub answer : Scenario → Reading → List ℕ → Turned
 answer s r rest =
-    if nat_le (r.size + length rest) (2 ^ 24) then told s r.items r.total r.line r.fault (lines (r.last ++ rest)) else Err (TooMany, 0)
+    if nat_le (r.size + length rest) (2 ^ 24) then reported s r.items r.total r.line r.fault (lines (r.last ++ rest)) else Err (TooMany, 0)

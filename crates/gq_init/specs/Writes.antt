@@ -20,5 +20,5 @@ abbrev pub IsRaised : ℕ → ℕ → Type 0
 IsRaised old new = (old < new) ⊎ (new ≡ greatest_count)
 
 -- the first k bytes of a text were written, for some k
-abbrev pub IsFront : Option (List ℕ) → Option (List ℕ) → List ℕ → Type 0
-IsFront old new text = (k : ℕ) × Appends old new (take k text)
+abbrev pub IsPrefix : Option (List ℕ) → Option (List ℕ) → List ℕ → Type 0
+IsPrefix old new text = (k : ℕ) × Appends old new (take k text)

@@ -1,3 +1,3 @@
 pub mod Ahead
-pub mod Reading
-pub mod Fronts
+pub mod Piecewise_lines
+pub mod Gathered_lines

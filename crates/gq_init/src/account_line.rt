@@ -1,10 +1,10 @@
 // The line of an account.
 ghost use Rattle.std.specs.Prelude.{◌≡◌, ◌≤◌, ◌+◌, ◌++◌, length, Some, codes};
 ghost use Rattle.gq_model.specs.machine.Accounts.{entry, used_entry, leaf_entries, account_line};
-ghost use Rattle.gq_scenario.specs.Trees.{version_number};
-ghost use Rattle.gq_init.specs.Told.{with_label};
+ghost use Rattle.gq_scenario.specs.Component_trees.{version_number};
+ghost use Rattle.gq_init.specs.Account_values.{with_label};
 
-use crate::account::{Account, LeafAccount};
+use crate::account_report::{Account, LeafAccount};
 use crate::line::{Line, extend, extend_entry, extend_number, phase_word};
 use arrayvec::ArrayVec;
 use gq_model::limits::GREATEST_LABEL;

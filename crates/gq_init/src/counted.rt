@@ -2,7 +2,7 @@
 ghost use Rattle.std.specs.Prelude.{◌≡◌, ◌+◌, ◌-◌, ◌^◌, ◌<◌, ◌≤◌, ℕ, length, min, IfOk, IfErr, OnOk, OnErr, MatchResult};
 ghost use Rattle.std.specs.Io.{WritesAtMost};
 ghost use Rattle.std.specs.Io.KnownBytes.{WriteAppends, Keeps, Appends};
-ghost use Rattle.gq_init.specs.Counts.{Writes, writer_of, written_to, failures_of};
+ghost use Rattle.gq_init.specs.Writer_failures.{Writes, writer_of, written_to, failures_of};
 ghost use Rattle.gq_init.specs.Writes.{failures_after};
 
 use std::io;

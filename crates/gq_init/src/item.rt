@@ -2,7 +2,7 @@
 ghost use Rattle.std.specs.Prelude.{◌≡◌, ◌<◌};
 ghost use Rattle.gq_model.specs.declared.act.Act.TheVariants.{Turns, Sets};
 ghost use Rattle.gq_model.specs.texts.Turns.{turns_given};
-ghost use Rattle.gq_init.specs.Items.{IsKept};
+ghost use Rattle.gq_init.specs.Turn_items.{IsKept};
 
 use gq_model::act::Act;
 use gq_scenario::scenario::LeafNo;
@@ -37,7 +37,7 @@ pub struct TurnItem {
 impl Model for TurnItem {
     ghost use Rattle.std.specs.Prelude.{ℕ, ◌/◌, ◌%◌};
     ghost use Rattle.gq_model.specs.declared.act.Act.{Act};
-    ghost use Rattle.gq_init.specs.Items.{act_at};
+    ghost use Rattle.gq_init.specs.Turn_items.{act_at};
 
     ghost Value = { ℕ × Act };
 

@@ -1,4 +1,4 @@
-//! What a run starts with and how it tells: the turns and settings of a text, and the lines that go to a writer which counts its failures.
+//! What a run starts with and how it reports: the turns and settings of a text, and the lines that go to a writer which counts its failures.
 //!
 //! ```rust
 //! use gq_init::{NodeTable, read_turns};
@@ -11,7 +11,7 @@
 //! let acts = read_turns(alloc, b"pump.0 = 17\npump 100\n", &other)?;
 //! ```
 //!
-//! `leaf_line` and `lines` are what leaves say, `account_line` is the line of an account.
+//! `leaf_line` and `gathered_lines` are what leaves say, `account_line` is the line of an account.
 //!
 //! ```rust
 //! use gq_init::counted::{Counted, put};
@@ -22,17 +22,17 @@
 //! put(&mut out, line.as_slice())?;
 //! ```
 //!
-//! Modules: lines (`lines`, `account_line`), writers (`counted`), and the turns and settings of a text (`turns`, `settings`, `turn_reader`).
+//! Modules: lines (`gathered_lines`, `account_line`), writers (`counted`), and the turns and settings of a text (`turns`, `settings`, `turn_reader`).
 #![tactic(auto)]
 
-pub mod account;
 pub mod account_line;
+pub mod account_report;
 pub mod counted;
+pub mod gathered_lines;
 mod item;
 pub mod leaf_line;
 pub mod line;
-pub mod lines;
-pub mod names;
+pub mod name_index;
 mod settings;
 mod turn_list;
 pub mod turn_reader;
@@ -40,9 +40,9 @@ pub mod turns;
 
 pub use gq_reader::{read_scenario, reader};
 pub use gq_resolve::routes::Routes;
-pub use gq_resolve::{NodeTable, resolve, table};
+pub use gq_resolve::{NodeTable, node_table, resolve};
 pub use gq_scenario::scenario::Scenario;
-pub use gq_scenario::{fault, key, node, scenario, source};
+pub use gq_scenario::{key, node_numbers, scenario, scenario_fault, source};
 pub use item::{TurnItem, turns_given};
 pub use turn_reader::TurnReader;
 pub use turns::{read_items, read_turns};

@@ -5,16 +5,16 @@ ghost use Rattle.gq_model.specs.machine.Program.{text_eq};
 ghost use Rattle.gq_model.specs.machine.Scenario.{components};
 ghost use Rattle.gq_model.specs.texts.Letters.{is_digit, number_in, pieces, spelled_on};
 ghost use Rattle.gq_model.specs.texts.Turns.{has_inputs, input_in, setting_at};
-ghost use Rattle.gq_init.specs.Items.{IsKept};
+ghost use Rattle.gq_init.specs.Turn_items.{IsKept};
 ghost use Rattle.gq_init.specs.TurnLines.{given_in};
 
-use crate::names::NameIndex;
+use crate::name_index::NameIndex;
 use gq_model::act::Act;
 use gq_model::fault::TurnFault;
 use gq_model::letters::{is_digit, is_name};
 use gq_resolve::NodeTable;
-use gq_scenario::lines::{next_piece, same_bytes};
 use gq_scenario::scenario::LeafNo;
+use gq_scenario::text_pieces::{next_piece, same_bytes};
 
 // The number that these digits spell, if they are digits.
 fn spelled(text: &[u8]) -> Option<u64>

@@ -4,11 +4,11 @@ ghost use Rattle.gq_model.specs.machine.Scenario.{Scenario};
 ghost use Rattle.gq_model.specs.texts.Letters.{lines};
 ghost use Rattle.gq_model.specs.texts.Turns.{greatest_turns};
 ghost use Rattle.gq_init.specs.TurnLines.{IsTurned};
-ghost use Rattle.gq_init.specs.TurnReading.{told};
-ghost use Rattle.gq_init.specs.internal.Reading.{lines_read};
+ghost use Rattle.gq_init.specs.TurnReading.{reported};
+ghost use Rattle.gq_init.specs.internal.Piecewise_lines.{lines_read};
 
 use crate::item::{TurnItem, turns_given};
-use crate::names::NameIndex;
+use crate::name_index::NameIndex;
 use crate::turns::{TurnsError, next_turn, turn_ahead};
 use gq_model::fault::TurnFault;
 use gq_model::limits::GREATEST_TURNS;
@@ -64,8 +64,8 @@ impl TurnList {
         requires short { self.old.line + length text.now < 2 ^ 62 }
         ensures few { self.new.total ≤ greatest_turns }
         ensures counted { self.new.line ≤ self.old.line + length text.now + 1 }
-        ensures told { OnOk result ((more : List (List ℕ)) → told table.now self.new.items.items self.new.total self.new.line self.new.fault more
-            ≡ told table.now self.old.items.items self.old.total self.old.line self.old.fault (lines_read is_last (lines text.now) ++ more)) }
+        ensures reported { OnOk result ((more : List (List ℕ)) → reported table.now self.new.items.items self.new.total self.new.line self.new.fault more
+            ≡ reported table.now self.old.items.items self.old.total self.old.line self.old.fault (lines_read is_last (lines text.now) ++ more)) }
     {
         if self.fault.is_some() {
             return Ok(());
@@ -98,7 +98,7 @@ impl TurnList {
         Ok(())
     }
 
-    // Reads the lines at the front of a text that are turns, each in one go, as long as they are not too many. It tells what follows them.
+    // Reads the lines at the start of a text that are turns, each in one go, as long as they are not too many. It reports what follows them.
     fn read_ahead<'a>(
         &mut self,
         text: &'a [u8],
@@ -113,9 +113,9 @@ impl TurnList {
         ensures counted { IfOk result (λ rest. self.new.line + length rest.now ≤ self.old.line + length text.now) }
         ensures shorter { IfOk result (λ rest. length rest.now ≤ length text.now) }
         ensures most { self.new.line ≤ self.old.line + length text.now }
-        ensures told { IfOk result (λ rest. (is_last : Bool) (more : List (List ℕ)) →
-            told table.now self.new.items.items self.new.total self.new.line None (lines_read is_last (lines rest.now) ++ more)
-            ≡ told table.now self.old.items.items self.old.total self.old.line None (lines_read is_last (lines text.now) ++ more)) }
+        ensures reported { IfOk result (λ rest. (is_last : Bool) (more : List (List ℕ)) →
+            reported table.now self.new.items.items self.new.total self.new.line None (lines_read is_last (lines rest.now) ++ more)
+            ≡ reported table.now self.old.items.items self.old.total self.old.line None (lines_read is_last (lines text.now) ++ more)) }
     {
         let _few = table.leaf_count();
         let mut left = text;
@@ -140,7 +140,7 @@ impl TurnList {
 
     /// The turns and settings of all lines, or the first fault.
     pub(crate) fn finish(self) -> Result<Vec<TurnItem>, TurnsError>
-        ensures { (s : Scenario) → IsTurned result (told s self.items.items self.total self.line self.fault []) }
+        ensures { (s : Scenario) → IsTurned result (reported s self.items.items self.total self.line self.fault []) }
     {
         match self.fault {
             Some((fault, line)) => Err(TurnsError::Fault { fault, line }),

@@ -3,10 +3,10 @@ ghost use Rattle.std.specs.Prelude.{◌≡◌, ℕ, List, [], ◌++◌, ◌<◌,
 ghost use Rattle.gq_model.specs.texts.Turns.{turned};
 ghost use Rattle.gq_init.specs.TurnLines.{IsTurned};
 ghost use Rattle.gq_init.specs.TurnReading.{answer};
-ghost use Rattle.gq_init.specs.internal.Reading.{IsEnded};
+ghost use Rattle.gq_init.specs.internal.Piecewise_lines.{IsEnded};
 
 use crate::item::TurnItem;
-use crate::names::NameIndex;
+use crate::name_index::NameIndex;
 use crate::turn_list::TurnList;
 use crate::turns::TurnsError;
 use gq_model::fault::TurnFault;
@@ -29,7 +29,7 @@ pub struct TurnReader {
 
 impl Model for TurnReader {
     ghost use Rattle.gq_init.specs.TurnReading.{Reading};
-    ghost use Rattle.gq_init.specs.internal.Reading.{IsReading};
+    ghost use Rattle.gq_init.specs.internal.Piecewise_lines.{IsReading};
 
     ghost Value = { Reading };
 
@@ -46,7 +46,7 @@ impl Model for TurnReader {
 }
 
 impl TurnReader {
-    /// A reader of which all of the text is still to come, and the leaves of whose turns are those of the table. Refused where host memory is.
+    /// A reader of which all of the text is still to come, and the leaves of whose turns are those of the table. Fails if the host refuses memory.
     pub fn new(alloc: Global, table: &NodeTable) -> Result<TurnReader, AllocError>
         ensures size { IfOk result (λ r. r.size ≡ 0) }
         ensures answer { IfOk result (λ r. (rest : List ℕ) → answer table.now r rest ≡ turned table.now rest) }
@@ -67,7 +67,7 @@ impl TurnReader {
         self.size
     }
 
-    /// Reads the next piece of the text. Refused where host memory is; what was read is lost then.
+    /// Reads the next piece of the text. Fails if the host refuses memory; what was read is lost then.
     pub fn push(&mut self, piece: &[u8], table: &NodeTable) -> Result<(), AllocError>
         requires { self.old.size + length piece.now < 2 ^ 60 }
         ensures size { OnOk result (self.new.size ≡ self.old.size + length piece.now) }
@@ -135,7 +135,7 @@ impl TurnReader {
         self.last.extend_from_slice(piece)
     }
 
-    /// The turns and settings of the text, of which all has come, or its first fault, as `read_turns` tells them.
+    /// The turns and settings of the text, of which all has come, or its first fault, as `read_turns` reports them.
     pub fn finish(mut self, table: &NodeTable) -> Result<Vec<TurnItem>, TurnsError>
         ensures { IsTurned result (answer table.now self []) }
     {

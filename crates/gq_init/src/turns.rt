@@ -5,12 +5,12 @@ ghost use Rattle.gq_model.specs.declared.act.Act.TheVariants.{Turns};
 ghost use Rattle.gq_model.specs.texts.Letters.{pieces};
 ghost use Rattle.gq_model.specs.machine.Scenario.{components};
 ghost use Rattle.gq_model.specs.texts.Turns.{turned, turn_count, turns_given, says_nothing, greatest_turns};
-ghost use Rattle.gq_init.specs.Items.{IsKept};
+ghost use Rattle.gq_init.specs.Turn_items.{IsKept};
 ghost use Rattle.gq_init.specs.internal.Ahead.{IsCommentAhead, IsCountAhead, IsLineAhead, IsTurnAhead};
 ghost use Rattle.gq_init.specs.TurnLines.{IsTurned, given_in, line_turn};
 
 use crate::item::{TurnItem, turns_given};
-use crate::names::NameIndex;
+use crate::name_index::NameIndex;
 use crate::settings::read_setting;
 use crate::turn_list::TurnList;
 use gq_model::act::Act;
@@ -18,8 +18,8 @@ use gq_model::fault::TurnFault;
 use gq_model::letters::{is_digit, is_name};
 use gq_model::limits::{GREATEST_TURNS, GREATEST_TURNS_TEXT};
 use gq_resolve::NodeTable;
-use gq_scenario::lines::{next_line, next_piece};
 use gq_scenario::scenario::LeafNo;
+use gq_scenario::text_pieces::{next_line, next_piece};
 use memchr::memchr;
 use std::alloc::{AllocError, AllocFailed, Global};
 use thiserror::Error;
@@ -149,7 +149,7 @@ fn read_line(
     Ok(Some(turn))
 }
 
-// The number that stands at the front of a text with a line feed behind it, and what follows that. `None` says nothing.
+// The number that stands at the start of a text with a line feed behind it, and what follows that. `None` says nothing.
 #[inline(always)]
 fn count_ahead(text: &[u8]) -> Option<(u32, &[u8])>
     ensures { IfSome result (λ r. IsCountAhead text.now r.0 r.1.now) }
@@ -172,7 +172,7 @@ fn count_ahead(text: &[u8]) -> Option<(u32, &[u8])>
 }
 
 /// The turn that the first line of a text is, in one go: a leaf's name, a space, a number and a line feed; and what follows it. `None` says nothing.
-#[tactic(auto, using(crate::proofs::Ahead::turn_told))]
+#[tactic(auto, using(crate::proofs::First_turn_line::turn_reported))]
 #[inline(always)]
 pub(crate) fn turn_ahead<'a>(
     text: &'a [u8],
@@ -215,7 +215,7 @@ fn after_comment(text: &[u8]) -> Option<&[u8]>
 }
 
 /// What the first line of a text says after so many turns, and what follows its line feed.
-#[tactic(auto, using(crate::proofs::Ahead::comment_told))]
+#[tactic(auto, using(crate::proofs::First_turn_line::comment_reported))]
 pub fn next_turn<'a>(
     text: &'a [u8],
     turns: u32,

@@ -7,9 +7,9 @@ use Rattle.gq_model.specs.declared.program.Instruction.TheVariants.{Out}
 use Rattle.gq_model.specs.machine.Scenario.{Scenario, system}
 use Rattle.gq_model.specs.machine.World.{Slot, Waiting, leaf_slot}
 use Rattle.gq_model.specs.machine.Run.{run, Acts}
-use Rattle.gq_model.proofs.Samples.{main_of, leaf, server, leaves, served, echo, echo_sections, echo_server, asking, echo_client}
-use Rattle.gq_laws.specs.Alone.{own_turns, own_lines}
-use Rattle.gq_model.proofs.Words.{push}
+use Rattle.gq_model.proofs.Sample_scenarios.{main_of, leaf, server, leaves, served, echo, echo_sections, echo_server, asking, echo_client}
+use Rattle.gq_laws.specs.Group_alone.{own_turns, own_lines}
+use Rattle.gq_model.proofs.Statement_word_rows.{push}
 
 abbrev pairs : Scenario
 pairs =

@@ -1,45 +1,45 @@
-pub mod turning
-pub mod linking
-pub mod paying
-pub mod verified
-pub mod stating
-pub mod asking
-pub mod replying
-pub mod remaining
-pub mod typing
-pub mod holding
-pub mod counting
+pub mod step_shapes
+pub mod session_links
+pub mod quota_payment
+pub mod verified_programs
+pub mod statement_rules
+pub mod request_rules
+pub mod reply_rules
+pub mod remaining_work
+pub mod typed_worlds
+pub mod held_resources
+pub mod step_counts
 mod rows
-pub mod setting
-pub mod gathering
+pub mod input_settings
+pub mod upheld_worlds
 -- what stays of a group in a world that is changed outside
-pub mod Staying
+pub mod Outside_changes_untouched
 -- the account of a leaf inside
-pub mod Accounting
+pub mod Group_account_sums
 -- steps of a leaf outside
-pub mod Stepping
+pub mod Outside_step_untouched
 -- turns
 pub mod Separation_turning
 -- worked examples
 mod Separation_rows
 -- sessions that correspond
-pub mod Renaming
+pub mod Session_renaming
 -- two steps at once
-pub mod Both
+pub mod Paired_step_outcomes
 -- worlds that are the same but for the numbers of sessions
-pub mod Same
+pub mod Renamed_world_equality
 -- sums and accounts
-pub mod Sums
+pub mod Renamed_session_sums
 -- the oldest requests
-pub mod Oldest
+pub mod Group_oldest_requests
 -- what stays the group's
-pub mod Near
+pub mod Group_slots_sessions
 -- steps of a leaf inside
-pub mod Inside
-pub mod Sections
+pub mod Inside_statement_both
+pub mod Inside_section_steps
 -- where quotas are counted
-pub mod Counted
+pub mod Inside_step_both
 -- runs
-pub mod Runs
+pub mod Group_run_alone
 -- worked examples
 mod Apart_rows

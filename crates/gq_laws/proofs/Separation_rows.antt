@@ -8,7 +8,7 @@ use Rattle.gq_model.specs.machine.World.{Leaf, World}
 use Rattle.gq_model.specs.machine.Sums.{quota}
 use Rattle.gq_model.specs.machine.Accounts.{Account, account_at}
 use Rattle.gq_model.specs.machine.Run.{run, Acts}
-use Rattle.gq_model.proofs.Samples.{main_of, leaf, server, leaves, served, echo, echo_sections, echo_server, asking, echo_client, echo_of}
+use Rattle.gq_model.proofs.Sample_scenarios.{main_of, leaf, server, leaves, served, echo, echo_sections, echo_server, asking, echo_client, echo_of}
 
 abbrev pairs : Scenario
 pairs =

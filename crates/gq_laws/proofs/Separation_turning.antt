@@ -8,15 +8,15 @@ use Rattle.gq_model.specs.declared.fault.Wrong.{Wrong}
 use Rattle.gq_model.specs.machine.Doing.{Stepped}
 use Rattle.gq_model.specs.machine.Step.{next}
 use Rattle.gq_model.specs.machine.Run.{Ran, Acts, after_step, turn_from, turns_of, set_input, set_from, act_on, run_on, run}
-use Rattle.gq_laws.specs.Links.{IsLinkedWorld}
-use Rattle.gq_laws.proofs.linking.Linked_worlds.{kept_linked}
-use Rattle.gq_laws.proofs.gathering.Worlds.{reached_linked}
+use Rattle.gq_laws.specs.Session_links.{IsLinkedWorld}
+use Rattle.gq_laws.proofs.session_links.Linked_worlds.{kept_linked}
+use Rattle.gq_laws.proofs.upheld_worlds.Any_reached_world.{reached_linked}
 use Rattle.gq_laws.specs.Separation.{IsApart, IsUntouched, SameRequests, AreOutside, TurnsTouchNothing}
-use Rattle.gq_laws.proofs.Staying.{kept_self}
-use Rattle.gq_laws.proofs.Stepping.{step_untouched, step_requests}
-use Rattle.gq_laws.proofs.Accounting.{same_accounts}
-use Rattle.gq_laws.proofs.setting.Settings.{set_linked}
-use Rattle.gq_laws.proofs.setting.Groups.{outside_kept}
+use Rattle.gq_laws.proofs.Outside_changes_untouched.{kept_self}
+use Rattle.gq_laws.proofs.Outside_step_untouched.{step_untouched, step_requests}
+use Rattle.gq_laws.proofs.Group_account_sums.{same_accounts}
+use Rattle.gq_laws.proofs.input_settings.Setting_keeps_invariants.{set_linked}
+use Rattle.gq_laws.proofs.input_settings.Group_input_settings.{outside_kept}
 
 module _ (real : System) (group : ℕ → Bool) (apart : IsApart real group) (old : World) where
   -- a run has come to a linked world in which the group is as it was

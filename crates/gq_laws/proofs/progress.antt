@@ -1,13 +1,13 @@
 -- invariants of worlds: sessions are of services that their clients open, and phases suit what leaves provide
-pub mod Opened
-pub mod Phases
-pub mod Lasting
+pub mod Opened_services_invariant
+pub mod Leaf_phase_invariant
+pub mod Lasting_world_invariant
 -- no leaf is stuck where none can run
-pub mod Blocked
-pub mod Pending
-pub mod Going
+pub mod No_blocked_deadlock
+pub mod No_pending_deadlock
+pub mod No_deadlock
 -- steps are added up
-pub mod Ending
-pub mod Running
+pub mod Work_ends
+pub mod Run_turn_composition
 -- worked examples
-mod Rows
+mod Progress_rows

@@ -1,1 +1,1 @@
-pub mod Servers
+pub mod Routed_leaf_services

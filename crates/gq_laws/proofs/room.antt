@@ -1,10 +1,10 @@
 -- what a step does to operands, current requests and clients
-pub mod Held
-pub mod Goes
+pub mod Operand_holders_write
+pub mod Step_room_frame
 -- who waits, and keeps its room
-pub mod Waiting
-pub mod Kept
-pub mod Replied
+pub mod Waiting_means_blocked
+pub mod Unblocked_step_room
+pub mod Reply_keeps_room
 -- each step
-pub mod Steps
-pub mod Worlds
+pub mod Steps_keep_room
+pub mod Reply_room_invariant

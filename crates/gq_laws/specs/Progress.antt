@@ -14,7 +14,7 @@ use Rattle.gq_model.specs.machine.Doing.{Event, Stepped}
 use Rattle.gq_model.specs.machine.Step.{oldest, next}
 use Rattle.gq_model.specs.machine.Run.{Acts, set_input, run}
 use Rattle.gq_model.specs.rules.Accept.{budgets, step_budgets}
-use Rattle.gq_laws.specs.Turns.{can_run, steps_of}
+use Rattle.gq_laws.specs.Turn_effects.{can_run, steps_of}
 use Rattle.gq_laws.specs.Shapes.{Each}
 
 -- a leaf is at rest where it has exited, or serves and no request waits for it

@@ -10,7 +10,7 @@ use Rattle.gq_laws.specs.Shapes.{Each}
 
 -- A GROUP THAT IS APART
 
--- a group tells of each leaf, by its number, whether it is inside; no route and no `after` leads across its edge
+-- a group reports of each leaf, by its number, whether it is inside; no route and no `after` leads across its edge
 pub record IsApart (system : System) (group : ℕ → Bool) : Type 0 where
   pub routes : (x y : ℕ) (c : Component) (service : List ℕ) → slice_get system.components x ≡ Some c
       → server_of system c service ≡ Some y → group x ≡ group y

@@ -4,15 +4,15 @@ use Rattle.gq_model.specs.machine.Amounts.{Resource}
 use Rattle.gq_model.specs.machine.Scenario.{Scenario, system}
 use Rattle.gq_model.specs.machine.World.{World}
 use Rattle.gq_model.specs.rules.Kinds.{Kind}
-use Rattle.gq_laws.specs.Sound.{IsSound}
+use Rattle.gq_laws.specs.Sound_scenarios.{IsSound}
 use Rattle.gq_laws.specs.Shapes.{IsWholeWorld}
-use Rattle.gq_laws.specs.Links.{IsLinkedWorld}
+use Rattle.gq_laws.specs.Session_links.{IsLinkedWorld}
 use Rattle.gq_laws.specs.Typing.{IsTypedBy}
-use Rattle.gq_laws.specs.internal.Left.{AreLeft, IsGood}
+use Rattle.gq_laws.specs.internal.Remaining_instructions.{AreLeft, IsGood}
 use Rattle.gq_laws.specs.internal.Uncounted.{uncounted}
-use Rattle.gq_laws.specs.internal.Holding.{IsBounded, IsHeld}
-use Rattle.gq_laws.specs.internal.Counting.{IsCounted}
-use Rattle.gq_laws.specs.internal.Fitting.{Fit}
+use Rattle.gq_laws.specs.internal.Verified_holdings.{IsBounded, IsHeld}
+use Rattle.gq_laws.specs.internal.Section_counts.{IsCounted}
+use Rattle.gq_laws.specs.internal.Init_quanta.{Fit}
 
 -- an invariant of worlds, which speaks of no turns
 pub record Stands (s : Scenario) (w : World) : Type 0 where

@@ -4,10 +4,10 @@ use Rattle.gq_model.specs.declared.program.Form.TheVariants.{Slice, Space}
 use Rattle.gq_model.specs.declared.program.Section.{Section}
 use Rattle.gq_model.specs.machine.Amounts.{Amount}
 use Rattle.gq_model.specs.machine.Scenario.{System, number_of}
-use Rattle.gq_model.specs.machine.World.{Slot, Empty, Waiting, Bytes, Pool, Link, Spot, Session, Current, Round, Leaf, World, session_at, slot_at}
+use Rattle.gq_model.specs.machine.World.{Slot, Empty, Waiting, Bytes, Pool, Link, SlotId, Session, Current, Round, Leaf, World, session_at, slot_at}
 use Rattle.gq_model.specs.machine.Memory.{room, buffer_of}
-use Rattle.gq_model.specs.rules.Kinds.{Kind, Empty_kind, Memory, Pool_kind, Link_kind, State, Context, in_main}
-use Rattle.gq_laws.specs.Kept.{Under}
+use Rattle.gq_model.specs.rules.Kinds.{Kind, Empty_kind, Memory, Pool_kind, Link_kind, AbstractState, Context, in_main}
+use Rattle.gq_laws.specs.Current_section_facts.{Under}
 use Rattle.gq_laws.specs.Shapes.{Each}
 
 -- SLOTS
@@ -75,7 +75,7 @@ CurrentMeets promised c kinds w None = Unit {0}
 CurrentMeets promised c kinds w (Some current) = (s : Session) × (session_at w current.session ≡ Some s) × BankMeets promised c kinds s
 
 -- the leaf stands at the state
-pub record Meets (promised : ℕ → Option Kind) (c : Context) (state : State) (w : World) (leaf : Leaf) : Type 0 where
+pub record Meets (promised : ℕ → Option Kind) (c : Context) (state : AbstractState) (w : World) (leaf : Leaf) : Type 0 where
   pub own : AreKinds promised leaf.slots state.own
   pub current : IsCurrent c.section leaf.current
   pub bank : CurrentMeets promised c state.bank w leaf.current
@@ -91,7 +91,7 @@ IsLinkKind _ = ⊥
 
 -- what is promised of a session to which a link leads is the kind of a link
 abbrev pub PromisesLinks : (ℕ → Option Kind) → World → Type 0
-PromisesLinks promised w = (q : Spot) (k : ℕ) (kind : Kind) → slot_at w q ≡ Some (Link k) → promised k ≡ Some kind → IsLinkKind kind
+PromisesLinks promised w = (q : SlotId) (k : ℕ) (kind : Kind) → slot_at w q ≡ Some (Link k) → promised k ≡ Some kind → IsLinkKind kind
 
 -- a session whose first slot is a space of n bytes
 pub record HasBuffer (n : ℕ) (s : Session) : Type 0 where
@@ -103,6 +103,6 @@ pub record HasBuffer (n : ℕ) (s : Session) : Type 0 where
 -- behind a link whose service shares a buffer stands a space of just its size, in the first slot of the session
 abbrev pub SharesBuffers : System → (ℕ → Option Kind) → World → Type 0
 SharesBuffers system promised w =
-    (q : Spot) (k : ℕ) (service : List ℕ) (level : ℕ) (given : Amount) → slot_at w q ≡ Some (Link k)
+    (q : SlotId) (k : ℕ) (service : List ℕ) (level : ℕ) (given : Amount) → slot_at w q ≡ Some (Link k)
     → promised k ≡ Some (Link_kind service level given) → 0 < buffer_of system service
     → (s : Session) × (session_at w k ≡ Some s) × (s.service ≡ service) × HasBuffer (buffer_of system service) s

@@ -9,15 +9,15 @@ use Rattle.gq_model.specs.machine.Program.{Statements, section_in}
 use Rattle.gq_model.specs.machine.Scenario.{Interface, System, Component, interface_in, number_of}
 use Rattle.gq_model.specs.machine.World.{Empty, Session, Request, Current, Round, Leaf, World, session_at}
 use Rattle.gq_model.specs.machine.Step.{section_for}
-use Rattle.gq_model.specs.rules.Kinds.{Kind, Memory, Link_kind, State}
+use Rattle.gq_model.specs.rules.Kinds.{Kind, Memory, Link_kind, AbstractState}
 use Rattle.gq_model.specs.rules.Flow.{flow, context, body, start_of, own_after}
-use Rattle.gq_laws.specs.Kept.{level_then, current_section, section_asked, kind_replied, within, Continues, bank_kinds}
+use Rattle.gq_laws.specs.Current_section_facts.{level_then, current_section, section_asked, kind_replied, within, Continues, bank_kinds}
 use Rattle.gq_model.specs.rules.Verdict.{is_wanted}
 use Rattle.gq_model.specs.rules.Use.{subject}
 use Rattle.gq_laws.specs.Shapes.{Each}
 use Rattle.gq_laws.specs.Typed.{IsKind, AreKinds, Meets}
 use Rattle.gq_laws.specs.Asking.{IsWithin}
-use Rattle.gq_laws.specs.Replies.{once_replied}
+use Rattle.gq_laws.specs.Reply_stances.{once_replied}
 
 -- WHAT IS PROMISED
 
@@ -38,7 +38,7 @@ section_of None = Main
 section_of (Some current) = current.section
 
 -- the leaf waits for the reply to a request of a session of its; with that reply it will stand at the second state
-pub record IsAwaited (system : System) (w : World) (x : ℕ) (state next : State) : Type 0 where
+pub record IsAwaited (system : System) (w : World) (x : ℕ) (state next : AbstractState) : Type 0 where
   pub k : ℕ
   pub session : Session
   pub section : Section
@@ -48,7 +48,7 @@ pub record IsAwaited (system : System) (w : World) (x : ℕ) (state next : State
   pub is : next ≡ once_replied (number_of (interface_in session.service system.interfaces) (λ i. i.reply)) section state
 
 -- a leaf goes on from where it stands, but one that waits goes on with the reply
-abbrev pub GoesOnFrom : System → World → ℕ → Phase → State → State → Type 0
+abbrev pub GoesOnFrom : System → World → ℕ → Phase → AbstractState → AbstractState → Type 0
 GoesOnFrom system w x Pending state next = next ≡ state
 GoesOnFrom system w x Running state next = next ≡ state
 GoesOnFrom system w x Blocked state next = IsAwaited system w x state next
@@ -58,7 +58,7 @@ GoesOnFrom system w x Exited state next = next ≡ state
 
 -- what else is known of a leaf that is in a section: at this state, with these statements left in these loops
 abbrev pub Extra : Type 1
-Extra = ℕ → Section → State → Statements → List Round → Type 0
+Extra = ℕ → Section → AbstractState → Statements → List Round → Type 0
 
 -- nothing else
 abbrev pub no_extra : Extra
@@ -67,9 +67,9 @@ no_extra x section state todo loops = Unit {0}
 -- the leaf stands in a section at a state from which what is left of the section leads to its end by the rules
 pub record IsInSection (promised : ℕ → Option Kind) (extra : Extra) (system : System) (w : World) (x : ℕ) (c : Component) (leaf : Leaf) (phase : Phase)
     (section : Section) : Type 0 where
-  pub state : State
-  pub next : State
-  pub end : State
+  pub state : AbstractState
+  pub next : AbstractState
+  pub end : AbstractState
   pub meets : Meets promised (within (context (subject system c) section) leaf.loops) state w leaf
   pub from : GoesOnFrom system w x phase state next
   pub goes_on : Continues (context (subject system c) section) next leaf.todo leaf.loops end
@@ -116,7 +116,7 @@ FitsRequest system w r =
 
 -- with what is promised of sessions, all of this holds
 pub record IsTypedBy (promised : ℕ → Option Kind) (extra : Extra) (system : System) (w : World) : Type 0 where
-  pub tells : PromisesSessions promised w
+  pub reports : PromisesSessions promised w
   pub leaves : StandAll promised extra system w
   pub sessions : (k : ℕ) (s : Session) → session_at w k ≡ Some s → FitsService promised system w k s
   pub requests : Each (FitsRequest system w) w.requests

@@ -2,15 +2,15 @@
 ghost use Rattle.std.specs.Prelude.{ℕ, List};
 ghost use Rattle.gq_model.specs.machine.Scenario.{Scenario, system};
 ghost use Rattle.gq_model.specs.machine.World.{World};
-ghost use Rattle.gq_laws.specs.Sound.{IsSound};
-ghost use Rattle.gq_laws.specs.Reached.{IsReached};
+ghost use Rattle.gq_laws.specs.Sound_scenarios.{IsSound};
+ghost use Rattle.gq_laws.specs.Reached_worlds.{IsReached};
 ghost use Rattle.gq_laws.specs.Progress.{GoesOn, RunsThrough, WorkEnds, RoundsSuffice};
 ghost use Rattle.gq_model.specs.machine.Run.{Acts};
 
 /// What holds of every world that a scenario comes to which is as the readers give it and is accepted.
 ///
-/// `goes_on`: there is no deadlock. Either every leaf is at rest, so it has exited, or it serves and no request waits for it; or the next
-/// turn of some leaf is a step, in which this leaf takes one step more.
+/// `goes_on`: there is no deadlock. Either every leaf is at rest: it has exited, or it serves and no request waits for it. Or the next turn of some leaf is a
+/// step, in which this leaf takes one step more.
 ///
 /// `runs`: a run over turns and settings of inputs ends in the world after all of them, one by one.
 ///

@@ -4,11 +4,11 @@ ghost use Rattle.std.specs.Prelude.{◌≡◌, true};
 ghost use Rattle.gq_model.specs.machine.World.{World};
 ghost use Rattle.gq_model.specs.machine.Sums.{paid};
 ghost use Rattle.gq_model.specs.Promises.{EachOf, SumsToTotal, ClosesWhole, EndsSessions};
-ghost use Rattle.gq_laws.specs.Reached.{IsReached};
+ghost use Rattle.gq_laws.specs.Reached_worlds.{IsReached};
 ghost use Rattle.gq_laws.specs.Shapes.{IsWholeWorld};
-ghost use Rattle.gq_laws.specs.Links.{IsLinkedWorld};
+ghost use Rattle.gq_laws.specs.Session_links.{IsLinkedWorld};
 ghost use Rattle.gq_laws.specs.Names.{NamesDiffer};
-ghost use Rattle.gq_laws.specs.Resolved.{IsResolved};
+ghost use Rattle.gq_laws.specs.Resolved_scenarios.{IsResolved};
 
 /// What each world has that a run of any scenario comes to.
 ///

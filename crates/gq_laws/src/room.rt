@@ -4,7 +4,7 @@ ghost use Rattle.gq_model.specs.machine.Scenario.{System};
 ghost use Rattle.gq_model.specs.machine.World.{World, start};
 ghost use Rattle.gq_model.specs.machine.Doing.{Event};
 ghost use Rattle.gq_model.specs.machine.Step.{next};
-ghost use Rattle.gq_laws.specs.Links.{IsLinkedWorld};
+ghost use Rattle.gq_laws.specs.Session_links.{IsLinkedWorld};
 ghost use Rattle.gq_laws.specs.Room.{IsRoomy};
 
 /// Each leaf has at most 16 operands, and a client that waits for the reply to a call at most 15, so the reply has room. It does nothing.

@@ -4,7 +4,7 @@ ghost use Rattle.gq_model.specs.machine.Scenario.{Scenario, system};
 ghost use Rattle.gq_model.specs.machine.World.{World};
 ghost use Rattle.gq_model.specs.machine.Doing.{Event};
 ghost use Rattle.gq_model.specs.machine.Step.{next};
-ghost use Rattle.gq_laws.specs.Reached.{IsReached};
+ghost use Rattle.gq_laws.specs.Reached_worlds.{IsReached};
 ghost use Rattle.gq_laws.specs.Separation.{IsApart, IsUntouched, SameRequests, SameAccounts, TurnsTouchNothing};
 ghost use Rattle.gq_model.specs.machine.Run.{Acts};
 

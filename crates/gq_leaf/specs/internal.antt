@@ -1,2 +1,2 @@
-pub mod Holds
+pub mod Leaf_invariant
 pub mod Placed

@@ -1,7 +1,7 @@
 //! A leaf with the bytecode of its program, and each of its steps as the abstract machine has it.
 //!
-//! A [`Leaf`] stands at a place in its code. [`Leaf::run`] takes the steps in which the leaf alone has a part, and [`Leaf::run_over`] most of those on its
-//! memory, too; who runs the leaf then does the operation that it came to, over the slots of the machine.
+//! A leaf ([`Leaf`]) stands at a place in its code. One call ([`Leaf::run`]) takes the steps in which the leaf alone has a part. Another one
+//! ([`Leaf::run_over`]) takes most of those on its memory, too. Who runs the leaf then does the operation that it came to, over the slots of the machine.
 //!
 //! ```rust
 //! use gq_leaf::Leaf;
@@ -11,7 +11,7 @@
 //! let (reached, left) = leaf.run(1000);
 //! ```
 //!
-//! `operations`, `on_memory` and `asking` have what the operations do to a leaf's operands and to slots.
+//! `operations`, `on_memory` and `asking_statements` have what the operations do to a leaf's operands and to slots.
 //!
 //! ```rust
 //! use gq_leaf::on_memory::{load, store};
@@ -22,15 +22,15 @@
 //! ```
 #![tactic(auto)]
 
-pub mod asking;
-mod ends;
+pub mod asking_statements;
 mod going;
-pub mod laws;
 pub mod leaf;
-mod lines;
-pub mod memory;
+mod line_statements;
+pub mod memory_statements;
 pub mod on_memory;
 pub mod operations;
+mod section_ends;
+pub mod step_laws;
 pub mod stepping;
 
 pub use leaf::{Leaf, Reached};

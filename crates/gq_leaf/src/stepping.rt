@@ -7,11 +7,11 @@ ghost use Rattle.gq_model.specs.machine.World as world;
 ghost use Rattle.gq_model.specs.machine.Step.{instruct, next};
 ghost use Rattle.gq_bytecode.specs.Nexts.{Active};
 ghost use Rattle.gq_slots.specs.Slots.{Frame, Slots, world_seen};
-ghost use Rattle.gq_leaf.specs.Frames.{IsElsewhere};
+ghost use Rattle.gq_leaf.specs.Leaf_frames.{IsElsewhere};
 ghost use Rattle.gq_model.specs.declared.fault.Wrong.{Wrong};
 ghost use Rattle.gq_bytecode.specs.Cores.{Core};
 ghost use Rattle.gq_statements.specs.declared.actor.Actor.{Actor};
-ghost use Rattle.gq_leaf.specs.Leaves.{LeafState, Steps, stepped};
+ghost use Rattle.gq_leaf.specs.Leaf_states.{LeafState, Steps, stepped};
 ghost use Rattle.gq_leaf.specs.Leaves_steps.{Does, step_at};
 
 /// A frame in which one leaf stands otherwise has the world with that leaf anew, which keeps its slots and its peaks. It does nothing.
@@ -27,8 +27,9 @@ pub fn instructed()
         → next system w x ≡ instruct (step_at system w x c leaf rest) i }
 {}
 
-/// What a statement does to a leaf's registers and to slots is the leaf's step: in every world in which the leaf stands before it, the next step leads to the
-/// one in which it stands as after it, with the new operands, at the next place, one step further; or it is wrong with the same fault. It does nothing.
+/// What a statement does to a leaf's registers and to slots is the leaf's step. In every world in which the leaf stands before it, the next step leads to the
+/// one in which the leaf stands after it. There it has the new operands, and is at the next place and one step further. Or the step is wrong with the same
+/// fault. It does nothing.
 pub fn stepped()
     ensures done { (x : ℕ) (bs : List ℕ) (i : Instruction) (old new : LeafState) (core : Core) (s t : Slots) (a : Actor) → a.leaf ≡ x → a.current ≡ old.current
         → Does a bs i old.registers core s t (Ok tt) → new ≡ stepped old core.operands → Steps x bs i old new s t (Ok tt) }

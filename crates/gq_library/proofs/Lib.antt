@@ -1,4 +1,4 @@
-mod Going
-mod Holding
-mod Refused
-mod Values
+mod Quiet_turn_runs
+mod Held_value_ownership
+mod Faulty_text_unloaded
+mod Loose_box_values

@@ -1,8 +1,8 @@
-pub mod Accounts
-pub mod Held
+pub mod C_accounts
+pub mod Held_world
 pub mod Loads
 pub mod Lookup
-pub mod Settings
+pub mod C_settings
 pub mod Texts
-pub mod Turns
+pub mod C_turns
 pub mod internal

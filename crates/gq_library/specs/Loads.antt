@@ -5,7 +5,7 @@ use Rattle.gq_model.specs.machine.World as model
 use Rattle.gq_model.specs.rules.Accept.{IsAccepted}
 use Rattle.gq_load.specs.Load.{loaded}
 use Rattle.gq_world.specs.Headline.{Upholding}
-use Rattle.gq_world.specs.Worlds.{World}
+use Rattle.gq_world.specs.World_between_turns.{World}
 
 -- the world at the start of the accepted scenario of a text, of which every run upholds what is promised
 pub record Starts (text : List ℕ) (w : World) : Type 0 where

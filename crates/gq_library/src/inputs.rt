@@ -1,10 +1,10 @@
 // Inputs of leaves.
 ghost use Rattle.std.specs.Prelude.{◌≡◌};
-ghost use Rattle.gq_library.specs.Settings.{IsSetting, fault_number};
+ghost use Rattle.gq_library.specs.C_settings.{IsSetting, fault_number};
 
-use crate::numbers::{NO_INPUT, SET, TOO_LARGE};
+use crate::result_codes::{NO_INPUT, SET, TOO_LARGE};
 use gq_scenario::scenario::LeafNo;
-use gq_world::settings::InputFault;
+use gq_world::input_settings::InputFault;
 use gq_world::world::World;
 
 // The number of a fault.

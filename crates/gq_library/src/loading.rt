@@ -4,9 +4,9 @@ ghost use Rattle.gq_load.specs.Load.{loaded, fault_text};
 ghost use Rattle.gq_library.specs.Loads.{Holds, IsRefused, Starts};
 ghost use Rattle.gq_library.specs.Texts.{IsPut};
 
-use crate::faults::{put_fault, status_of};
 use crate::held::Held;
-use crate::numbers::{LOADED, MEMORY, REFUSED};
+use crate::refusal_line::{put_fault, status_of};
+use crate::result_codes::{LOADED, MEMORY, REFUSED};
 use gq_world::RunFault;
 use gq_world::world::World;
 use std::alloc::Global;
@@ -55,7 +55,7 @@ pub extern "C" fn trade_fault(
     ensures accepted { result ≡ LOADED → IsOk (loaded text.now) }
     ensures refused { result ≡ REFUSED → IsRefused text.now }
     ensures known { (result ≡ LOADED → ⊥) → (result ≡ REFUSED → ⊥) → result ≡ MEMORY }
-    ensures told { result ≡ REFUSED → IfErr (loaded text.now) (λ f. IsPut (fault_text f) line.old line.new written.new) }
+    ensures reported { result ≡ REFUSED → IfErr (loaded text.now) (λ f. IsPut (fault_text f) line.old line.new written.new) }
     ensures line { (result ≡ REFUSED → ⊥) → line.new ≡ line.old }
     ensures written { (result ≡ REFUSED → ⊥) → written.new ≡ 0 }
 {

@@ -6,9 +6,9 @@ ghost use Rattle.gq_resolve.specs.NodeTables.{IsNodeOf, node_rows};
 ghost use Rattle.gq_library.specs.Lookup.{number_or};
 ghost use Rattle.gq_library.specs.Texts.{IsPut};
 
-use crate::numbers::NONE;
+use crate::result_codes::NONE;
 use crate::texts::put;
-use gq_scenario::node::NodeNo;
+use gq_scenario::node_numbers::NodeNo;
 use gq_scenario::scenario::LeafNo;
 use gq_world::world::World;
 

@@ -1,19 +1,19 @@
 // What a world has: nodes and leaves, names, accounts and bounds.
 ghost use Rattle.std.specs.Prelude.{◌≡◌, ◌<◌, ◌≤◌, ◌↔◌, false, true, length, slice_get, None, IfSome};
-ghost use Rattle.gq_init.specs.Told.{told_of};
+ghost use Rattle.gq_init.specs.Account_values.{reported_of};
 ghost use Rattle.gq_model.specs.machine.Routes.{numbered};
 ghost use Rattle.gq_model.specs.machine.Scenario.{components};
 ghost use Rattle.gq_model.specs.rules.Accept.{budgets};
 ghost use Rattle.gq_resolve.specs.NodeTables.{IsNodeOf, node_rows};
-ghost use Rattle.gq_world.specs.Lines.{all_accounts};
-ghost use Rattle.gq_library.specs.Accounts.{Tells, TellsBounds};
+ghost use Rattle.gq_world.specs.Account_lines.{all_accounts};
+ghost use Rattle.gq_library.specs.C_accounts.{Reports, ReportsBounds};
 ghost use Rattle.gq_library.specs.Lookup.{number_or};
 ghost use Rattle.gq_library.specs.Texts.{IsPut};
 
-use crate::account::{LeafBounds, NodeAccount, read_account, read_bounds};
+use crate::account_structs::{LeafBounds, NodeAccount, read_account, read_bounds};
 use crate::held::Held;
 use crate::lookup::{leaf_named, node_of, put_label};
-use crate::numbers::NONE;
+use crate::result_codes::NONE;
 use std::alloc::Global;
 use std::mem::replace;
 
@@ -122,7 +122,7 @@ pub extern "C" fn trade_read_account(
     node: u32,
     account: &mut NodeAccount,
 ) -> bool
-    ensures told { IfSome world.old.world (λ w. IfSome (slice_get (all_accounts w) node) (λ a. Tells account.new (told_of a))) }
+    ensures reported { IfSome world.old.world (λ w. IfSome (slice_get (all_accounts w) node) (λ a. Reports account.new (reported_of a))) }
     ensures there { IfSome world.old.world (λ w. (result ≡ true) ↔ (node < length (node_rows w.scenario))) }
     ensures empty { world.old.world ≡ None → result ≡ false }
     ensures same { world.new.world ≡ world.old.world }
@@ -146,7 +146,7 @@ pub extern "C" fn trade_read_budget(
     leaf: u32,
     budget: &mut LeafBounds,
 ) -> bool
-    ensures told { IfSome world.old.world (λ w. IfSome (slice_get (budgets w.scenario) leaf) (λ b. TellsBounds budget.new b)) }
+    ensures reported { IfSome world.old.world (λ w. IfSome (slice_get (budgets w.scenario) leaf) (λ b. ReportsBounds budget.new b)) }
     ensures there { IfSome world.old.world (λ w. (result ≡ true) ↔ (leaf < length (budgets w.scenario))) }
     ensures empty { world.old.world ≡ None → result ≡ false }
     ensures same { world.new.world ≡ world.old.world }

@@ -2,14 +2,14 @@
 ghost use Rattle.std.specs.Prelude.{◌≡◌, ◌<◌, ◌≤◌, ◌↔◌, length, None, IfSome};
 ghost use Rattle.gq_model.specs.machine.Scenario.{components};
 ghost use Rattle.gq_library.specs.Loads.{Holds};
-ghost use Rattle.gq_library.specs.Settings.{IsSetting};
-ghost use Rattle.gq_library.specs.Turns.{AreTaken, IsTaken};
+ghost use Rattle.gq_library.specs.C_settings.{IsSetting};
+ghost use Rattle.gq_library.specs.C_turns.{AreTaken, IsTaken};
 
-use crate::burst::turns;
 use crate::held::Held;
 use crate::inputs::set_input;
-use crate::numbers::{NO_INPUT, NONE, SET};
+use crate::result_codes::{NO_INPUT, NONE, SET};
 use crate::turn::turn;
+use crate::turn_burst::turns;
 use std::alloc::Global;
 use std::mem::replace;
 
@@ -42,7 +42,7 @@ pub extern "C" fn trade_set_input(
 }
 
 /// One turn of a leaf: one step where it can run. The result is the number of its event. The text of its line, of at most 64 bytes and without the label, is
-/// put into `line`, as much of it as fits; `written` gets the length of the whole text, 0 if there is none.
+/// put into `line`, as much of it as fits. The length of the whole text, 0 if there is none, is put into `written`.
 ///
 /// If there is no such leaf, the result is `NONE` and nothing is changed.
 #[unsafe(no_mangle)]

@@ -3,9 +3,9 @@ ghost use Rattle.std.specs.Prelude.{◌≡◌, ◌<◌, ◌≤◌, ◌↔◌, �
 ghost use Rattle.gq_machine.specs.Events.{event_of};
 ghost use Rattle.gq_model.specs.machine.Scenario.{components};
 ghost use Rattle.gq_library.specs.Texts.{IsPut};
-ghost use Rattle.gq_library.specs.Turns.{IsTaken, event_number, event_text};
+ghost use Rattle.gq_library.specs.C_turns.{IsTaken, event_number, event_text};
 
-use crate::numbers::NONE;
+use crate::result_codes::NONE;
 use crate::texts::put;
 use arrayvec::ArrayVec;
 use gq_scenario::scenario::LeafNo;

@@ -26,7 +26,7 @@ mod sharing;
 ghost use Rattle.std.specs.Prelude.{◌≡◌, ℕ, ◌+◌, ◌-◌, ◌*◌, ◌%◌, ◌<◌, ◌≤◌, ◌↔◌, ◌⊎◌, Option, Some, None, IfOk, OnErr, IsErrOf, MatchOption, IsTrue, length};
 ghost use Rattle.std.specs.Prelude.{slice_index};
 ghost use Rattle.gq_store.specs.Store.{one_more};
-ghost use Rattle.gq_list_store.specs.Slots.{AreSlots, caps_or_none};
+ghost use Rattle.gq_list_store.specs.Chunk_layout.{AreSlots, caps_or_none};
 
 use gq_store::{ByteStore, ChunkNo, GrowFault};
 use gq_tariff::price;
@@ -39,7 +39,7 @@ const PAGE: u32 = price::PAGE as u32;
 /// Chunks in one list, up to a limit in bytes and in capabilities.
 ///
 /// Chunk `k` has the bytes from `k * stride` on, where `stride` is the limit: there is room for one chunk a page, each as great as the limit. All of it
-/// is reserved when the store is made, so that a chunk takes no host memory.
+/// is reserved when the store is made, so that a chunk allocates no host memory.
 #[derive(Drop)]
 pub struct ListStore {
     bytes: Vec<u8>,

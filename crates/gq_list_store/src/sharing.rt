@@ -17,9 +17,9 @@ struct Laid {
     second: Pool,
 }
 
-/// Lays a slice and a block of 16 bytes and two pools of four entries of 16 bytes into the store, beside what else is there, and writes a byte to the
-/// slice (7), to the block (9) and to an entry of the first pool (5). Then the second pool adds an entry, removes it and ends. Answers what the three
-/// bytes read after that, of the slice, the block and the entry.
+/// Lays a slice and a block of 16 bytes and two pools of four entries of 16 bytes into the store, beside what else is there. Writes a byte to the slice (7), to
+/// the block (9) and to an entry of the first pool (5). Then the second pool adds an entry, removes it and ends. Answers what the three bytes read after that,
+/// of the slice, the block and the entry.
 ///
 /// Refused where the store can't pay for one of them; what was made before stays then.
 pub fn share<S: ByteStore>(heap: &mut Heap, store: &mut S) -> Result<(u8, u8, u8), GrowFault>

@@ -7,15 +7,15 @@ use Rattle.gq_model.specs.machine.Lists.{or_first}
 use Rattle.gq_model.specs.machine.Scenario.{Interfaces, Component}
 use Rattle.gq_model.specs.rules.Accept.{Refusal}
 use Rattle.gq_model.specs.rules.Use.{services}
-use Rattle.gq_budget.specs.Counts.{Counted, IsCountOf, AreCountsOf}
+use Rattle.gq_budget.specs.Leaf_section_counts.{Counted, IsCountOf, AreCountsOf}
 use Rattle.gq_load.specs.Load.{Fault, refused}
-use Rattle.gq_load.specs.Faults.{PrintsFault}
-use Rattle.gq_load.specs.internal.Judged.{judged_by}
-use Rattle.gq_load.specs.internal.Leaves.{counted_leaves}
+use Rattle.gq_load.specs.Load_faults.{PrintsFault}
+use Rattle.gq_load.specs.internal.Judged_programs.{judged_by}
+use Rattle.gq_load.specs.internal.Counted_leaves.{counted_leaves}
 use Rattle.gq_load.specs.internal.Surveys.{own_of, leaf_by, AreSurveys}
-use Rattle.gq_load.specs.declared.fault.LoadError.{LoadError}
-use Rattle.gq_load.specs.declared.fault.LoadError.TheVariants as error
-use Rattle.gq_load.proofs.Loads.{here_is}
+use Rattle.gq_load.specs.declared.load_fault.LoadError.{LoadError}
+use Rattle.gq_load.specs.declared.load_fault.LoadError.TheVariants as error
+use Rattle.gq_load.proofs.Sequential_leaf_loading.{here_is}
 
 -- what is kept of the first leaves, with what there is to keep of those that are left, is all
 pub record AreFirst (i : Interfaces) (all left : List Component) (os : List Amount) (ns : List Counted) (names : List (List (List ℕ))) : Type 0 where

@@ -1,13 +1,13 @@
-pub mod Loads
+pub mod Sequential_leaf_loading
 pub mod First_leaves
-pub mod Texts
-pub mod Leaves
-pub mod Budgets
-pub mod Refusals
-mod Limits
+pub mod Five_part_texts
+pub mod Step_counted_leaves
+pub mod Saturated_step_budgets
+pub mod First_refusal_reason
+mod Leaves_over_limit
 pub mod Unsized_faults
 pub mod Sound_programs
-pub mod Services
+pub mod Read_service_resources
 pub mod Sound_texts
 -- what is read, accepted or not
 pub mod Read_interfaces

@@ -6,22 +6,22 @@ use Rattle.gq_model.specs.machine.Amounts.{amount, counts_caps}
 use Rattle.gq_model.specs.machine.Lists.{any_of}
 use Rattle.gq_model.specs.machine.Program.{text_eq}
 use Rattle.gq_model.specs.machine.Scenario.{Interface, interface_in}
-use Rattle.gq_scenario.specs.Keys.{members_of, table_fault}
-use Rattle.gq_scenario.specs.Tables.{interface_keys}
+use Rattle.gq_scenario.specs.Table_keys.{members_of, table_fault}
+use Rattle.gq_scenario.specs.Document_tables.{interface_keys}
 use Rattle.gq_scenario.specs.Document.{number_at, list_at, upgrades_of, interface_of, interfaces_of, interfaces_fault, keys_of}
-use Rattle.gq_reader.proofs.Passed.{absent}
-use Rattle.gq_reader.proofs.Kept.{kept}
+use Rattle.gq_reader.proofs.Faultless_table_facts.{absent}
+use Rattle.gq_reader.proofs.Table_rules_kept.{kept}
 use Rattle.gq_laws.specs.Ready.{IsWithoutCaps}
-use Rattle.gq_model.proofs.Small.{none_some, some_same, or_first_none}
+use Rattle.gq_model.proofs.Small_facts.{none_some, some_same, or_first_none}
 
--- a key that is not there tells nothing
+-- a key that is not there reports nothing
 pub no_number : (key : List ℕ) (entries : Members) → get_member key entries ≡ None → number_at key entries ≡ 0
 no_number key entries e = rw e refl
 
 no_list : (key : List ℕ) (entries : Members) → get_member key entries ≡ None → list_at key entries ≡ []
 no_list key entries e = rw e refl
 
--- upgrades of which no capabilities are told have none
+-- upgrades of which no capabilities are reported have none
 plain_upgrades : (bytes : List Data) (level : ℕ) → (slice_index_or (upgrades_of bytes []) level (amount 0 0)).caps ≡ 0
 plain_upgrades [] level = refl
 plain_upgrades (d ∷ rest) zero = refl

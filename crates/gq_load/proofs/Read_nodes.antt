@@ -5,17 +5,18 @@ use Rattle.toml.specs.Data.{Data, Members, get_member}
 use Rattle.gq_model.specs.machine.Lists.{any_of, or_first}
 use Rattle.gq_model.specs.machine.Program.{text_eq}
 use Rattle.gq_model.specs.machine.Scenario.{LeafNode, Nodes, End, Leaf_node, Init_node, Scenario, Component, components}
-use Rattle.gq_scenario.specs.Keys.{DocumentFault, KeyRule, required, optional, either, other, text_of, members_of, passes, is_number, is_quantity, is_text}
-use Rattle.gq_scenario.specs.Keys.{is_hex, is_name_text, is_table, is_list, table_fault}
-use Rattle.gq_scenario.specs.Tables.{greatest_caps, is_declared, is_inputs, is_named_names, leaf_keys, init_keys}
+use Rattle.gq_scenario.specs.Table_keys.{DocumentFault, KeyRule, required, optional, either, other, text_of, members_of, passes, is_number, is_quantity}
+use Rattle.gq_scenario.specs.Table_keys.{is_text}
+use Rattle.gq_scenario.specs.Table_keys.{is_hex, is_name_text, is_table, is_list, table_fault}
+use Rattle.gq_scenario.specs.Document_tables.{greatest_caps, is_declared, is_inputs, is_named_names, leaf_keys, init_keys}
 use Rattle.gq_scenario.specs.Document.{value_of, list_at, leaf_of, is_init, init_of, nodes_by, node_onto, first_of, routes_fault, node_fault}
 use Rattle.gq_scenario.specs.Sizes.{leaves_in}
-use Rattle.gq_scenario.proofs.Preorder.{components-leaves_in}
-use Rattle.gq_reader.proofs.Passed.{absent}
-use Rattle.gq_reader.proofs.Kept.{AreKept, fits_or_none, kept}
+use Rattle.gq_scenario.proofs.Preorder_leaves.{components-leaves_in}
+use Rattle.gq_reader.proofs.Faultless_table_facts.{absent}
+use Rattle.gq_reader.proofs.Table_rules_kept.{AreKept, fits_or_none, kept}
 use Rattle.gq_laws.specs.Shapes.{Each}
 use Rattle.gq_laws.specs.Ready.{AreWithoutCaps}
-use Rattle.gq_model.proofs.Small.{none_some, some_none, some_same, or_first_none}
+use Rattle.gq_model.proofs.Small_facts.{none_some, some_none, some_same, or_first_none}
 use Rattle.gq_load.proofs.Sound_programs.{each_append}
 use Rattle.gq_load.proofs.Read_interfaces.{no_number}
 use Rattle.gq_model.specs.machine.Amounts.{counts_caps}

@@ -5,18 +5,18 @@ use Rattle.toml.specs.Data.{Members, get_member}
 use Rattle.gq_model.specs.machine.Scenario.{Scenario, components}
 use Rattle.gq_model.specs.rules.Accept.{Refusal, not_resolved}
 use Rattle.gq_model.specs.rules.Resolve.{Unresolved, unresolved}
-use Rattle.gq_scenario.specs.Keys.{DocumentFault, table_fault}
-use Rattle.gq_scenario.specs.Tables.{version_of, top_keys}
+use Rattle.gq_scenario.specs.Table_keys.{DocumentFault, table_fault}
+use Rattle.gq_scenario.specs.Document_tables.{version_of, top_keys}
 use Rattle.gq_scenario.specs.Document.{table_of, list_at, described, keys_of, interfaces_fault, routes_fault, walk_fault, names_of, name_twice, counts_fault}
 use Rattle.gq_scenario.specs.Document.{document_fault}
-use Rattle.gq_scenario.specs.Reading.{ReadFault, Bad_document, described_or, read_from, document_in, scenario_in}
+use Rattle.gq_scenario.specs.Top_table.{ReadFault, Bad_document, described_or, read_from, document_in, scenario_in}
 use Rattle.gq_load.specs.Load.{Fault, Unread, sources_fault, refused, scenario_fault, loaded_or, loaded_from, loaded}
 use Rattle.gq_load.specs.Unverified.{unverified_fault, unverified_from, unverified}
 use Rattle.gq_laws.specs.Names.{NamesDiffer}
-use Rattle.gq_laws.proofs.verified.Sound_systems.{is_resolved}
+use Rattle.gq_laws.proofs.verified_programs.Sound_systems.{is_resolved}
 use Rattle.gq_laws.specs.Ready.{IsRead, IsReady}
-use Rattle.gq_model.proofs.Small.{or_first_none}
-use Rattle.gq_scenario.proofs.Differing.{names_differ}
+use Rattle.gq_model.proofs.Small_facts.{or_first_none}
+use Rattle.gq_scenario.proofs.Distinct_leaf_names.{names_differ}
 use Rattle.gq_load.proofs.Read_interfaces.{services_plain, declared_in}
 use Rattle.gq_load.proofs.Read_nodes.{IsDeclared, nodes_read, each_component}
 use Rattle.gq_load.proofs.Sound_texts.{same_scenario, not_ok, loaded_sound}

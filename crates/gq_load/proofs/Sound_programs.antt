@@ -17,13 +17,13 @@ use Rattle.gq_model.specs.texts.Sources.{program_or_none, program_from}
 use Rattle.gq_model.specs.machine.Scenario.{Source, As_text, As_code, LeafNode, Nodes, Leaf_node, Init_node, Scenario, Component, components}
 use Rattle.gq_model.proofs.Assembled_programs.{assembled_is}
 use Rattle.gq_model.proofs.Decoded_programs.{decoded_is}
-use Rattle.gq_scenario.specs.Keys.{hex_value, byte_before, unhex, unhex_of, members_of}
+use Rattle.gq_scenario.specs.Table_keys.{hex_value, byte_before, unhex, unhex_of, members_of}
 use Rattle.gq_scenario.specs.Document.{list_at, text_at, source_from, code_in, source_in, leaf_of, is_init, init_of, nodes_by, node_onto}
 use Rattle.gq_scenario.specs.Sizes.{leaves_in}
-use Rattle.gq_scenario.proofs.Preorder.{components-leaves_in}
+use Rattle.gq_scenario.proofs.Preorder_leaves.{components-leaves_in}
 use Rattle.gq_load.specs.Load.{text_fault, code_fault, source_fault, sources_fault}
 use Rattle.gq_laws.specs.Shapes.{Each}
-use Rattle.gq_model.proofs.Small.{none_some, some_same, or_first_none}
+use Rattle.gq_model.proofs.Small_facts.{none_some, some_same, or_first_none}
 
 -- BYTES
 

@@ -4,17 +4,17 @@ use Rattle.std.specs.Prelude.{Result, codes}
 use Rattle.toml.specs.Data.{Members, get_member}
 use Rattle.gq_model.specs.machine.Scenario.{Scenario, components}
 use Rattle.gq_model.specs.rules.Accept.{Refusal, refusal}
-use Rattle.gq_scenario.specs.Keys.{DocumentFault, table_fault}
-use Rattle.gq_scenario.specs.Tables.{top_keys}
+use Rattle.gq_scenario.specs.Table_keys.{DocumentFault, table_fault}
+use Rattle.gq_scenario.specs.Document_tables.{top_keys}
 use Rattle.gq_scenario.specs.Document.{table_of, list_at, described, interfaces_fault, walk_fault, names_of, name_twice, counts_fault, document_fault}
-use Rattle.gq_scenario.specs.Tables.{version_of}
-use Rattle.gq_scenario.specs.Reading.{ReadFault, Bad_document, described_or, read_from, document_in}
+use Rattle.gq_scenario.specs.Document_tables.{version_of}
+use Rattle.gq_scenario.specs.Top_table.{ReadFault, Bad_document, described_or, read_from, document_in}
 use Rattle.gq_load.specs.Load.{Fault, Unread, sources_fault, refused, scenario_fault, loaded_or, loaded_from, loaded}
-use Rattle.gq_laws.specs.Sound.{IsSound}
-use Rattle.gq_model.proofs.Small.{none_some, or_first_none}
-use Rattle.gq_scenario.proofs.Differing.{names_differ}
+use Rattle.gq_laws.specs.Sound_scenarios.{IsSound}
+use Rattle.gq_model.proofs.Small_facts.{none_some, or_first_none}
+use Rattle.gq_scenario.proofs.Distinct_leaf_names.{names_differ}
 use Rattle.gq_load.proofs.Sound_programs.{nodes_given, programs_are}
-use Rattle.gq_load.proofs.Services.{services_fair}
+use Rattle.gq_load.proofs.Read_service_resources.{services_fair}
 
 pub same_scenario : {F : Type 0} (s t : Scenario) → ◌≡◌ {A = Result Scenario F} (Ok s) (Ok t) → s ≡ t
 same_scenario s t e = cc

@@ -5,16 +5,16 @@ use Rattle.gq_model.specs.machine.Scenario.{Scenario, components, system}
 use Rattle.gq_model.specs.rules.Accept.{budgets, not_resolved, program_refusal, steps_refusal}
 use Rattle.gq_model.specs.rules.Resolve.{unresolved}
 use Rattle.std.specs.Prelude.{Err}
-use Rattle.gq_resolve.specs.Resolved.{Finds}
-use Rattle.gq_resolve.specs.declared.fault.ResolveError.{ResolveError}
-use Rattle.gq_load.specs.Faults.{PrintsFault, load_error_of}
+use Rattle.gq_resolve.specs.Resolve_faults.{Finds}
+use Rattle.gq_resolve.specs.declared.resolve_fault.ResolveError.{ResolveError}
+use Rattle.gq_load.specs.Load_faults.{PrintsFault, load_error_of}
 use Rattle.gq_load.specs.Load.{refused, sources_fault}
-use Rattle.gq_load.specs.Unsized.{unsized_fault, unsized_refusal}
-use Rattle.gq_load.specs.internal.Budgets.{kept_from}
-use Rattle.gq_load.specs.internal.Judged.{first_refusal}
-use Rattle.gq_load.specs.declared.fault.LoadError.{LoadError}
-use Rattle.gq_load.proofs.Budgets.{all_kept, steps_kept}
-use Rattle.gq_load.proofs.Refusals.{first_same, fault_here, gives_here, gives_next, none_both, programs_none, resolve_gives}
+use Rattle.gq_load.specs.Unsized_judgement.{unsized_fault, unsized_refusal}
+use Rattle.gq_load.specs.internal.Saturated_budgets.{kept_from}
+use Rattle.gq_load.specs.internal.Judged_programs.{first_refusal}
+use Rattle.gq_load.specs.declared.load_fault.LoadError.{LoadError}
+use Rattle.gq_load.proofs.Saturated_step_budgets.{all_kept, steps_kept}
+use Rattle.gq_load.proofs.First_refusal_reason.{first_same, fault_here, gives_here, gives_next, none_both, programs_none, resolve_gives}
 
 -- a program that is refused
 pub unsized_program : (s : Scenario) (e : LoadError) → PrintsFault e (refused (first_refusal s.interfaces (components s)))

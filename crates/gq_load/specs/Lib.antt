@@ -1,7 +1,7 @@
 pub mod Load
-pub mod Over
-pub mod Faults
+pub mod Over_limits
+pub mod Load_faults
 pub mod Named
 pub mod Unverified
-pub mod Unsized
+pub mod Unsized_judgement
 pub mod internal

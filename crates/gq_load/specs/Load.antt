@@ -9,7 +9,7 @@ use Rattle.gq_model.specs.texts.Text.{assembled}
 use Rattle.gq_model.specs.texts.Decode.{decoded}
 use Rattle.gq_model.specs.rules.Accept.{Refusal, refusal}
 use Rattle.gq_model.specs.texts.Fault_texts.{text_fault_word, code_fault_word, refusal_text}
-use Rattle.gq_scenario.specs.Reading.{ReadFault, read_text, scenario_in}
+use Rattle.gq_scenario.specs.Top_table.{ReadFault, read_text, scenario_in}
 
 -- why a text is refused: it is no scenario, a leaf's text or a leaf's code is no program, or the scenario is refused
 pub data Fault : Type 0 where

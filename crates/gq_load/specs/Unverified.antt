@@ -4,7 +4,7 @@ use Rattle.gq_model.specs.machine.Lists.{or_first}
 use Rattle.gq_model.specs.machine.Scenario.{Scenario, components}
 use Rattle.gq_model.specs.rules.Resolve.{unresolved}
 use Rattle.gq_model.specs.rules.Accept.{not_resolved}
-use Rattle.gq_scenario.specs.Reading.{ReadFault, scenario_in}
+use Rattle.gq_scenario.specs.Top_table.{ReadFault, scenario_in}
 use Rattle.gq_load.specs.Load.{Fault, Unread, sources_fault, refused, loaded_or}
 
 -- texts and codes have to be programs, and routes have to lead somewhere; no program is judged

@@ -1,5 +1,5 @@
 pub mod Accepted
-pub mod Budgets
-pub mod Judged
-pub mod Leaves
+pub mod Saturated_budgets
+pub mod Judged_programs
+pub mod Counted_leaves
 pub mod Surveys

@@ -7,26 +7,26 @@ ghost use Rattle.gq_model.specs.rules.Accept.{IsAccepted, refusal};
 ghost use Rattle.gq_resolve.specs.NodeTables.{all_rows};
 ghost use Rattle.gq_resolve.specs.Served.{AreServers};
 ghost use Rattle.gq_load.specs.internal.Accepted.{AreOfAccepted};
-ghost use Rattle.gq_load.specs.internal.Budgets.{kept_from, budget_refusal};
-ghost use Rattle.gq_load.specs.Faults.{PrintsFault, Prints, Refuses};
-ghost use Rattle.gq_load.specs.internal.Judged.{programs_of, first_refusal};
+ghost use Rattle.gq_load.specs.internal.Saturated_budgets.{kept_from, budget_refusal};
+ghost use Rattle.gq_load.specs.Load_faults.{PrintsFault, Prints, Refuses};
+ghost use Rattle.gq_load.specs.internal.Judged_programs.{programs_of, first_refusal};
 ghost use Rattle.gq_load.specs.internal.Surveys.{AreSurveys};
 ghost use Rattle.gq_load.specs.Load.{loaded, scenario_fault, refused};
 
 use crate::budget::{Budget, budgets_of};
-use crate::fault::{LoadError, LoadFault};
+use crate::leaf_programs::read_programs;
+use crate::load_fault::{LoadError, LoadFault};
 use crate::over::{Limit, check_over};
-use crate::programs::read_programs;
 use crate::surveys::{Surveys, survey_programs};
 use gq_budget::steps_of;
-use gq_program::program::Program;
+use gq_program::program_tree::Program;
 use gq_reader::reader::read_scenario;
 use gq_resolve::component::{Component, components};
+use gq_resolve::node_table::Entries;
 use gq_resolve::routes::Routes;
-use gq_resolve::table::Entries;
 use gq_resolve::{NodeTable, resolve_opened};
-use gq_scenario::fault::ScenarioError;
 use gq_scenario::scenario::Scenario;
+use gq_scenario::scenario_fault::ScenarioError;
 use std::alloc::{AllocError, Global};
 use std::marker::Model;
 
@@ -165,7 +165,7 @@ fn accept(alloc: Global, scenario: Scenario) -> Result<Accepted, LoadError>
 impl Accepted {
     /// The scenario of a text in TOML, of either version, where the verifier accepts it.
     ///
-    /// Refuses if host memory runs out, and by the first fault, in this order.
+    /// Refuses if the host has no memory left, and by the first fault, in this order.
     ///
     /// - The text is no scenario.
     /// - The text or the code of a leaf's program is no program, leaves in preorder.

@@ -1,7 +1,7 @@
 // The budgets of leaves: what each uses at most.
 ghost use Rattle.std.specs.Prelude.{◌≡◌, length, IfOk};
-ghost use Rattle.gq_scenario.specs.Trees.{version_number};
-ghost use Rattle.gq_load.specs.internal.Budgets.{budget_from, budgets_with};
+ghost use Rattle.gq_scenario.specs.Component_trees.{version_number};
+ghost use Rattle.gq_load.specs.internal.Saturated_budgets.{budget_from, budgets_with};
 
 use gq_scenario::scenario::Version;
 use gq_tariff::Amount;

@@ -1,22 +1,22 @@
 // Scenarios that are checked alone, so that no program has to stay.
 ghost use Rattle.std.specs.Prelude.{◌≡◌, None, IfOk, IfErr, IsOkAnd};
 ghost use Rattle.gq_model.specs.rules.Accept.{budget_lines};
-ghost use Rattle.gq_load.specs.Faults.{PrintsFault, Refuses};
+ghost use Rattle.gq_load.specs.Load_faults.{PrintsFault, Refuses};
 ghost use Rattle.gq_load.specs.Load.{loaded, scenario_fault};
 
 use crate::accepted::judge;
-use crate::fault::{LoadError, LoadFault};
-use crate::line::component_lines;
+use crate::budget_lines::component_lines;
+use crate::load_fault::{LoadError, LoadFault};
 use crate::surveys::survey_sources;
 use gq_reader::reader::read_scenario;
 use gq_resolve::component::components;
-use gq_scenario::fault::ScenarioError;
 use gq_scenario::scenario::Scenario;
+use gq_scenario::scenario_fault::ScenarioError;
 use std::alloc::Global;
 
 /// A line for each budget of a leaf of a scenario, in preorder, where the verifier accepts it.
 ///
-/// Refused as `Accepted::read` is of a scenario that was read. It takes host memory for one program at a time, beside what the scenario's size asks for.
+/// Refused as `Accepted::read` is of a scenario that was read. It allocates host memory for one program at a time, beside what the scenario's size asks for.
 pub fn scenario_lines(alloc: Global, scenario: &Scenario) -> Result<Vec<u8>, LoadError>
     ensures lines { IfOk result (λ lines. lines.items ≡ budget_lines scenario.now) }
     ensures faultless { IfOk result (λ lines. scenario_fault scenario.now ≡ None) }
@@ -36,7 +36,7 @@ pub fn scenario_lines(alloc: Global, scenario: &Scenario) -> Result<Vec<u8>, Loa
 
 /// A line for each budget of a leaf of the scenario of a text, in preorder, where the verifier accepts it.
 ///
-/// Refused as `Accepted::read` is. It takes host memory for one program at a time, beside the text's own.
+/// Refused as `Accepted::read` is. It allocates host memory for one program at a time, beside the text's own.
 pub fn checked_lines(alloc: Global, text: &[u8]) -> Result<Vec<u8>, LoadError>
     ensures lines { IfOk result (λ lines. IsOkAnd (loaded text.now) (λ s. lines.items ≡ budget_lines s)) }
     ensures refused { IfErr result (λ e. Refuses e (loaded text.now)) }

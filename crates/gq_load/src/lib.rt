@@ -24,15 +24,15 @@
 
 pub mod accepted;
 pub mod budget;
+mod budget_lines;
 pub mod checked;
-pub mod fault;
-mod judged;
-mod line;
+pub mod leaf_programs;
+pub mod load_fault;
 pub mod loaded;
 pub mod named;
 pub mod over;
-pub mod programs;
-pub mod quantities;
+mod program_verdict;
 pub mod read;
 pub mod surveys;
+pub mod unsized_scenarios;
 pub mod unverified;

@@ -3,8 +3,8 @@ ghost use Rattle.std.specs.Prelude.{◌≡◌, option_map};
 ghost use Rattle.gq_load.specs.Named.{leaf_named};
 
 use gq_resolve::component::Component;
-use gq_scenario::lines::same_bytes;
 use gq_scenario::scenario::Leaf;
+use gq_scenario::text_pieces::same_bytes;
 
 /// The leaf of this name.
 pub fn leaf_named<'a>(components: &[Component<'a>], name: &[u8]) -> Option<&'a Leaf>

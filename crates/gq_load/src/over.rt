@@ -2,12 +2,12 @@
 ghost use Rattle.std.specs.Prelude.{◌≡◌, ◌∷◌, [], None, length, IfErr, OnOk};
 ghost use Rattle.gq_model.specs.machine.Amounts as resources;
 ghost use Rattle.gq_model.specs.rules.Accept.{own_refusal, steps_refusal};
-ghost use Rattle.gq_load.specs.Faults.{Prints};
+ghost use Rattle.gq_load.specs.Load_faults.{Prints};
 ghost use Rattle.gq_load.specs.Load.{refused};
-ghost use Rattle.gq_load.specs.Over.{IsFaultFor, over_refusal};
+ghost use Rattle.gq_load.specs.Over_limits.{IsFaultFor, over_refusal};
 
 use crate::budget::Budget;
-use crate::fault::LoadFault;
+use crate::load_fault::LoadFault;
 use gq_model::limits::GREATEST_STEPS;
 use gq_resolve::component::Component;
 

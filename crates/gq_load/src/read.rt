@@ -1,7 +1,7 @@
 // Laws of what is read, accepted or not.
 ghost use Rattle.std.specs.Prelude.{◌≡◌, ℕ, List, Ok};
 ghost use Rattle.gq_model.specs.machine.Scenario.{Scenario};
-ghost use Rattle.gq_scenario.specs.Reading.{scenario_in};
+ghost use Rattle.gq_scenario.specs.Top_table.{scenario_in};
 ghost use Rattle.gq_load.specs.Load.{loaded};
 ghost use Rattle.gq_load.specs.Unverified.{unverified};
 ghost use Rattle.gq_laws.specs.Names.{NamesDiffer};

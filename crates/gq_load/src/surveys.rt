@@ -3,22 +3,22 @@
 ghost use Rattle.std.specs.Prelude.{◌≡◌, None, Option, IfOk, IfErr, OnOk, map, ◌++◌, ◌∷◌, []};
 ghost use Rattle.gq_model.specs.machine.Lists.{or_first};
 ghost use Rattle.gq_model.specs.rules.Use.{services};
-ghost use Rattle.gq_budget.specs.Counts.{IsCountOf};
-ghost use Rattle.gq_load.specs.Faults.{PrintsFault};
+ghost use Rattle.gq_budget.specs.Leaf_section_counts.{IsCountOf};
+ghost use Rattle.gq_load.specs.Load_faults.{PrintsFault};
 ghost use Rattle.gq_load.specs.Load.{Fault, source_fault, sources_fault, refused};
-ghost use Rattle.gq_load.specs.internal.Judged.{programs_of, judged_by, leaf_refusal, first_refusal};
+ghost use Rattle.gq_load.specs.internal.Judged_programs.{programs_of, judged_by, leaf_refusal, first_refusal};
 ghost use Rattle.gq_load.specs.internal.Surveys.{own_of, leaf_by, AreSurveys};
 
-use crate::fault::LoadError;
-use crate::judged::judge;
-use crate::programs::{check_programs, read_program_with};
-use gq_budget::{CountedLeaf, Leaf};
+use crate::leaf_programs::{check_programs, read_program_with};
+use crate::load_fault::LoadError;
+use crate::program_verdict::judge;
+use gq_budget::{BudgetLeaf, CountedLeaf};
 use gq_model::program::Name;
 use gq_program::Interfaces;
-use gq_program::program::Program;
+use gq_program::program_tree::Program;
 use gq_program::spare::Spare;
 use gq_resolve::component::Component;
-use gq_resolve::services::opened;
+use gq_resolve::opened_services::opened;
 use gq_tariff::Amount;
 use gq_verify::Verified;
 use std::alloc::{AllocError, Global};
@@ -82,7 +82,7 @@ fn kept(
     ensures counted { IfOk result (λ s. IsCountOf s.counted (record { subject = verified.now; provides = component.now.node.provides })) }
     ensures opened { IfOk result (λ s. s.opened.items ≡ services component.now) }
 {
-    let leaf = Leaf::new(program, verified, component.leaf().provides());
+    let leaf = BudgetLeaf::new(program, verified, component.leaf().provides());
     let counted = CountedLeaf::new(alloc, &leaf)?;
     let opened = opened(alloc, program)?;
     let own = Amount {

@@ -2,19 +2,19 @@
 ghost use Rattle.std.specs.Prelude.{◌≡◌, None, Ok, IfOk, IfErr};
 ghost use Rattle.gq_model.specs.machine.Scenario as model;
 ghost use Rattle.gq_resolve.specs.NodeTables.{all_rows};
-ghost use Rattle.gq_load.specs.Faults.{PrintsFault, Refuses};
-ghost use Rattle.gq_load.specs.internal.Judged.{programs_of};
+ghost use Rattle.gq_load.specs.Load_faults.{PrintsFault, Refuses};
+ghost use Rattle.gq_load.specs.internal.Judged_programs.{programs_of};
 ghost use Rattle.gq_load.specs.Unverified.{unverified, unverified_fault};
 
-use crate::fault::{LoadError, LoadFault};
-use crate::programs::read_programs;
-use gq_program::program::Program;
+use crate::leaf_programs::read_programs;
+use crate::load_fault::{LoadError, LoadFault};
+use gq_program::program_tree::Program;
 use gq_reader::reader::read_scenario;
 use gq_resolve::component::components;
-use gq_resolve::table::Entries;
+use gq_resolve::node_table::Entries;
 use gq_resolve::{NodeTable, resolve_components};
-use gq_scenario::fault::ScenarioError;
 use gq_scenario::scenario::Scenario;
+use gq_scenario::scenario_fault::ScenarioError;
 use std::alloc::Global;
 
 // The programs and the nodes of a scenario, or its first fault but those of a judged program.
@@ -46,7 +46,7 @@ fn resolved(alloc: Global, scenario: Scenario) -> Result<NodeTable, LoadError>
 
 /// The scenario of a text in TOML, of either version, as a table of its nodes. Its programs are read, but not judged.
 ///
-/// Refused where host memory is, and with the first fault: the text is no scenario; the text or the code of a leaf's program, in
+/// Fails if the host refuses memory, and with the first fault: the text is no scenario; the text or the code of a leaf's program, in
 /// preorder, is none; the scenario is not resolved.
 pub fn read_unverified(alloc: Global, text: &[u8]) -> Result<NodeTable, LoadError>
     ensures read { IfOk result (λ table. unverified text.now ≡ Ok table) }

@@ -1,10 +1,10 @@
 pub mod Machines
 pub mod internal
-pub mod Worlds
-pub mod Bursts
+pub mod Machine_world
+pub mod Turn_bursts
 pub mod Countable
 pub mod Events
 pub mod Shows
 pub mod State_bursts
 pub mod Readers
-pub mod Settings
+pub mod Input_settings

@@ -1,17 +1,17 @@
--- What is read of a machine's world, as its readers tell it.
+-- What is read of a machine's world, as its readers report it.
 use Rattle.std.specs.Prelude.{◌≡◌, ℕ, suc, ◌<◌, ◌≤◌, ◌==◌, if◌then◌else◌, is_some, IsTrue, List, [], ◌∷◌, Option, Some, None, get_or, length}
 use Rattle.gq_model.specs.declared.program.Section.{Section}
 use Rattle.gq_model.specs.machine.Scenario.{components}
 use Rattle.gq_model.specs.machine.Step.{section_for}
 use Rattle.gq_model.specs.machine.World as world
-use Rattle.gq_trade.specs.declared.session.Spot.{Spot}
-use Rattle.gq_trade.specs.declared.session.Spot.TheVariants.{InLeaf, InSession, InObject}
+use Rattle.gq_trade.specs.declared.session.SlotId.{SlotId}
+use Rattle.gq_trade.specs.declared.session.SlotId.TheVariants.{InLeaf, InSession, InObject}
 use Rattle.gq_prepared.specs.Prepared.{names_of}
 use Rattle.gq_machine.specs.Machines.{Machine}
-use Rattle.gq_machine.specs.declared.told.Asked.{Asked}
-use Rattle.gq_machine.specs.declared.told.Holding.{Holding}
-use Rattle.gq_machine.specs.declared.told.Holding.TheVariants as holding
-use Rattle.gq_machine.specs.declared.told.SessionState.{SessionState}
+use Rattle.gq_machine.specs.declared.world_reads.Asked.{Asked}
+use Rattle.gq_machine.specs.declared.world_reads.Holding.{Holding}
+use Rattle.gq_machine.specs.declared.world_reads.Holding.TheVariants as holding
+use Rattle.gq_machine.specs.declared.world_reads.SessionState.{SessionState}
 
 -- REQUESTS
 
@@ -30,7 +30,7 @@ level_in (Some s) = s.level
 abbrev pub requested : world.World → world.Request → Section
 requested w r = section_for r.ask (level_then r.ask (level_in (world.session_at w r.session)))
 
--- a request, as it is told
+-- a request, as it is reported
 abbrev pub asked_in : world.World → world.Request → Asked
 asked_in w r = record { session = r.session; section = requested w r }
 
@@ -41,30 +41,30 @@ request_of k (r ∷ rest) = if r.session == k then Some r else request_of k rest
 
 -- SESSIONS
 
--- it tells of the k-th session, which is there; of its service by the number of its interface
-pub record IsToldOf (m : Machine) (k : ℕ) (told : SessionState) : Type 0 where
+-- it reports of the k-th session, which is there; of its service by the number of its interface
+pub record IsReportedOf (m : Machine) (k : ℕ) (reported : SessionState) : Type 0 where
   pub session : world.Session
   pub there : world.session_at m.world k ≡ Some session
-  pub client : told.client ≡ session.client
-  pub server : told.server ≡ session.server
-  pub service : get_or (names_of m.scenario) told.service [] ≡ session.service
-  pub level : told.level ≡ session.level
-  pub donation : told.donation ≡ record { ram = session.donation.ram; caps = session.donation.caps }
-  pub accepted : told.accepted ≡ session.accepted
+  pub client : reported.client ≡ session.client
+  pub server : reported.server ≡ session.server
+  pub service : get_or (names_of m.scenario) reported.service [] ≡ session.service
+  pub level : reported.level ≡ session.level
+  pub donation : reported.donation ≡ record { ram = session.donation.ram; caps = session.donation.caps }
+  pub accepted : reported.accepted ≡ session.accepted
   -- client and server are leaves, and the service is one of those that there are
-  pub client_there : told.client < length (components m.scenario)
-  pub server_there : told.server < length (components m.scenario)
-  pub service_there : told.service < length m.scenario.interfaces
+  pub client_there : reported.client < length (components m.scenario)
+  pub server_there : reported.server < length (components m.scenario)
+  pub service_there : reported.service < length m.scenario.interfaces
   -- a level has one figure
-  pub level_low : told.level ≤ 3
+  pub level_low : reported.level ≤ 3
 
 -- SLOTS
 
 -- it is a slot of a leaf, or one of a session that is there
-abbrev pub HasSpot : Machine → Spot → Type 0
-HasSpot m (InLeaf x i) = (x < length (components m.scenario)) × (i < 64)
-HasSpot m (InSession k i) = IsTrue (is_some (world.session_at m.world k)) × (i < 8)
-HasSpot m (InObject k) = IsTrue (is_some (world.session_at m.world k))
+abbrev pub HasSlotId : Machine → SlotId → Type 0
+HasSlotId m (InLeaf x i) = (x < length (components m.scenario)) × (i < 64)
+HasSlotId m (InSession k i) = IsTrue (is_some (world.session_at m.world k)) × (i < 8)
+HasSlotId m (InObject k) = IsTrue (is_some (world.session_at m.world k))
 
 -- what a slot holds, without its bytes; a link and a mark that a reply is awaited name their session
 abbrev pub holding_of : world.Slot → Holding

@@ -1,11 +1,11 @@
-pub mod Held
+pub mod First_leaf_holdings
 pub mod Starts
 pub mod Endings
 pub mod Gifts
-pub mod Holds
+pub mod Machine_invariant
 pub mod Longs
-pub mod Replies
-pub mod Requests
+pub mod Section_replies
+pub mod Taken_requests
 pub mod Scenes
-pub mod Going
-pub mod Kinds
+pub mod Turn_transitions
+pub mod Operation_kinds

@@ -10,23 +10,24 @@
 //! let event = machine.step_tested(leaf, &mut line);
 //! ```
 //!
-//! `state` is what is fixed at load and what changes; `statements`, `asking`, `requests`, `replies` and `endings` are what each kind of step makes of it, each
-//! a step of the abstract machine that keeps what holds between two steps. `steps` has one turn of a leaf, `bursts` many of them in one go, and `output` the
-//! lines that they give. `settings` gives inputs other values. `told` has what is told of leaves, sessions, requests and slots between two steps.
+//! Module `machine_state` has what is fixed at load and what changes. Modules `leaf_statements`, `donating_requests`, `taken_requests`, `section_replies` and
+//! `main_end` have what each kind of step makes of it. Each is a step of the abstract machine that keeps what holds between two steps. `machine_steps` has one
+//! turn of a leaf, `bursts` many of them in one go, and `output` the lines that they give. `input_settings` gives inputs other values. `world_reads` has what
+//! is reported of leaves, sessions, requests and slots between two steps.
 #![tactic(auto)]
 
-pub mod asking;
 mod bursts;
-pub mod endings;
+pub mod donating_requests;
 pub mod event;
+pub mod input_settings;
+pub mod leaf_statements;
+mod leaf_turns;
 pub mod machine;
+pub mod machine_state;
+mod machine_steps;
+pub mod main_end;
 mod others;
 mod output;
-pub mod replies;
-pub mod requests;
-pub mod settings;
-pub mod state;
-pub mod statements;
-mod steps;
-pub mod told;
-mod turns;
+pub mod section_replies;
+pub mod taken_requests;
+pub mod world_reads;

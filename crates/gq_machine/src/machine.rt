@@ -8,28 +8,28 @@ ghost use Rattle.gq_model.specs.machine.World.{first_phase, start};
 ghost use Rattle.gq_resolve.specs.NodeTables.{node_rows};
 ghost use Rattle.gq_laws.specs.Ready.{IsReady};
 ghost use Rattle.gq_bytecode.specs.Programs.{IsCodeOfProgram};
-ghost use Rattle.gq_prepared.specs.Nodes.{caps_of};
+ghost use Rattle.gq_prepared.specs.Account_nodes.{caps_of};
 ghost use Rattle.gq_prepared.specs.Prepared.{AreServices};
-ghost use Rattle.gq_prepared.specs.Held.{held_by_all};
+ghost use Rattle.gq_prepared.specs.Leaf_holdings.{held_by_all};
 ghost use Rattle.gq_leaf.specs.Coded.{Coded};
-ghost use Rattle.gq_machine.specs.internal.Holds.{IsPrepared};
-ghost use Rattle.gq_machine.specs.internal.Held.{held_before};
+ghost use Rattle.gq_machine.specs.internal.Machine_invariant.{IsPrepared};
+ghost use Rattle.gq_machine.specs.internal.First_leaf_holdings.{held_before};
 ghost use Rattle.gq_machine.specs.internal.Starts.{AreFirst, ArePrepared, IsFirstOf, AreFirstSlots};
 
-use crate::state::{Fixed, Prepared, State};
+use crate::machine_state::{Fixed, MachineState, Prepared};
 use gq_bytecode::Code;
 use gq_leaf::Leaf;
 use gq_model::limits::INPUTS;
 use gq_model::phase::Phase;
 use gq_prepared::openings::openings;
 use gq_prepared::plan_of;
-use gq_prepared::sections::sections_of;
-use gq_prepared::services::Services;
+use gq_prepared::program_sections::sections_of;
+use gq_prepared::service_gifts::Services;
 use gq_resolve::NodeTable;
-use gq_scenario::node::NodeNo;
+use gq_scenario::node_numbers::NodeNo;
 use gq_scenario::scenario::LeafNo;
 use gq_slots::Slots;
-use gq_statements::laws::lawful;
+use gq_statements::paid_laws::lawful;
 use gq_tariff::price::PAGE;
 use gq_trade::Stage;
 use std::alloc::{AllocError, Global};
@@ -42,12 +42,12 @@ const ROOM: u32 = 16449;
 #[derive(Drop)]
 pub struct Machine {
     pub(crate) fixed: Fixed,
-    pub(crate) state: State,
+    pub(crate) state: MachineState,
 }
 
 impl Model for Machine {
     ghost use Rattle.gq_machine.specs.Machines.{Machine};
-    ghost use Rattle.gq_machine.specs.internal.Holds.{Holds};
+    ghost use Rattle.gq_machine.specs.internal.Machine_invariant.{Holds};
     ghost use Rattle.gq_machine.specs.internal.Starts.{machine_seen};
     ghost use Rattle.gq_model.specs.internal.Stored.{statements_code, nodes_code};
     ghost use Rattle.std.specs.Coded.{codes};
@@ -180,7 +180,10 @@ fn prepare(
 }
 
 // What changes, at the start of a scenario, and what is prepared for it.
-fn parts(alloc: Global, table: &NodeTable) -> Result<(State, (Vec<Prepared>, Services)), AllocError>
+fn parts(
+    alloc: Global,
+    table: &NodeTable,
+) -> Result<(MachineState, (Vec<Prepared>, Services)), AllocError>
     requires { IsReady table.now }
     ensures slots { IfOk result (λ p. AreFirstSlots table.now p.0.slots) }
     ensures leaves { IfOk result (λ p. AreFirst (components table.now) (length (components table.now)) p.0.leaves.items) }
@@ -190,13 +193,13 @@ fn parts(alloc: Global, table: &NodeTable) -> Result<(State, (Vec<Prepared>, Ser
     let leaves = first_leaves(alloc, table)?;
     let prepared = prepare(alloc, table, leaves.as_slice())?;
     match first_slots(alloc, table) {
-        Ok(slots) => Ok((State { leaves, slots }, prepared)),
+        Ok(slots) => Ok((MachineState { leaves, slots }, prepared)),
         Err(refused) => Err(refused),
     }
 }
 
 impl Machine {
-    /// The machine at the start of a scenario that is read and resolved. Refused only for want of host memory.
+    /// The machine at the start of a scenario that is read and resolved. Refused only if the host refuses memory.
     pub fn new(alloc: Global, table: NodeTable) -> Result<Machine, AllocError>
         requires ready { IsReady table }
         ensures scenario { IfOk result (λ m. m.scenario ≡ table) }
@@ -253,7 +256,7 @@ impl Machine {
     /// The RAM quota of a node, in bytes.
     pub fn quota(&self, node: NodeNo) -> u64
         requires { node < length (node_rows self.now.scenario) }
-        ensures { (told : List ℕ) → IfSome (slice_get (accounts self.now.scenario self.now.world told) node) (λ a. result ≡ a.quota.ram) }
+        ensures { (reported : List ℕ) → IfSome (slice_get (accounts self.now.scenario self.now.world reported) node) (λ a. result ≡ a.quota.ram) }
     {
         lawful(&self.state.slots);
         let trades = self.state.slots.trades();
@@ -266,7 +269,7 @@ impl Machine {
     /// The quota of capabilities of a node: none is counted in version 1.
     pub fn caps(&self, node: NodeNo) -> u64
         requires { node < length (node_rows self.now.scenario) }
-        ensures { (told : List ℕ) → IfSome (slice_get (accounts self.now.scenario self.now.world told) node) (λ a. result ≡ a.quota.caps) }
+        ensures { (reported : List ℕ) → IfSome (slice_get (accounts self.now.scenario self.now.world reported) node) (λ a. result ≡ a.quota.caps) }
     {
         lawful(&self.state.slots);
         let trades = self.state.slots.trades();

@@ -4,18 +4,18 @@ ghost use Rattle.gq_model.specs.machine.Scenario.{components};
 ghost use Rattle.gq_bytecode.specs.Cores.{is_shared};
 ghost use Rattle.gq_bytecode.specs.declared.operation.Operation.TheVariants as operation;
 ghost use Rattle.gq_laws.specs.Ready.{IsReady};
-ghost use Rattle.gq_statements.specs.Statements.{done};
+ghost use Rattle.gq_statements.specs.Slot_statements.{done};
 ghost use Rattle.gq_machine.specs.declared.event.Event.TheVariants as event;
-ghost use Rattle.gq_machine.specs.internal.Holds.{CanDo, Goes, LeavesState};
-ghost use Rattle.gq_machine.specs.internal.Kinds.{is_quiet};
+ghost use Rattle.gq_machine.specs.internal.Machine_invariant.{CanDo, Goes, LeavesState};
+ghost use Rattle.gq_machine.specs.internal.Operation_kinds.{is_quiet};
 ghost use Rattle.gq_machine.specs.Shows.{StepShows};
 
-use crate::asking::{open, upgrade};
-use crate::endings::exit;
+use crate::donating_requests::{open, upgrade};
 use crate::event::Event;
-use crate::replies::reply;
-use crate::state::{Fixed, State};
-use crate::statements::{call, close, memory, say, serve, show};
+use crate::leaf_statements::{call, close, memory, say, serve, show};
+use crate::machine_state::{Fixed, MachineState};
+use crate::main_end::exit;
+use crate::section_replies::reply;
 use arrayvec::ArrayVec;
 use gq_bytecode::Operation;
 use gq_model::fault::Wrong;
@@ -27,7 +27,12 @@ use itoa::Buffer;
 pub const LINE: usize = 64;
 
 // A statement that shows nothing.
-fn quiet(fixed: &Fixed, state: &mut State, number: usize, operation: Operation) -> Result<(), Wrong>
+fn quiet(
+    fixed: &Fixed,
+    state: &mut MachineState,
+    number: usize,
+    operation: Operation,
+) -> Result<(), Wrong>
     requires does { CanDo fixed.now state.old number operation }
     requires quiet { IsTrue (is_quiet operation) }
     ensures step { Goes fixed.now number state.old state.new (done result) }
@@ -56,7 +61,7 @@ fn write_line(line: &mut ArrayVec<u8, LINE>, bytes: &[u8])
 // A number that is shown.
 pub(crate) fn out(
     fixed: &Fixed,
-    state: &mut State,
+    state: &mut MachineState,
     number: usize,
     line: &mut ArrayVec<u8, LINE>,
 ) -> Result<Event, Wrong>
@@ -78,7 +83,7 @@ pub(crate) fn out(
 // A statement that does not fit into eight bytes: a text that is said, or a session that is opened.
 fn long(
     fixed: &Fixed,
-    state: &mut State,
+    state: &mut MachineState,
     number: usize,
     statement: u32,
     line: &mut ArrayVec<u8, LINE>,
@@ -119,7 +124,7 @@ fn provides(fixed: &Fixed, leaf: usize) -> bool
 }
 
 // The end of a section: a reply, or at the end of `main` a leaf that serves from now on or exits.
-fn end(fixed: &Fixed, state: &mut State, number: usize) -> Result<Event, Wrong>
+fn end(fixed: &Fixed, state: &mut MachineState, number: usize) -> Result<Event, Wrong>
     requires does { CanDo fixed.now state.old number operation.End }
     ensures step { (text : List ℕ) → StepShows fixed.now number state.old state.new text result }
     ensures no_line { IfOk result (λ e. e ≡ event.Line → ⊥) }
@@ -149,7 +154,7 @@ fn end(fixed: &Fixed, state: &mut State, number: usize) -> Result<Event, Wrong>
 #[inline(never)]
 pub(crate) fn shared(
     fixed: &Fixed,
-    state: &mut State,
+    state: &mut MachineState,
     number: usize,
     operation: Operation,
     line: &mut ArrayVec<u8, LINE>,

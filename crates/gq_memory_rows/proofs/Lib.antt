@@ -1,4 +1,4 @@
-pub mod Lines
-pub mod Markets
-pub mod Plans
-pub mod Serves
+pub mod Leaves_in_turn
+pub mod Market_invariant
+pub mod Computable_plan_tests
+pub mod Serving_session_kept

@@ -2,24 +2,24 @@
 use Rattle.std.specs.Prelude.{◌≡◌, ℕ, ◌<◌, List, [], ◌∷◌, Some, None, length, get_or}
 use Rattle.gq_tariff.specs.declared.amount.Amount.{Amount}
 use Rattle.gq_ram.specs.declared.account.AccountNo.{AccountNo}
-use Rattle.gq_ram.specs.Trees.{Tree, number}
+use Rattle.gq_ram.specs.Account_tree.{Tree, number}
 use Rattle.gq_trade.specs.declared.requests.Ask.TheVariants.{Open}
 use Rattle.gq_trade.specs.declared.requests.Request.{Request}
 use Rattle.gq_contents.specs.declared.content.Content.{Content}
 use Rattle.gq_contents.specs.Contents.{IsSlice}
 use Rattle.gq_trade.specs.declared.session.Session.{Session}
-use Rattle.gq_trade.specs.declared.session.Spot.TheVariants.{InLeaf}
+use Rattle.gq_trade.specs.declared.session.SlotId.TheVariants.{InLeaf}
 use Rattle.gq_trade.specs.Trading.{Trading, fresh, opened, store_of}
-use Rattle.gq_trade.specs.declared.node.Node.{Node}
-use Rattle.gq_trade.specs.declared.node.Stage.TheVariants.{Live, Pending}
+use Rattle.gq_trade.specs.declared.trade_node.NodeState.{NodeState}
+use Rattle.gq_trade.specs.declared.trade_node.Stage.TheVariants.{Live, Pending}
 use Rattle.gq_trade.specs.Balances.{node_at}
 use Rattle.gq_trade.specs.Trades.{Trades}
 
 -- a node that has its quantum, and one that starts once another has ended
-abbrev pub live_node : ℕ → ℕ → Node
+abbrev pub live_node : ℕ → ℕ → NodeState
 live_node ram caps = record { quantum = record { ram = ram; caps = caps }; after = None; stage = Live }
 
-abbrev pub pending_node : ℕ → ℕ → Node
+abbrev pub pending_node : ℕ → ℕ → NodeState
 pending_node ram i = record { quantum = record { ram = ram; caps = 0 }; after = Some i; stage = Pending }
 
 -- what no session changes
@@ -33,13 +33,13 @@ abbrev pub setting : Trading → Setting
 setting w = record { tree = w.tree; leaves = w.leaves; objects = w.objects; room = w.room }
 
 -- the leaf x is live, and its node is one of the tree
-pub record IsThere (ns : List Node) (g : Setting) (x : ℕ) : Type 0 where
+pub record IsThere (ns : List NodeState) (g : Setting) (x : ℕ) : Type 0 where
   pub leaf : x < length g.leaves
   pub live : (node_at ns (get_or g.leaves x 0)).stage ≡ Live
   pub node : get_or g.leaves x 0 < length g.tree.parents
 
 -- a server and a client, a service and room for so many sessions
-pub record IsReady (ns : List Node) (g : Setting) (n : ℕ) : Type 0 where
+pub record IsReady (ns : List NodeState) (g : Setting) (n : ℕ) : Type 0 where
   pub server : IsThere ns g 0
   pub client : IsThere ns g 1
   pub service : 0 < length g.objects
@@ -54,7 +54,7 @@ pub record IsQuiet (w : Trades) : Type 0 where
   pub requests : w.trading.requests ≡ []
 
 -- and the accounts of both
-pub record AreOf (ns : List Node) (g : Setting) (a b : AccountNo) : Type 0 where
+pub record AreOf (ns : List NodeState) (g : Setting) (a b : AccountNo) : Type 0 where
   pub ready : IsReady ns g 0
   pub server : number g.tree (get_or g.leaves 0 0) ≡ a.0
   pub client : number g.tree (get_or g.leaves 1 0) ≡ b.0
@@ -83,7 +83,7 @@ pub record HasOne (w : Trades) : Type 0 where
   pub slice : IsSlice (store_of w.trading 0) object
 
 -- three leaves of which none has a session, and their nodes behind the root's
-pub record IsLine (w : Trades) (ns : List Node) : Type 0 where
+pub record IsLine (w : Trades) (ns : List NodeState) : Type 0 where
   pub nodes : w.nodes ≡ ns
   pub leaves : w.trading.leaves ≡ 1 ∷ 2 ∷ 3 ∷ []
   pub sessions : w.trading.sessions ≡ []

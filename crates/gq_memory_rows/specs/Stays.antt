@@ -1,8 +1,8 @@
 -- What no call on a slot changes of the others.
-use Rattle.gq_trade.specs.declared.session.Spot.{Spot}
-use Rattle.gq_slots.specs.Slots.{Slots, IsPaidBy, IsSpot, holder}
+use Rattle.gq_trade.specs.declared.session.SlotId.{SlotId}
+use Rattle.gq_slots.specs.Slots.{Slots, IsPaidBy, IsSlotId, holder}
 
 -- each slot stays, and who pays for it
 pub record Stays (old new : Slots) : Type 0 where
-  pub spots : (q : Spot) → IsSpot old q → IsSpot new q
-  pub paid : (q : Spot) → IsPaidBy old (holder old q) → IsPaidBy new (holder new q)
+  pub slot_ids : (q : SlotId) → IsSlotId old q → IsSlotId new q
+  pub paid : (q : SlotId) → IsPaidBy old (holder old q) → IsPaidBy new (holder new q)

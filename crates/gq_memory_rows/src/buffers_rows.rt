@@ -5,10 +5,10 @@ ghost use Rattle.gq_memory_rows.specs.Serves.{IsMarket, Serves};
 use crate::trade_rows::{live, plan};
 use crate::used::used;
 use gq_contents::Content;
-use gq_region::addresses;
+use gq_region::region_addresses;
 use gq_slots::{Addresses, Slots, sessions};
 use gq_tariff::Amount;
-use gq_trade::Spot;
+use gq_trade::SlotId;
 use std::alloc::{AllocError, Global};
 
 // A server without a quantum, and a client with three pages. A session's object has no bytes.
@@ -20,13 +20,13 @@ fn market(alloc: Global) -> Result<Slots, AllocError>
     Slots::new(alloc, 65536, None, plan, 24)
 }
 
-// Opens a session with two pages, and tells its number.
+// Opens a session with two pages, and returns its number.
 fn opened(slots: &mut Slots) -> Option<usize>
     requires { IsMarket slots.old }
     ensures { IfSome result (λ k. Serves slots.new k) }
 {
     let amount = Amount { ram: 8192, caps: 0 };
-    let Ok(session) = sessions::ask(slots, 1, Spot::InLeaf(1, 0), 0, 0, amount) else {
+    let Ok(session) = sessions::ask(slots, 1, SlotId::InLeaf(1, 0), 0, 0, amount) else {
         return None;
     };
     match sessions::accept(slots, 0) {
@@ -40,7 +40,7 @@ fn make_buffer(slots: &mut Slots, session: usize) -> bool
     requires { Serves slots.old session }
     ensures { IsTrue result → Serves slots.new session }
 {
-    let buffer = Spot::InSession(session, 0);
+    let buffer = SlotId::InSession(session, 0);
     slots.pay_by(0);
     if !slots.content(buffer).is_empty() {
         return false;
@@ -56,7 +56,7 @@ fn link(slots: &mut Slots, session: usize) -> bool
     requires { Serves slots.old session }
     ensures { IsTrue result → Serves slots.new session }
 {
-    let slot = Spot::InLeaf(1, 0);
+    let slot = SlotId::InLeaf(1, 0);
     match slots.content(slot) {
         Content::Empty | Content::Link(_) | Content::Waiting(_) => {
             slots.mark(slot, Content::Link(session as u32));
@@ -72,7 +72,7 @@ fn write(slots: &mut Slots, addresses: &Addresses, session: usize, value: u8) ->
     ensures { IsTrue result → Serves slots.new session }
 {
     slots.pay_by(1);
-    match slots.content(Spot::InLeaf(1, 0)) {
+    match slots.content(SlotId::InLeaf(1, 0)) {
         Content::Link(other) if other as usize == session => {
             addresses::store(addresses, slots, 1, 3, value)
         }
@@ -86,7 +86,7 @@ fn write_number(slots: &mut Slots, addresses: &Addresses, session: usize, value:
     ensures { IsTrue result → Serves slots.new session }
 {
     slots.pay_by(1);
-    match slots.content(Spot::InLeaf(1, 0)) {
+    match slots.content(SlotId::InLeaf(1, 0)) {
         Content::Link(other) if other as usize == session => {
             addresses::store4(addresses, slots, 1, 8, value)
         }
@@ -100,7 +100,7 @@ fn read_back(slots: &mut Slots, addresses: &Addresses, session: usize) -> [Optio
     ensures { Serves slots.new session }
 {
     slots.pay_by(1);
-    match slots.content(Spot::InLeaf(1, 0)) {
+    match slots.content(SlotId::InLeaf(1, 0)) {
         Content::Link(other) if other as usize == session => {
             let byte = addresses::load(addresses, slots, 1, 3);
             let number = addresses::load4(addresses, slots, 1, 8);
@@ -115,7 +115,7 @@ fn read_back(slots: &mut Slots, addresses: &Addresses, session: usize) -> [Optio
 fn read(slots: &mut Slots, session: usize) -> Option<u8>
     requires { Serves slots.old session }
 {
-    let buffer = Spot::InSession(session, 0);
+    let buffer = SlotId::InSession(session, 0);
     slots.pay_by(0);
     if slots.content(buffer).size() > 3 {
         Some(slots.load(buffer, 3))

@@ -1,7 +1,7 @@
 // What slots hold: memory of each kind side by side in one store.
 ghost use Rattle.std.specs.Prelude.{[], ◌∷◌};
 ghost use Rattle.gq_contents.specs.declared.content.Content.TheVariants as content;
-ghost use Rattle.gq_contents.specs.Kept.{KeepsContents};
+ghost use Rattle.gq_contents.specs.Contents_invariant.{KeepsContents};
 
 use crate::used::used;
 use gq_contents::Content;

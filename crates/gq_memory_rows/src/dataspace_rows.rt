@@ -65,8 +65,8 @@ fn refused(spaces: &mut Spaces) -> Option<(u64, u32, SpaceFault, u32)> {
     Some((size, free, fault, spaces.free_frames()))
 }
 
-// The size of a dataspace of 10,000 bytes; bytes around a word that is written across two of its pages; and its last byte and the word before that, once
-// its last word is written.
+// The size of a dataspace of 10,000 bytes, and bytes around a word that is written across two of its pages. Its last byte and the word before that, once its
+// last word is written.
 fn written(spaces: &mut Spaces) -> Result<(u64, [u8; 3], u8, u32), SpaceFault> {
     let ds = spaces.create(10000)?;
     let size = spaces.size(ds);

@@ -146,7 +146,7 @@ fn reuse_two<S: ByteStore>(store: &mut S) -> Result<((u8, u8), u64), GrowFault> 
     read
 }
 
-// Whether 253 blocks were made, what the last three of the page read and what the three that are made once these are freed, what the heap costs then, and
+// Whether 253 blocks were made, what the last three of the page read, and what the three read that are made once these are freed. What the heap costs then, and
 // how many places were in use at most.
 fn reuse_last<S: ByteStore>(
     store: &mut S,

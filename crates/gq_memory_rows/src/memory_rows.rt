@@ -1,6 +1,6 @@
 // The memory of many accounts: what each has of its own, and refusals in both kinds.
 ghost use Rattle.std.specs.Prelude.{◌≡◌, ◌≢◌, IfOk};
-ghost use Rattle.gq_ram.specs.Entries.{IsOpen};
+ghost use Rattle.gq_ram.specs.Account_table.{IsOpen};
 ghost use Rattle.gq_trade.specs.Stores.{store_of};
 ghost use Rattle.gq_trade.specs.Rest.{SameRest};
 

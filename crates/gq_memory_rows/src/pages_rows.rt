@@ -1,6 +1,6 @@
 // Frames on their happy paths, and what no contract can say: that the host gives memory where it has some.
 ghost use Rattle.std.specs.Prelude.{◌≡◌, length};
-ghost use Rattle.gq_pages.specs.Frames.{IsTaken, bytes_of};
+ghost use Rattle.gq_pages.specs.Frame_map.{IsTaken, bytes_of};
 
 use crate::used::used;
 use gq_pages::{FrameNo, NoFrame, Pages};
@@ -22,7 +22,7 @@ fn taken(pages: &mut Pages) -> Result<(u32, bool, u32, Option<NoFrame>), NoFrame
     Ok((free, is_one, pages.free_count(), pages.take().err()))
 }
 
-// The last byte of a frame once it is written, how many frames are free once that is given back, its ends once it is taken again, and a byte of another
+// The last byte of a frame once it is written, and how many frames are free once that is given back. Its ends once it is taken again, and a byte of another
 // frame that was written, too. No frame where another one is taken.
 fn taken_again(pages: &mut Pages) -> Result<(u8, u32, [u8; 3]), NoFrame> {
     let first = pages.take()?;
@@ -56,8 +56,8 @@ fn written(pages: &mut Pages) -> Result<([u8; 2], u32, u32), NoFrame> {
     Ok((bytes, before, pages.word(frame, 4092)))
 }
 
-// How many frames there are; how many are free once three are taken and given back, the second at last; whether the three that are taken then are those,
-// the one that was given back last before the others; and how many are free at last.
+// How many frames there are, and how many are free once three are taken and given back, the second at last. Whether the three that are taken then are those,
+// the one that was given back last before the others. How many are free at last.
 fn taken_in_turn(pages: &mut Pages) -> Result<(u32, u32, bool, u32), NoFrame> {
     let frames = pages.frame_count();
     let first = pages.take()?;
@@ -81,8 +81,8 @@ fn has_two_frames(rt: HostRuntime) {
     );
 }
 
-// A frame that was given back is clear once it is taken again; the lowest byte of a word is its first; and the links of the chain are in the frames: those
-// that are given back last are taken first.
+// A frame that was given back is clear once it is taken again. The lowest byte of a word is its first. The links of the chain are in the frames: those that are
+// given back last are taken first.
 #[test]
 fn keeps_frames(rt: HostRuntime) {
     let alloc = rt.alloc();

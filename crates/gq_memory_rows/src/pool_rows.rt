@@ -64,8 +64,8 @@ fn write<S: ByteStore>(pool: &Pool, store: &mut S, heap: &Heap, index: u32) -> (
     (before, pool.load(store, heap, index, 15))
 }
 
-// Whether entries are added one page after the other, the last of them beyond the first page, whether they are removed and added again, and whether one is
-// that is there; and what the heap costs with a page, with the entry beyond it, and with all of them again.
+// Whether entries are added one page after the other, the last of them beyond the first page, and whether they are removed and added again. Whether one is
+// added that is there. What the heap costs with a page, with the entry beyond it, and with all of them again.
 fn use_entries<S: ByteStore>(
     pool: &Pool,
     store: &mut S,

@@ -1,6 +1,6 @@
 // Accounts on their happy paths and at each refusal.
 ghost use Rattle.std.specs.Prelude.{◌≢◌, ℕ, IfOk};
-ghost use Rattle.gq_ram.specs.Entries.{IsOpen};
+ghost use Rattle.gq_ram.specs.Account_table.{IsOpen};
 
 use crate::used::used;
 use gq_dataspace::DsId;
@@ -78,8 +78,8 @@ pub(crate) fn added(accounts: &mut Accounts) -> Result<(AccountNo, AccountNo), A
 // What a move or an end is answered.
 type Answer = Result<(), AccountFault>;
 
-// What moves of bytes between the root and its members are answered; why an account makes no dataspace, or none where it does; what it uses and has left
-// then, and how many pages are free; what its end is answered; the quota of the root then, and how many pages are free.
+// What moves of bytes between the root and its members are answered. Why an account makes no dataspace, or none if it does. What it uses and has left then, and
+// how many pages are free. What its end is answered, the quota of the root then, and how many pages are free.
 fn trade_bytes(
     accounts: &mut Accounts,
 ) -> Result<

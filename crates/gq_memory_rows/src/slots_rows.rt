@@ -1,14 +1,14 @@
 // Slots of leaves: what stands in one, and what it costs its leaf.
 ghost use Rattle.std.specs.Prelude.{◌≡◌, ◌≤◌, length, IfOk};
-ghost use Rattle.gq_trade.specs.declared.session.Spot.TheVariants.{InLeaf};
+ghost use Rattle.gq_trade.specs.declared.session.SlotId.TheVariants.{InLeaf};
 ghost use Rattle.gq_trade.specs.Trades.{IsLive};
-ghost use Rattle.gq_slots.specs.Slots.{IsPaidBy, IsSlot, IsSpot, holder};
+ghost use Rattle.gq_slots.specs.Slots.{IsPaidBy, IsSlot, IsSlotId, holder};
 ghost use Rattle.gq_memory_rows.specs.Stays.{Stays};
 
 use crate::trade_rows::{live, plan};
 use crate::used::used;
 use gq_slots::Slots;
-use gq_trade::Spot;
+use gq_trade::SlotId;
 use std::alloc::{AllocError, Global};
 
 // Two leaves with four pages each.
@@ -22,44 +22,44 @@ fn two_leaves(alloc: Global) -> Result<Slots, AllocError>
 }
 
 // Makes a slice in a slot, and says whether it did: not where the slot is not empty, or where the slice can't be paid.
-fn make(slots: &mut Slots, spot: Spot, size: u32) -> bool
-    requires slot { IsSlot spot }
-    requires there { IsSpot slots.old spot }
-    requires paid { IsPaidBy slots.old (holder slots.old spot) }
+fn make(slots: &mut Slots, slot_id: SlotId, size: u32) -> bool
+    requires slot { IsSlot slot_id }
+    requires there { IsSlotId slots.old slot_id }
+    requires paid { IsPaidBy slots.old (holder slots.old slot_id) }
     requires size { size ≤ 67108864 }
     ensures { Stays slots.old slots.new }
 {
-    if slots.content(spot).is_empty() {
-        return slots.make_slice(spot, size).is_ok();
+    if slots.content(slot_id).is_empty() {
+        return slots.make_slice(slot_id, size).is_ok();
     }
     false
 }
 
 // What a byte reads once a value is stored there, or nothing where the slot is too short.
-fn stored(slots: &mut Slots, spot: Spot, index: u32, value: u8) -> Option<u8>
-    requires there { IsSpot slots.old spot }
-    requires paid { IsPaidBy slots.old (holder slots.old spot) }
+fn stored(slots: &mut Slots, slot_id: SlotId, index: u32, value: u8) -> Option<u8>
+    requires there { IsSlotId slots.old slot_id }
+    requires paid { IsPaidBy slots.old (holder slots.old slot_id) }
     ensures { Stays slots.old slots.new }
 {
-    if slots.content(spot).size() <= u64::from(index) {
+    if slots.content(slot_id).size() <= u64::from(index) {
         return None;
     }
-    slots.store(spot, index, value);
-    if slots.content(spot).size() <= u64::from(index) {
+    slots.store(slot_id, index, value);
+    if slots.content(slot_id).size() <= u64::from(index) {
         return None;
     }
-    Some(slots.load(spot, index))
+    Some(slots.load(slot_id, index))
 }
 
-// Whether a leaf with four pages can pay for five in a slot, then for three, then for two more in another slot, and for these once the first slot is
-// free; and what the last byte of the three reads once 42 is stored there.
+// Whether a leaf with four pages can pay for five in a slot, then for three, then for two more in another slot, and for these once the first slot is free. What
+// the last byte of the three reads once 42 is stored there.
 fn use_leaf(slots: &mut Slots) -> ([bool; 4], Option<u8>)
-    requires first { IsSpot slots.old (InLeaf 0 3) }
-    requires second { IsSpot slots.old (InLeaf 0 4) }
+    requires first { IsSlotId slots.old (InLeaf 0 3) }
+    requires second { IsSlotId slots.old (InLeaf 0 4) }
     requires paid { IsPaidBy slots.old 0 }
 {
-    let first = Spot::InLeaf(0, 3);
-    let second = Spot::InLeaf(0, 4);
+    let first = SlotId::InLeaf(0, 3);
+    let second = SlotId::InLeaf(0, 4);
     let five = make(slots, first, 16384);
     let three = make(slots, first, 12000);
     let read = stored(slots, first, 11999, 42);

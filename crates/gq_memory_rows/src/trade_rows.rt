@@ -1,6 +1,6 @@
 // Sessions between leaves, from the first request to the close, and leaves that start once others have ended.
 ghost use Rattle.std.specs.Prelude.{◌≡◌, [], ◌∷◌, IfOk, OnOk, OnErr};
-ghost use Rattle.gq_ram.specs.Entries.{IsOpen};
+ghost use Rattle.gq_ram.specs.Account_table.{IsOpen};
 ghost use Rattle.gq_memory_rows.specs.Markets.{AreParties, AreReady, HasAsked, HasOne, IsLine, IsQuiet, IsTrio, live_node, pending_node, request_of};
 ghost use Rattle.gq_trade.specs.Trades.{IsLive};
 
@@ -9,7 +9,7 @@ use gq_heap::Heap;
 use gq_ram::{AccountFault, AccountNo};
 use gq_store::GrowFault;
 use gq_tariff::Amount;
-use gq_trade::{Node, Plan, Spot, Stage, Trades};
+use gq_trade::{NodeState, Plan, SlotId, Stage, Trades};
 use std::alloc::{AllocError, Global};
 
 // The leaves of a market.
@@ -72,7 +72,7 @@ impl Market {
         ensures price { self.new.trades.trading.memory.ledger.price ≡ self.old.trades.trading.memory.ledger.price }
     {
         self.trades
-            .ask(CLIENT, Spot::InLeaf(CLIENT, 0), SERVER, 0, donation)
+            .ask(CLIENT, SlotId::InLeaf(CLIENT, 0), SERVER, 0, donation)
     }
 
     // The server takes the request to open.
@@ -147,10 +147,10 @@ fn quotas_above(trades: &Trades, account: AccountNo) -> [u64; 3]
 }
 
 // A node that has its quantum.
-pub(crate) fn live(ram: u64, caps: u64) -> Node
+pub(crate) fn live(ram: u64, caps: u64) -> NodeState
     ensures { result ≡ live_node ram caps }
 {
-    Node {
+    NodeState {
         quantum: Amount { ram, caps },
         after: None,
         stage: Stage::Live,
@@ -158,10 +158,10 @@ pub(crate) fn live(ram: u64, caps: u64) -> Node
 }
 
 // A node that starts once another has ended.
-fn pending(ram: u64, after: usize) -> Node
+fn pending(ram: u64, after: usize) -> NodeState
     ensures { result ≡ pending_node ram after }
 {
-    Node {
+    NodeState {
         quantum: Amount { ram, caps: 0 },
         after: Some(after),
         stage: Stage::Pending,
@@ -172,7 +172,7 @@ fn pending(ram: u64, after: usize) -> Node
 pub(crate) fn plan(
     alloc: Global,
     parents: &[usize],
-    nodes: &[Node],
+    nodes: &[NodeState],
     leaves: &[usize],
     object: u32,
 ) -> Result<Plan, AllocError>
@@ -247,8 +247,8 @@ fn both_ask(trades: &mut Trades) -> Result<(), AccountFault>
     ensures requests { OnOk result (trades.new.trading.requests ≡ request_of 0 ∷ request_of 1 ∷ []) }
 {
     let plain = Amount { ram: 4096, caps: 0 };
-    let _second = trades.ask(2, Spot::InLeaf(2, 0), SERVER, 0, plain)?;
-    let _first = trades.ask(1, Spot::InLeaf(1, 0), SERVER, 0, plain)?;
+    let _second = trades.ask(2, SlotId::InLeaf(2, 0), SERVER, 0, plain)?;
+    let _first = trades.ask(1, SlotId::InLeaf(1, 0), SERVER, 0, plain)?;
     Ok(())
 }
 

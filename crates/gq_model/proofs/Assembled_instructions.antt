@@ -2,7 +2,7 @@
 use Rattle.std.proofs.Common.{◌≡◌, ℕ, ◌≤◌, List, [], ◌∷◌, ◌++◌, length, true, false, Option, Some, None, Result, refl, arith}
 use Rattle.std.specs.Prelude.{nat_le, nat_lt, ◌==◌, ◌&&◌, if◌then◌else◌, codes}
 use Rattle.std.proofs.lemmas.Bool.{and_parts, leb-true, lt-ltb, cond_both}
-use Rattle.gq_model.specs.machine.Program.{Place, Own, Shared, Object, Instruction, text_eq}
+use Rattle.gq_model.specs.machine.Program.{OperandSlot, Own, Shared, Object, Instruction, text_eq}
 use Rattle.gq_model.specs.machine.Lists.{all_of, between}
 use Rattle.gq_model.specs.texts.Letters.{is_name, is_said, is_digit, is_short, spelled_on, number_in, unindented}
 use Rattle.gq_model.specs.texts.Operands
@@ -10,8 +10,8 @@ use Rattle.gq_model.specs.texts.Operands.{Operand, operands, in_range, is_slot, 
 use Rattle.gq_model.specs.texts.Spelling
 use Rattle.gq_model.specs.texts.Spelling.{TextFault, BadNumber, BadSlot, BadText, Shape, Made, found, slot_number, numbered_slot, slot_in, name_in, sayable}
 use Rattle.gq_model.specs.texts.Spelling.{opened_quote, said_in, instruction_in}
-use Rattle.gq_model.proofs.Results.{Holds}
-use Rattle.gq_model.proofs.Shapes.{Fills}
+use Rattle.gq_model.proofs.Holding_results.{Holds}
+use Rattle.gq_model.proofs.Shape_spelling.{Fills}
 use Rattle.gq_model.proofs.Decoded_operands.{one_more}
 
 pub found_holds : {A B : Type 0} (P : B → Type 0) (o : Option A) (fault : TextFault) (go : A → Result B TextFault) → ((a : A) → o ≡ Some a → Holds P (go a))
@@ -38,17 +38,17 @@ slot_below high text n e =
     (λ _ none. cc)
     e
 
-own_is : (o : Option ℕ) (p : Place) → ((n : ℕ) → o ≡ Some n → n ≤ 63) → Spelling.named Own o ≡ Some p → is_slot p ≡ true
+own_is : (o : Option ℕ) (p : OperandSlot) → ((n : ℕ) → o ≡ Some n → n ≤ 63) → Spelling.named Own o ≡ Some p → is_slot p ≡ true
 own_is None p h e = cc
 own_is (Some n) p h e =
     let is : Own n ≡ p = cc in let low = h n refl in let t : nat_lt n 64 ≡ true = lt-ltb n 64 (omega (arith, low)) in rw (← is) t
 
-shared_is : (o : Option ℕ) (p : Place) → ((n : ℕ) → o ≡ Some n → n ≤ 7) → Spelling.named Shared o ≡ Some p → is_slot p ≡ true
+shared_is : (o : Option ℕ) (p : OperandSlot) → ((n : ℕ) → o ≡ Some n → n ≤ 7) → Spelling.named Shared o ≡ Some p → is_slot p ≡ true
 shared_is None p h e = cc
 shared_is (Some n) p h e =
     let is : Shared n ≡ p = cc in let low = h n refl in let t : nat_lt n 8 ≡ true = lt-ltb n 8 (omega (arith, low)) in rw (← is) t
 
-numbered_is : (word : List ℕ) (p : Place) → numbered_slot word ≡ Some p → is_slot p ≡ true
+numbered_is : (word : List ℕ) (p : OperandSlot) → numbered_slot word ≡ Some p → is_slot p ≡ true
 numbered_is [] p e = cc
 numbered_is (c ∷ rest) p e =
     cond_both (c == 111) (Spelling.named Own (slot_number 63 rest)) (if c == 115 then Spelling.named Shared (slot_number 7 rest) else None) (λ o. o ≡ Some p
@@ -61,15 +61,15 @@ numbered_is (c ∷ rest) p e =
     other)
     e
 
-slot_is : (word : List ℕ) (p : Place) → slot_in false word ≡ Some p → is_slot p ≡ true
+slot_is : (word : List ℕ) (p : OperandSlot) → slot_in false word ≡ Some p → is_slot p ≡ true
 slot_is word p e = numbered_is word p e
 
-pub or_object : (p : Place) → is_slot p ≡ true → is_slot_or_object p ≡ true
+pub or_object : (p : OperandSlot) → is_slot p ≡ true → is_slot_or_object p ≡ true
 or_object (Own i) h = h
 or_object (Shared i) h = h
 or_object Object h = refl
 
-bytes_are : (word : List ℕ) (p : Place) → slot_in true word ≡ Some p → is_slot_or_object p ≡ true
+bytes_are : (word : List ℕ) (p : OperandSlot) → slot_in true word ≡ Some p → is_slot_or_object p ≡ true
 bytes_are word p e =
     cond_both (true && text_eq word (codes "obj")) (Some Object) (numbered_slot word) (λ o. o ≡ Some p → is_slot_or_object p ≡ true)
     (λ _ same. let is : Object ≡ p = cc in rw (← is) refl)

@@ -11,8 +11,8 @@ use Rattle.gq_model.specs.texts.Spelling.{TextFault, UnknownWord, BadNumber, Too
 use Rattle.gq_model.specs.texts.Text.{Section_block, First_arm, Second_arm, Loop_body, BlockKind, OpenBlock, Reading, Read, at_end, numbered, opening}
 use Rattle.gq_model.specs.texts.Text.{close_block, ended, turned_over, other_arm, counted, nested, put, statement, limit_of, once, heading, local, outside}
 use Rattle.gq_model.specs.texts.Text.{is_comment, in_place, line_read, on_line, limits_from, in_order, finished, lines_read, assembled}
-use Rattle.gq_model.proofs.Results.{Holds, holds_at}
-use Rattle.gq_model.proofs.Shapes.{word_fills}
+use Rattle.gq_model.proofs.Holding_results.{Holds, holds_at}
+use Rattle.gq_model.proofs.Shape_spelling.{word_fills}
 use Rattle.gq_model.proofs.Decoded_programs.{all_in_order}
 use Rattle.gq_model.proofs.Assembled_instructions.{found_holds, number_between, instruction_holds}
 use Rattle.gq_model.proofs.Assembled_sections.{limits_fit, ordered, ordered_size, sections_size}

@@ -7,7 +7,7 @@ use Rattle.gq_model.specs.machine.Accounts.{leaf_count}
 use Rattle.gq_model.specs.machine.Routes.{Routed, To, No_route, Ambiguous, Provides_differs, route, numbered, leaf_routed, server_of}
 use Rattle.gq_model.specs.rules.Accept.{budgets_from}
 use Rattle.gq_model.specs.rules.Resolve.{unrouted}
-use Rattle.gq_model.proofs.Small.{some_same, none_some, some_none}
+use Rattle.gq_model.proofs.Small_facts.{some_same, none_some, some_none}
 
 -- as many components as leaves
 pub components_count : (label : List ℕ) (default_routes : Option (List Route)) (siblings : Nodes) (above : List Level) (nodes : Nodes)

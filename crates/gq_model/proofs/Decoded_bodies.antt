@@ -10,9 +10,9 @@ use Rattle.gq_model.specs.texts.Code.{is_body, body_code, body_length, greatest_
 use Rattle.gq_model.specs.texts.Spelling.{Shape, spellings, shape_of_opcode}
 use Rattle.gq_model.specs.texts.Decode.{BadNesting, BadOperand, Decoded, decoded_then, cut, number_at, checked, operands_at, Body, one_more, one_deeper, plain}
 use Rattle.gq_model.specs.texts.Decode.{body_at}
-use Rattle.gq_model.proofs.Results.{Holds, holds_then}
-use Rattle.gq_model.proofs.Bytes.{AreBytes}
-use Rattle.gq_model.proofs.Shapes.{opcode_fills}
+use Rattle.gq_model.proofs.Holding_results.{Holds, holds_then}
+use Rattle.gq_model.proofs.Byte_number_spelling.{AreBytes}
+use Rattle.gq_model.proofs.Shape_spelling.{opcode_fills}
 use Rattle.gq_model.proofs.Decoded_operands.{number_holds, cut_holds, checked_holds, operands_holds, IsNumber}
 
 -- statements with at most n blocks in one another, after k others

@@ -3,7 +3,7 @@ use Rattle.std.proofs.Common.{◌≡◌, ℕ, zero, suc, ◌%◌, ◌-◌, ◌<�
 use Rattle.std.proofs.Common.{◌∙◌, arith, append_assoc, append-nil}
 use Rattle.std.specs.Prelude.{nat_lt, nat_le, ◌==◌, ◌&&◌, if◌then◌else◌}
 use Rattle.std.proofs.lemmas.Bool.{and_parts, and_from, ltb-true, ltb-false, lt-ltb, eqb-true, cond_both}
-use Rattle.gq_model.specs.machine.Program.{Place, Own, Shared, Object, Instruction, spelled, little}
+use Rattle.gq_model.specs.machine.Program.{OperandSlot, Own, Shared, Object, Instruction, spelled, little}
 use Rattle.gq_model.specs.machine.Lists.{all_of, between}
 use Rattle.gq_model.specs.texts.Letters.{is_name_byte, is_said_byte}
 use Rattle.gq_model.specs.texts.Operands
@@ -11,9 +11,9 @@ use Rattle.gq_model.specs.texts.Operands.{Operand, opcode, operands, in_range, i
 use Rattle.gq_model.specs.texts.Spelling
 use Rattle.gq_model.specs.texts.Spelling.{Shape, Made}
 use Rattle.gq_model.specs.texts.Decode.{CodeFault, BadNesting, BadOperand, Decoded, first_onto, cut, number_at, checked, place_of, found, text_at, operands_at}
-use Rattle.gq_model.proofs.Results.{Holds, holds_then}
-use Rattle.gq_model.proofs.Bytes.{AreBytes, spelled-little}
-use Rattle.gq_model.proofs.Shapes.{Fills}
+use Rattle.gq_model.proofs.Holding_results.{Holds, holds_then}
+use Rattle.gq_model.proofs.Byte_number_spelling.{AreBytes, spelled-little}
+use Rattle.gq_model.proofs.Shape_spelling.{Fills}
 
 -- PARTS
 
@@ -94,7 +94,7 @@ text_holds low high test bytes h =
 -- SLOTS
 
 -- a slot of that number
-record IsPlace (object : Bool) (n : ℕ) (p : Place) : Type 0 where
+record IsPlace (object : Bool) (n : ℕ) (p : OperandSlot) : Type 0 where
   code : slot_code p ≡ n
   fits : (if object then is_slot_or_object p else is_slot p) ≡ true
 
@@ -111,7 +111,7 @@ object_fits true e = refl
 object_fits false e = cc
 
 -- past the own slots
-past_own : (object : Bool) (n : ℕ) (p : Place) → 64 ≤ n
+past_own : (object : Bool) (n : ℕ) (p : OperandSlot) → 64 ≤ n
     → (if nat_lt n 72 then Some (Shared (n - 64)) else (if object && n == 72 then Some Object else None)) ≡ Some p → IsPlace object n p
 past_own object n p above e =
     cond_both (nat_lt n 72) (Some (Shared (n - 64))) (if object && n == 72 then Some Object else None) (λ o. o ≡ Some p → IsPlace object n p)
@@ -132,7 +132,7 @@ past_own object n p above e =
     last)
     e
 
-place_is : (object : Bool) (n : ℕ) (p : Place) → place_of object n ≡ Some p → IsPlace object n p
+place_is : (object : Bool) (n : ℕ) (p : OperandSlot) → place_of object n ≡ Some p → IsPlace object n p
 place_is object n p e =
     cond_both (nat_lt n 64) (Some (Own n)) (if nat_lt n 72 then Some (Shared (n - 64)) else (if object && n == 72 then Some Object else None)) (λ o. o ≡ Some p
     → IsPlace object n p)

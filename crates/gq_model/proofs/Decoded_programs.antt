@@ -11,8 +11,8 @@ use Rattle.gq_model.specs.texts.Operands.{greatest_number}
 use Rattle.gq_model.specs.texts.Code.{is_body, is_section, section_number, are_sections, greatest_statements, IsProgram, body_code, body_length, local_bits}
 use Rattle.gq_model.specs.texts.Code.{limits_code, section_bits, sections_code, code_of}
 use Rattle.gq_model.specs.texts.Decode.{Truncated, BadOperand, Decoded, cut, number_at, checked, body_at, limits_at, sections_at, decoded}
-use Rattle.gq_model.proofs.Results.{Holds, holds_at, holds_then}
-use Rattle.gq_model.proofs.Bytes.{AreBytes, bytes_by_test}
+use Rattle.gq_model.proofs.Holding_results.{Holds, holds_at, holds_then}
+use Rattle.gq_model.proofs.Byte_number_spelling.{AreBytes, bytes_by_test}
 use Rattle.gq_model.proofs.Decoded_operands.{number_holds, cut_holds, checked_holds, one_byte, IsNumber}
 use Rattle.gq_model.proofs.Decoded_bodies.{IsBody, body_holds}
 

@@ -9,7 +9,7 @@ use Rattle.gq_model.specs.machine.Lists.{all_of}
 use Rattle.gq_model.specs.texts.Operands.{bare_entry, number_entry, opcode, operands, in_range, operands_code}
 use Rattle.gq_model.specs.texts.Spelling.{Shape, Spelling, Made, number, spellings, shape_of_opcode, shape_of_word, word_of_opcode}
 use Rattle.gq_model.specs.texts.Decode.{operands_at}
-use Rattle.gq_model.proofs.Small.{none_some, text_is}
+use Rattle.gq_model.proofs.Small_facts.{none_some, text_is}
 use Rattle.gq_model.proofs.Operand_laws.{IsWidth, Takes, operands_at-code}
 
 -- WORDS

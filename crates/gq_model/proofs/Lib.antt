@@ -1,12 +1,12 @@
 -- small facts that other crates cite, too
-pub mod Small
-pub mod Bytes
-pub mod Ascii
-pub mod Results
-pub mod Shapes
+pub mod Small_facts
+pub mod Byte_number_spelling
+pub mod Ascii_names
+pub mod Holding_results
+pub mod Shape_spelling
 pub mod Component_laws
 pub mod Rules_laws
-pub mod Operated
+pub mod Operand_step_limits
 pub mod Section_laws
 pub mod Sums_laws
 -- code and operands: what is spelled is read back
@@ -22,6 +22,6 @@ pub mod Assembled_sections
 pub mod Assembled_blocks
 pub mod Assembled_programs
 -- worked examples
-pub mod Words
-pub mod Samples
+pub mod Statement_word_rows
+pub mod Sample_scenarios
 mod rows

@@ -4,7 +4,7 @@ use Rattle.std.proofs.Common.{append_assoc}
 use Rattle.std.specs.Prelude.{Ok, nat_le, nat_lt, ◌-◌}
 use Rattle.std.proofs.lemmas.Bool.{leb-true, le-leb}
 use Rattle.std.proofs.lemmas.Bool.Decides.{leb_tells}
-use Rattle.gq_model.specs.machine.Program.{Place, Own, Shared, Object, Instruction, spelled}
+use Rattle.gq_model.specs.machine.Program.{OperandSlot, Own, Shared, Object, Instruction, spelled}
 use Rattle.gq_model.specs.machine.Lists.{between, all_of}
 use Rattle.gq_model.specs.texts.Letters.{is_name, is_said, is_name_byte, is_said_byte}
 use Rattle.gq_model.specs.texts.Operands
@@ -31,7 +31,7 @@ number_at-spelled fault _ high n rest h le = absurd h
 not_less : (a b : ℕ) → b ≤ a → nat_lt a b ≡ false
 not_less a b le = elim (leb_tells (suc a) b) [ inl p ↦ absurd (omega (arith, le, p.1)) | inr p ↦ p.0 ]
 
-place_of-slot : (object : Bool) (p : Place) → is_slot p ≡ true → place_of object (slot_code p) ≡ Some p
+place_of-slot : (object : Bool) (p : OperandSlot) → is_slot p ≡ true → place_of object (slot_code p) ≡ Some p
 place_of-slot object (Own i) e = rw e refl
 place_of-slot object (Shared i) e =
     let low : nat_lt (64 + i) 64 ≡ false = not_less (64 + i) 64 (omega arith) in
@@ -41,7 +41,7 @@ place_of-slot object (Shared i) e =
     rw (low, high, same) refl
 place_of-slot object Object e = cc
 
-place_of-bytes : (p : Place) → is_slot_or_object p ≡ true → place_of true (slot_code p) ≡ Some p
+place_of-bytes : (p : OperandSlot) → is_slot_or_object p ≡ true → place_of true (slot_code p) ≡ Some p
 place_of-bytes (Own i) e = place_of-slot true (Own i) e
 place_of-bytes (Shared i) e = place_of-slot true (Shared i) e
 place_of-bytes Object e = refl
@@ -57,7 +57,7 @@ Takes (Spelling.Service go) (Operands.Service v ∷ ops) j = Takes (go v) ops j
 Takes (Spelling.Said go) (Operands.Text t ∷ ops) j = Takes (go t) ops j
 Takes _ _ j = ⊥
 
-found_place : (p : Place) (bytes : List ℕ) (o : Option Place) (go : Place → Decoded (Instruction × List ℕ)) → o ≡ Some p → found o go ≡ go p
+found_place : (p : OperandSlot) (bytes : List ℕ) (o : Option OperandSlot) (go : OperandSlot → Decoded (Instruction × List ℕ)) → o ≡ Some p → found o go ≡ go p
 found_place p bytes o go e = ap (λ q. found q go) e
 
 -- operands in range, before other bytes, give the instruction back

@@ -10,30 +10,30 @@ use Rattle.gq_model.specs.declared.program.Section.{Section}
 use Rattle.gq_model.specs.declared.program.Section.TheVariants.{Main, Opening, Upgrading, Calling, Closing}
 use Rattle.gq_model.specs.machine.Program.{Statements, If, Loop, size, text_eq, same_section, all_sections, section_in}
 use Rattle.gq_model.specs.machine.Scenario.{Interface}
-use Rattle.gq_model.specs.rules.Kinds.{Kind, Empty_kind, Memory, Pool_kind, Link_kind, State, Context, Subject, inside, same_kind, same_kinds}
+use Rattle.gq_model.specs.rules.Kinds.{Kind, Empty_kind, Memory, Pool_kind, Link_kind, AbstractState, Context, Subject, inside, same_kind, same_kinds}
 use Rattle.gq_model.specs.rules.Rules.{Judged, must, covered, within_need}
 use Rattle.gq_model.specs.rules.Flow.{Flowed, at, later, flow_then, is_nil, none_left, chosen_from, join, flow, state_or, context, body, start_of}
 use Rattle.gq_model.specs.rules.Flow.{section_end, section_flow}
 use Rattle.gq_model.specs.rules.Verdict.{first_unwanted, fault_of, first_fault, walked, program_fault}
-use Rattle.gq_model.proofs.Small.{none_some, some_none, or_first_none, text_is}
+use Rattle.gq_model.proofs.Small_facts.{none_some, some_none, or_first_none, text_is}
 
 -- STATEMENTS
 
-err_ok : {rule : Rule} {s : State} → ◌≡◌ {A = Judged} (Err rule) (Ok s) → ⊥
+err_ok : {rule : Rule} {s : AbstractState} → ◌≡◌ {A = Judged} (Err rule) (Ok s) → ⊥
 err_ok e = cc
 
-pub ok_same : {s t : State} → ◌≡◌ {A = Judged} (Ok s) (Ok t) → s ≡ t
+pub ok_same : {s t : AbstractState} → ◌≡◌ {A = Judged} (Ok s) (Ok t) → s ≡ t
 ok_same e = cc
 
-pub must_holds : (b : Bool) (rule : Rule) (next : Judged) (t : State) → must b rule next ≡ Ok t → (b ≡ true) × (next ≡ Ok t)
+pub must_holds : (b : Bool) (rule : Rule) (next : Judged) (t : AbstractState) → must b rule next ≡ Ok t → (b ≡ true) × (next ≡ Ok t)
 must_holds true rule next t e = (refl, e)
 must_holds false rule next t e = absurd (err_ok e)
 
-covered_same : (resources : List Resource) (i : Interface) (level : ℕ) (s t : State) → covered resources i level s ≡ Ok t → s ≡ t
+covered_same : (resources : List Resource) (i : Interface) (level : ℕ) (s t : AbstractState) → covered resources i level s ≡ Ok t → s ≡ t
 covered_same [] i level s t e = ok_same e
 covered_same (r ∷ resources) i level s t e = covered_same resources i level s t (must_holds _ _ _ t e).1
 
-pub within_same : (section : Section) (provided : Option Interface) (s t : State) → within_need section provided s ≡ Ok t → s ≡ t
+pub within_same : (section : Section) (provided : Option Interface) (s t : AbstractState) → within_need section provided s ≡ Ok t → s ≡ t
 within_same Main provided s t e = ok_same e
 within_same Opening None s t e = ok_same e
 within_same (Upgrading l) None s t e = ok_same e
@@ -46,15 +46,15 @@ within_same (Closing l) (Some i) s t e = covered_same i.counted i _ s t e
 
 -- ONE AFTER THE OTHER
 
-pub then_ok : (r : Flowed) (f : State → Flowed) (t : State) → flow_then r f ≡ Ok t → (s : State) × (r ≡ Ok s) × (f s ≡ Ok t)
+pub then_ok : (r : Flowed) (f : AbstractState → Flowed) (t : AbstractState) → flow_then r f ≡ Ok t → (s : AbstractState) × (r ≡ Ok s) × (f s ≡ Ok t)
 then_ok (Ok s) f t e = (s, refl, e)
 then_ok (Err fault) f t e = cc
 
-pub at_ok : (n : ℕ) (r : Judged) (t : State) → at n r ≡ Ok t → r ≡ Ok t
+pub at_ok : (n : ℕ) (r : Judged) (t : AbstractState) → at n r ≡ Ok t → r ≡ Ok t
 at_ok n (Ok s) t e = ap (λ u. Ok (state_or t u)) e
 at_ok n (Err rule) t e = cc
 
-pub later_ok : (n : ℕ) (r : Flowed) (t : State) → later n r ≡ Ok t → r ≡ Ok t
+pub later_ok : (n : ℕ) (r : Flowed) (t : AbstractState) → later n r ≡ Ok t → r ≡ Ok t
 later_ok n (Ok s) t e = e
 later_ok n (Err fault) t e = cc
 
@@ -89,7 +89,7 @@ kinds_are (k ∷ ks) [] e = cc
 kinds_are (k ∷ ks) (l ∷ ls) e = let p = and_parts (same_kind k l) (same_kinds ks ls) e in λ i. kind_is k l p.0 i ∷ kinds_are ks ls p.1 i
 
 -- both sides of a join are the same state
-pub join_ok : (s t w : State) → join s t ≡ Ok w → (w ≡ s) × (s.bounds ≡ []) × (t ≡ s)
+pub join_ok : (s t w : AbstractState) → join s t ≡ Ok w → (w ≡ s) × (s.bounds ≡ []) × (t ≡ s)
 join_ok s t w e =
     let a = must_holds (is_nil s.bounds && is_nil t.bounds) LeftoverOperand _ w e in
     let n = and_parts (is_nil s.bounds) (is_nil t.bounds) a.0 in
@@ -100,14 +100,14 @@ join_ok s t w e =
     let bounds = nil_is t.bounds n.1 ∙ sym (nil_is s.bounds n.0) in
     (ap (λ r. state_or w (at 1 r)) (sym b.1), nil_is s.bounds n.0, λ i. record { own = own i; bank = bank i; bounds = bounds i })
 
-pub none_left_ok : (s t : State) → none_left s ≡ Ok t → (s.bounds ≡ []) × (t ≡ s)
+pub none_left_ok : (s t : AbstractState) → none_left s ≡ Ok t → (s.bounds ≡ []) × (t ≡ s)
 none_left_ok s t e = let a = must_holds (is_nil s.bounds) LeftoverOperand (Ok s) t e in (nil_is s.bounds a.0, ap (λ r. state_or t (at 1 r)) (sym a.1))
 
 -- IFS AND LOOPS
 
 -- both arms of an `if` lead to where the rest goes on
-pub if_parts : (c : Context) (s : State) (arm other rest : Statements) (u : State) → flow c s (If arm other rest) ≡ Ok u
-    → (t v : State) × (chosen_from s ≡ Ok t) × (flow c t arm ≡ Ok v) × (flow c t other ≡ Ok v) × (flow c v rest ≡ Ok u)
+pub if_parts : (c : Context) (s : AbstractState) (arm other rest : Statements) (u : AbstractState) → flow c s (If arm other rest) ≡ Ok u
+    → (t v : AbstractState) × (chosen_from s ≡ Ok t) × (flow c t arm ≡ Ok v) × (flow c t other ≡ Ok v) × (flow c v rest ≡ Ok u)
 if_parts c s arm other rest u e =
     let n = 1 + size arm + size other in
     let p = then_ok (at 1 (chosen_from s)) (λ v. flow_then (later 1 (flow c v arm))
@@ -122,7 +122,7 @@ if_parts c s arm other rest u e =
     (p.0, q.0, at_ok 1 (chosen_from s) p.0 p.1, later_ok 1 (flow c p.0 arm) q.0 q.1, second, end)
 
 -- a loop starts without operands, and its body leads back to its start
-pub loop_ok : (c : Context) (s : State) (n : ℕ) (body rest : Statements) (u : State) → flow c s (Loop n body rest) ≡ Ok u
+pub loop_ok : (c : Context) (s : AbstractState) (n : ℕ) (body rest : Statements) (u : AbstractState) → flow c s (Loop n body rest) ≡ Ok u
     → (s.bounds ≡ []) × (flow (inside c n) s body ≡ Ok s) × (flow c s rest ≡ Ok u)
 loop_ok c s n body rest u e =
     let a = then_ok (at 1 (none_left s)) (λ t. flow_then (later 1 (flow (inside c n) t body))
@@ -154,13 +154,13 @@ accepted v e = by (first_unwanted v all_sections) refl e
     by None f e = (f, e)
     by (Some section) f e = absurd (some_none e)
 
-flow_passes : (section : Section) (list : Statements) (r : Flowed) → fault_of section list r ≡ None → (last : State) × (r ≡ Ok last)
+flow_passes : (section : Section) (list : Statements) (r : Flowed) → fault_of section list r ≡ None → (last : AbstractState) × (r ≡ Ok last)
 flow_passes section list (Err fault) e = absurd (some_none e)
 flow_passes section list (Ok last) e = (last, refl)
 
 -- a section that is there passes the rules
 pub passes : (v : Subject) (section : Section) (list : Statements) (pairs : List (Section × Statements)) → first_fault v pairs ≡ None
-    → section_in section pairs ≡ Some list → (last : State) × (section_flow v section ≡ Ok last)
+    → section_in section pairs ≡ Some list → (last : AbstractState) × (section_flow v section ≡ Ok last)
 passes v section list [] e there = absurd (none_some there)
 passes v section list (p ∷ rest) e there =
     let n = or_first_none (fault_of p.0 p.1 (section_flow v p.0)) (first_fault v rest) e in
@@ -168,16 +168,16 @@ passes v section list (p ∷ rest) e there =
   where
     by : fault_of p.0 p.1 (section_flow v p.0) ≡ None → (same : Bool) → same_section section p.0 ≡ same
         → cond same (Some p.1) (section_in section rest) ≡ Some list
-        → (section_in section rest ≡ Some list → (last : State) × (section_flow v section ≡ Ok last))
-        → (last : State) × (section_flow v section ≡ Ok last)
+        → (section_in section rest ≡ Some list → (last : AbstractState) × (section_flow v section ≡ Ok last))
+        → (last : AbstractState) × (section_flow v section ≡ Ok last)
     by none true same f further =
         let here : fault_of p.0 p.1 (section_flow v section) ≡ None =
         subst (λ q. fault_of p.0 p.1 (section_flow v q) ≡ None) (sym (same_section_is section p.0 same)) none in
         flow_passes p.0 p.1 (section_flow v section) here
     by none false same f further = further f
 
-flows_by : (v : Subject) (section : Section) (last : State) → section_flow v section ≡ Ok last
-    → (end : State) × (flow (context v section) (start_of v section) (body v section) ≡ Ok end) × (section_end v section end ≡ Ok last)
+flows_by : (v : Subject) (section : Section) (last : AbstractState) → section_flow v section ≡ Ok last
+    → (end : AbstractState) × (flow (context v section) (start_of v section) (body v section) ≡ Ok end) × (section_end v section end ≡ Ok last)
 flows_by v section last e =
     let n = suc (size (body v section)) in
     let a = then_ok (at 0 (within_need section v.provided (start_of v section)))
@@ -189,7 +189,8 @@ flows_by v section last e =
 
 -- it passes from its start to the end of its statements, and what holds at its end holds there
 pub section_flows : (v : Subject) (section : Section) (list : Statements) → program_fault v ≡ None → section_in section v.program.sections ≡ Some list
-    → (end : State) × (last : State) × (flow (context v section) (start_of v section) (body v section) ≡ Ok end) × (section_end v section end ≡ Ok last)
+    → (end : AbstractState) × (last : AbstractState) × (flow (context v section) (start_of v section) (body v section) ≡ Ok end) ×
+    (section_end v section end ≡ Ok last)
 section_flows v section list e there =
     let p = passes v section list v.program.sections (accepted v e).1 there in
     let f = flows_by v section p.0 p.1 in

@@ -10,7 +10,7 @@ use Rattle.gq_model.specs.machine.Program.{Program, Statements, same_section, se
 use Rattle.gq_model.specs.texts.Code.{is_body, is_section, section_number, are_sections, greatest_statements, IsProgram}
 use Rattle.gq_model.specs.texts.Operands.{greatest_number}
 use Rattle.gq_model.proofs.Rules_laws.{same_section_is}
-use Rattle.gq_model.proofs.Small.{equal_self, none_some, some_same}
+use Rattle.gq_model.proofs.Small_facts.{equal_self, none_some, some_same}
 
 pub same_self : (section : Section) → same_section section section ≡ true
 same_self Main = refl

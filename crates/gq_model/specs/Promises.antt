@@ -37,20 +37,20 @@ pub record StaysWithin (s : Scenario) (w : World) (x : ℕ) (c : Component) (lea
   pub within_budget : held r w x leaf + lent r w x ≤ part r (budget_of s x c).own + needed r (system s) w x
   pub budget_is_paid : part r (budget_of s x c).own + needed r (system s) w x ≤ part r c.node.quantum + received r w x
 
--- the leaf of a component keeps the budget that is told of it: of steps, which is itself limited, and of each resource that is counted
+-- the leaf of a component keeps the budget that is reported of it: of steps, which is itself limited, and of each resource that is counted
 pub record KeepsBudget (s : Scenario) (w : World) (x : ℕ) (c : Component) : Type 0 where
   pub leaf : Leaf
   pub there : slice_get w.leaves x ≡ Some leaf
-  pub told : slice_get (budgets s) x ≡ Some (budget_of s x c)
+  pub reported : slice_get (budgets s) x ≡ Some (budget_of s x c)
   pub steps : leaf.steps ≤ (budget_of s x c).steps
   pub limited : (budget_of s x c).steps ≤ greatest_cost
   pub bytes_and_caps : EachOf (system s).counted (StaysWithin s w x c leaf)
 
 -- QUOTAS
 
--- the quotas of all nodes sum to what the root was given, whatever step budgets are told with them
+-- the quotas of all nodes sum to what the root was given, whatever step budgets are reported with them
 abbrev pub SumsToTotal : Scenario → World → Resource → Type 0
-SumsToTotal s w r = (told : List ℕ) → sum_by (λ a. part r a.quota) (accounts s w told) ≡ part r s.total
+SumsToTotal s w r = (reported : List ℕ) → sum_by (λ a. part r a.quota) (accounts s w reported) ≡ part r s.total
 
 -- the quota of a leaf that is there
 abbrev pub quota_of : Resource → World → ℕ → Option Component → Option Leaf → ℕ
@@ -119,7 +119,7 @@ abbrev pub AllKeep : List Account → Type 0
 AllKeep [] = Unit {0}
 AllKeep (a ∷ rest) = KeepsQuota a.quota a.leaf × AllKeep rest
 
--- so it is in each account that is told of a world
+-- so it is in each account that is reported of a world
 abbrev pub KeepsAccounts : Scenario → World → Type 0
 KeepsAccounts s w = AllKeep (accounts s w (step_budgets (budgets s)))
 

@@ -4,7 +4,7 @@
 pub mod Lists
 pub mod Amounts
 pub mod Program
-pub mod Prices
+pub mod Resource_prices
 pub mod Scenario
 pub mod Routes
 pub mod World

@@ -1,6 +1,6 @@
 // Bytes of texts and names.
 ghost use Rattle.std.specs.Prelude.{◌≡◌};
-ghost use Rattle.gq_tariff.specs.Tests.{is_digit};
+ghost use Rattle.gq_tariff.specs.Byte_tests.{is_digit};
 ghost use Rattle.gq_model.specs.texts.Letters.{is_name_byte, is_name, is_said_byte, is_said};
 
 /// Whether a byte is a digit.

@@ -10,7 +10,7 @@ use std::marker::Model;
 
 /// A slot of the component's own, one of the current session, or that session's object.
 #[derive(Clone, Copy, Debug, PartialEq, Eq)]
-pub enum Place {
+pub enum OperandSlot {
     /// `o0` to `o63`.
     Own(u8),
     /// `s0` to `s7`.
@@ -116,7 +116,7 @@ impl Model for Text {
 }
 
 impl Text {
-    /// The text of these bytes, where they are one. Refused only for want of host memory.
+    /// The text of these bytes, where they are one. Refused only if the host refuses memory.
     pub fn new(alloc: Global, bytes: &[u8]) -> Result<Option<Text>, AllocError>
         ensures { IfOk result (λ t. t ≡ (if is_said bytes.now then Some bytes.now else None)) }
     {
@@ -244,17 +244,17 @@ pub enum Instruction {
     Say(Text),
     Out,
     Operands(OperandStatement),
-    Make(Form, Place, u32),
-    MakePool(Place, u16, u16),
-    Load(Width, Place),
-    Store(Width, Place),
-    Free(Place),
-    Take(Place),
-    Give(Place),
-    Peek(Place),
-    Poke(Place),
-    Open(Place, Name, u32),
-    Upgrade(Place, u32),
-    Call(Place),
-    Close(Place),
+    Make(Form, OperandSlot, u32),
+    MakePool(OperandSlot, u16, u16),
+    Load(Width, OperandSlot),
+    Store(Width, OperandSlot),
+    Free(OperandSlot),
+    Take(OperandSlot),
+    Give(OperandSlot),
+    Peek(OperandSlot),
+    Poke(OperandSlot),
+    Open(OperandSlot, Name, u32),
+    Upgrade(OperandSlot, u32),
+    Call(OperandSlot),
+    Close(OperandSlot),
 }

@@ -1,10 +1,10 @@
-mod Bytes
-mod Clean
-mod Free
-mod Frames
-mod Moves
-mod Pairs
-mod Parts
-mod Values
-mod Walks
-pub mod Zeros
+mod Raw_region_bytes
+mod Zero_page_tails
+mod Free_frame_list
+mod Frame_number_lists
+mod Frame_give_take
+mod Logic_pairs
+mod Region_frame_bytes
+mod Memory_struct_values
+mod Call_walk_steps
+pub mod Zeroed_byte_runs

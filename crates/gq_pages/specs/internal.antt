@@ -1,4 +1,4 @@
-pub mod Layout
+pub mod Region_layout
 pub mod Ownership
 pub mod Pages
 pub mod Region

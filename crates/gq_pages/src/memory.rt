@@ -1,7 +1,7 @@
 // The raw memory. Only the functions of this file follow a raw pointer.
 ghost use Rattle.std.specs.Prelude.{◌≡◌, ℕ, ◌+◌, ◌-◌, ◌^◌, ◌<◌, ◌≤◌, List, [], ◌∷◌, ◌++◌, length, slice_index, slice_set, IfSome};
 ghost use denote.RawPtr.{Ptr};
-ghost use Rattle.gq_pages.specs.Bytes.{zeroed, zeros};
+ghost use Rattle.gq_pages.specs.Frame_bytes.{zeroed, zeros};
 ghost use Rattle.gq_pages.specs.internal.Ownership.{cells_own, cells_lent, bytes_type};
 
 use std::alloc::Allocator;
@@ -67,7 +67,7 @@ impl Cells {
     }
 
     // So many bytes more, which are 0. The pointer is no field here, so that the compiler makes one call of the loop.
-    #[tactic(auto, using(crate::proofs::Zeros::zeros_steps))]
+    #[tactic(auto, using(crate::proofs::Zeroed_byte_runs::zeros_steps))]
     pub(crate) fn extend(&mut self, at: *mut u8, len: usize, count: usize)
         requires at_end { (self.old.at ≡ at) × (length self.old.bytes ≡ len) }
         requires room { (count ≤ self.old.room) × (len + count < 2 ^ 64) }
@@ -96,7 +96,7 @@ impl Cells {
     }
 
     // The `count` bytes from `start` on become 0. The pointer is no field here, so that the compiler makes one call of the loop.
-    #[tactic(auto, using(crate::proofs::Zeros::zeroed_steps))]
+    #[tactic(auto, using(crate::proofs::Zeroed_byte_runs::zeroed_steps))]
     pub(crate) fn zero(&mut self, at: *mut u8, start: usize, count: usize)
         requires { (self.old.at ≡ at) × (start + count ≤ length self.old.bytes) × (start + count < 2 ^ 64) }
         ensures { (self.new.at ≡ at) × (self.new.bytes ≡ zeroed self.old.bytes start count) × (self.new.room ≡ self.old.room) }

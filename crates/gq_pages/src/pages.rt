@@ -2,8 +2,8 @@
 // those that were never handed out are counted, so that making the frames touches none of them.
 ghost use Rattle.std.specs.Prelude.{◌≡◌, ℕ, ◌+◌, ◌<◌, ◌≤◌, length, Some, None, slice_index, slice_set, IfOk, OnOk, OnErr, IsOk};
 ghost use Rattle.std.specs.Int.{w32, to_le_bytes};
-ghost use Rattle.gq_pages.specs.Bytes.{word_at, with_bytes, zeroed};
-ghost use Rattle.gq_pages.specs.Frames.{all_free, zero_frame, IsFree, IsTaken, bytes_of, count_free};
+ghost use Rattle.gq_pages.specs.Frame_bytes.{word_at, with_bytes, zeroed};
+ghost use Rattle.gq_pages.specs.Frame_map.{all_free, zero_frame, IsFree, IsTaken, bytes_of, count_free};
 
 use crate::region::Region;
 use gq_tariff::price::PAGE;
@@ -24,7 +24,7 @@ pub struct FrameNo(pub u32);
 pub struct NoFrame;
 
 /// Frames of 4096 bytes each, in one block of host memory. A contract sees a list with an entry for each frame: its bytes where
-/// it is taken, or `None` where it is free. No call but `new` takes host memory.
+/// it is taken, or `None` where it is free. No call but `new` allocates host memory.
 #[derive(Drop)]
 pub struct Pages {
     region: Region,

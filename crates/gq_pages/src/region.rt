@@ -1,7 +1,7 @@
 // The block as one list of bytes, which grows up to the size of the block. Nothing here follows a pointer.
 ghost use Rattle.std.specs.Prelude.{◌≡◌, [], ◌+◌, ◌%◌, ◌^◌, ◌<◌, ◌≤◌, ◌++◌, length, slice_index, slice_set, IfSome};
 ghost use Rattle.std.specs.Int.{w32, to_le_bytes};
-ghost use Rattle.gq_pages.specs.Bytes.{zeros, zeroed, word_at, with_bytes};
+ghost use Rattle.gq_pages.specs.Frame_bytes.{zeros, zeroed, word_at, with_bytes};
 
 use crate::marks::{marked, swept};
 use crate::memory::{Cells, Lease, allocate, free};
@@ -9,13 +9,13 @@ use gq_tariff::price::PAGE;
 use std::alloc::Global;
 use std::marker::Model;
 
-// A block of `size` bytes. Those at its front were written so far; the rest has never been touched.
+// A block of `size` bytes. Those at its start were written so far; the rest has never been touched.
 pub(crate) struct Region {
     at: *mut u8,
     size: usize,
     cells: Cells,
     lease: Lease<Global>,
-    // Of each page so many bytes, those at its front, may be other than 0.
+    // Of each page so many bytes, those at its start, may be other than 0.
     marks: Vec<u16>,
     alloc: Global,
 }

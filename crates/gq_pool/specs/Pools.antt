@@ -4,7 +4,7 @@ use Rattle.std.specs.Prelude.{Option, Some, None}
 use Rattle.gq_tariff.specs.Prices.{up, class_size, size_for}
 use Rattle.gq_tariff.specs.declared.class.Class.{Class}
 use Rattle.gq_store.specs.Store.{Store, word, one_more, plus_caps, Spares, TakesNew}
-use Rattle.gq_store.specs.Bytes.{listed, PutsBytes}
+use Rattle.gq_store.specs.Chunk_bytes.{listed, PutsBytes}
 use Rattle.gq_heap.specs.declared.heap.Heap.{Heap}
 use Rattle.gq_heap.specs.declared.heap.Place.{Place}
 use Rattle.gq_heap.specs.declared.heap.Place.TheVariants.{Small}

@@ -6,7 +6,7 @@ use Rattle.gq_model.specs.machine.Program.{Statements, section_in}
 use Rattle.gq_model.specs.declared.program.Instruction.{Instruction}
 use Rattle.gq_bytecode.specs.declared.operation.Operation.{Operation}
 use Rattle.gq_bytecode.specs.Programs.{AreFound, IsCodeOfProgram, ProgramCode, code_in}
-use Rattle.gq_bytecode.proofs.Parts.{found_body}
+use Rattle.gq_bytecode.proofs.Program_section_codes.{found_body}
 use Rattle.gq_statements.specs.Serving.{IsSection, place}
 
 found_same : (code : Option (List Operation)) (longs : List Instruction) (body : Option Statements) → AreFound code longs body → is_some code ≡ is_some body
@@ -22,28 +22,29 @@ same_sections code sections h section =
     found_same (code_in section code.sections) code.longs (section_in section sections)
     (found_body code section (code_in section code.sections) sections refl h)
 
--- what is told of each section, in their order
+-- what is reported of each section, in their order
 abbrev pub in_order : (Section → Bool) → List Bool
-in_order told =
-    told Main ∷ told Opening ∷ told (Upgrading 1) ∷ told (Upgrading 2) ∷ told (Upgrading 3) ∷ told (Calling 0) ∷ told (Calling 1) ∷ told (Calling 2)
-    ∷ told (Calling 3) ∷ told (Closing 0) ∷ told (Closing 1) ∷ told (Closing 2) ∷ told (Closing 3) ∷ []
+in_order reported =
+    reported Main ∷ reported Opening ∷ reported (Upgrading 1) ∷ reported (Upgrading 2) ∷ reported (Upgrading 3) ∷ reported (Calling 0) ∷ reported (Calling 1) ∷
+    reported (Calling 2)
+    ∷ reported (Calling 3) ∷ reported (Closing 0) ∷ reported (Closing 1) ∷ reported (Closing 2) ∷ reported (Closing 3) ∷ []
 
 -- stands at the section's place
-pub told_at : (told : Section → Bool) (section : Section) → IsSection section → get_or (in_order told) (place section) false ≡ told section
-told_at told Main h = refl
-told_at told Opening h = refl
-told_at told (Upgrading zero) h = absurd (omega (arith, h.0))
-told_at told (Upgrading (suc zero)) h = refl
-told_at told (Upgrading (suc (suc zero))) h = refl
-told_at told (Upgrading (suc (suc (suc zero)))) h = refl
-told_at told (Upgrading (suc (suc (suc (suc n))))) h = absurd (omega (arith, h.1))
-told_at told (Calling zero) h = refl
-told_at told (Calling (suc zero)) h = refl
-told_at told (Calling (suc (suc zero))) h = refl
-told_at told (Calling (suc (suc (suc zero)))) h = refl
-told_at told (Calling (suc (suc (suc (suc n))))) h = absurd (omega (arith, h))
-told_at told (Closing zero) h = refl
-told_at told (Closing (suc zero)) h = refl
-told_at told (Closing (suc (suc zero))) h = refl
-told_at told (Closing (suc (suc (suc zero)))) h = refl
-told_at told (Closing (suc (suc (suc (suc n))))) h = absurd (omega (arith, h))
+pub reported_at : (reported : Section → Bool) (section : Section) → IsSection section → get_or (in_order reported) (place section) false ≡ reported section
+reported_at reported Main h = refl
+reported_at reported Opening h = refl
+reported_at reported (Upgrading zero) h = absurd (omega (arith, h.0))
+reported_at reported (Upgrading (suc zero)) h = refl
+reported_at reported (Upgrading (suc (suc zero))) h = refl
+reported_at reported (Upgrading (suc (suc (suc zero)))) h = refl
+reported_at reported (Upgrading (suc (suc (suc (suc n))))) h = absurd (omega (arith, h.1))
+reported_at reported (Calling zero) h = refl
+reported_at reported (Calling (suc zero)) h = refl
+reported_at reported (Calling (suc (suc zero))) h = refl
+reported_at reported (Calling (suc (suc (suc zero)))) h = refl
+reported_at reported (Calling (suc (suc (suc (suc n))))) h = absurd (omega (arith, h))
+reported_at reported (Closing zero) h = refl
+reported_at reported (Closing (suc zero)) h = refl
+reported_at reported (Closing (suc (suc zero))) h = refl
+reported_at reported (Closing (suc (suc (suc zero)))) h = refl
+reported_at reported (Closing (suc (suc (suc (suc n))))) h = absurd (omega (arith, h))

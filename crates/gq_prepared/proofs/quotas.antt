@@ -1,2 +1,2 @@
-pub mod Told
-pub mod Quotas
+pub mod Node_row_accounts
+pub mod Stored_node_quotas

@@ -1,5 +1,5 @@
 pub mod Prepared
 pub mod internal
-pub mod Nodes
-pub mod Plans
-pub mod Held
+pub mod Account_nodes
+pub mod Scenario_plan
+pub mod Leaf_holdings

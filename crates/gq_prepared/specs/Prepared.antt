@@ -1,7 +1,7 @@
 -- What a leaf's steps need beside its code, and is fixed once a scenario is loaded.
 use Rattle.std.specs.Prelude.{◌≡◌, ℕ, ◌<◌, List, [], length, map, get_or, slice_get, Some}
 use Rattle.gq_model.specs.declared.program.Instruction.TheVariants.{Open}
-use Rattle.gq_model.specs.declared.program.Place.{Place}
+use Rattle.gq_model.specs.declared.program.OperandSlot.{OperandSlot}
 use Rattle.gq_model.specs.declared.program.Section.{Section}
 use Rattle.gq_model.specs.machine.Memory.{buffer_of}
 use Rattle.gq_model.specs.machine.Program.{Statements, section_in}
@@ -28,7 +28,7 @@ pub record IsOpening (s : Scenario) (c : Component) (name : List ℕ) (o : Openi
 -- each `open` that stands in the code of a section has its own, by its number
 abbrev pub AreOpenings : Scenario → Component → ProgramCode → List Opening → Type 0
 AreOpenings s c code os =
-    (section : Section) (ops : List Operation) (body : Statements) (p number : ℕ) (place : Place) (name : List ℕ) (n : ℕ)
+    (section : Section) (ops : List Operation) (body : Statements) (p number : ℕ) (place : OperandSlot) (name : List ℕ) (n : ℕ)
     → code_in section code.sections ≡ Some ops → section_in section c.node.program.sections ≡ Some body → slice_get ops p ≡ Some (Long number)
     → slice_get code.longs number ≡ Some (Open place name n) → (o : Opening) × (slice_get os number ≡ Some o) × IsOpening s c name o
 

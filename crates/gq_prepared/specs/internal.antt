@@ -1,3 +1,3 @@
-pub mod Opened
+pub mod Open_targets
 pub mod Upgraded
 pub mod Firsts

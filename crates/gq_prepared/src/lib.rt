@@ -13,19 +13,19 @@
 //! let object = services.object(0);
 //! ```
 //!
-//! `quotas` and `endings` are laws of the nodes: that stored balances are the accounts of the definition, and how the nodes go on where a leaf has ended.
+//! `quotas` and `ending_laws` are laws of the nodes: that stored balances are the accounts of the definition, and how the nodes go on where a leaf has ended.
 //!
-//! Modules: the plan of the accounts (`plans`), and what is fixed at load (`openings`, `sections`, `services`).
+//! Modules: the plan of the accounts (`plans`), and what is fixed at load (`openings`, `program_sections`, `service_gifts`).
 #![tactic(auto)]
 
-pub mod endings;
-pub mod laws;
+pub mod ending_laws;
+pub mod first_node_laws;
 pub mod openings;
 pub mod plans;
+pub mod program_sections;
 pub mod quotas;
-pub mod sections;
-pub mod services;
+pub mod service_gifts;
 
 pub use openings::Opening;
 pub use plans::plan_of;
-pub use services::Services;
+pub use service_gifts::Services;

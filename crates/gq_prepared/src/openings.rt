@@ -5,16 +5,16 @@ ghost use Rattle.gq_resolve.specs.NodeTables.{interface_number};
 ghost use Rattle.gq_laws.specs.Ready.{IsReady};
 ghost use Rattle.gq_bytecode.specs.Programs.{IsCodeOfProgram};
 ghost use Rattle.gq_prepared.specs.Prepared.{AreOpenings};
-ghost use Rattle.gq_prepared.specs.internal.Opened.{IsOpened, IsOpenedBy, IsServed};
+ghost use Rattle.gq_prepared.specs.internal.Open_targets.{IsOpened, IsOpenedBy, IsServed};
 
 use gq_bytecode::Code;
-use gq_bytecode::laws::stated;
+use gq_bytecode::bytecode_laws::stated;
 use gq_laws::ready::served;
 use gq_model::program::{Instruction, Name};
 use gq_program::interface::Interfaces;
 use gq_resolve::NodeTable;
-use gq_scenario::lines::same_bytes;
 use gq_scenario::scenario::LeafNo;
+use gq_scenario::text_pieces::same_bytes;
 use std::alloc::{AllocError, Global};
 
 /// An `open` statement of a program, with where it leads: the number of its service's interface, the leaf that serves it, if one does, and the
@@ -92,8 +92,10 @@ fn led(table: &NodeTable, leaf: LeafNo, statement: &Instruction) -> Opening
     }
 }
 
-/// Where the `open` statements of a leaf's program lead, of which this is the code: one for each statement that does not fit into eight bytes, by
-/// their numbers; a statement of another kind leads nowhere. Refused only for want of host memory.
+/// Where the `open` statements of the program lead of which this is the code.
+///
+/// There is one for each statement that does not fit into eight bytes, by their numbers. A statement of another kind leads nowhere.
+/// Refused only if the host refuses memory.
 pub fn openings(
     alloc: Global,
     table: &NodeTable,

@@ -2,19 +2,19 @@
 ghost use Rattle.std.specs.Prelude.{◌≡◌, ◌≤◌, ◌<◌, ℕ, length, map, get_or, slice_get, IfOk, IfSome};
 ghost use Rattle.gq_model.specs.machine.Scenario.{components};
 ghost use Rattle.gq_scenario.specs.Sizes.{leaf_places};
-ghost use Rattle.gq_scenario.specs.Trees.{version_number};
+ghost use Rattle.gq_scenario.specs.Component_trees.{version_number};
 ghost use Rattle.gq_resolve.specs.NodeTables.{node_rows};
 ghost use Rattle.gq_laws.specs.Ready.{IsReady};
-ghost use Rattle.gq_trade.specs.Plans.{IsPlan};
-ghost use Rattle.gq_prepared.specs.Nodes.{parents_of, objects_of, caps_of, given_in, or_zero};
-ghost use Rattle.gq_prepared.specs.Plans.{IsPlanOf};
+ghost use Rattle.gq_trade.specs.Trades_plan.{IsPlan};
+ghost use Rattle.gq_prepared.specs.Account_nodes.{parents_of, objects_of, caps_of, given_in, or_zero};
+ghost use Rattle.gq_prepared.specs.Scenario_plan.{IsPlanOf};
 ghost use Rattle.gq_prepared.specs.internal.Firsts.{first_leaf, first_node};
 
 use gq_resolve::NodeTable;
-use gq_scenario::node::NodeNo;
+use gq_scenario::node_numbers::NodeNo;
 use gq_scenario::scenario::{LeafNo, Quantum, Version};
 use gq_tariff::Amount;
-use gq_trade::{Node, Plan, Stage};
+use gq_trade::{NodeState, Plan, Stage};
 use std::alloc::{AllocError, Global};
 
 // The place of the node above a node; the root has 0.
@@ -55,18 +55,18 @@ fn given_in(version: Version, quantum: Quantum) -> Amount
 }
 
 // The node of a leaf with that quantum: it is pending where it starts after another leaf.
-fn first_leaf(table: &NodeTable, leaf: LeafNo, quantum: Amount) -> Node
+fn first_leaf(table: &NodeTable, leaf: LeafNo, quantum: Amount) -> NodeState
     requires ready { IsReady table.now }
     requires there { leaf < length (components table.now) }
     ensures { IfSome (slice_get (components table.now) leaf) (λ c. result ≡ first_leaf table.now quantum c) }
 {
     match table.after(leaf) {
-        Some(before) => Node {
+        Some(before) => NodeState {
             quantum,
             after: Some(table.node(before).index()),
             stage: Stage::Pending,
         },
-        None => Node {
+        None => NodeState {
             quantum,
             after: None,
             stage: Stage::Live,
@@ -75,7 +75,7 @@ fn first_leaf(table: &NodeTable, leaf: LeafNo, quantum: Amount) -> Node
 }
 
 // A node as it is at first.
-fn first_node(table: &NodeTable, node: NodeNo) -> Node
+fn first_node(table: &NodeTable, node: NodeNo) -> NodeState
     requires ready { IsReady table.now }
     requires there { node < length (node_rows table.now) }
     ensures { IfSome (slice_get (node_rows table.now) node) (λ r. result ≡ first_node table.now r) }
@@ -83,7 +83,7 @@ fn first_node(table: &NodeTable, node: NodeNo) -> Node
     let quantum = given_in(table.scenario().version(), table.quantum(node));
     match table.leaf(node) {
         Some(leaf) => first_leaf(table, leaf, quantum),
-        None => Node {
+        None => NodeState {
             quantum,
             after: None,
             stage: Stage::Live,
@@ -92,7 +92,7 @@ fn first_node(table: &NodeTable, node: NodeNo) -> Node
 }
 
 // All nodes as they are at first.
-fn first_nodes(alloc: Global, table: &NodeTable) -> Result<Vec<Node>, AllocError>
+fn first_nodes(alloc: Global, table: &NodeTable) -> Result<Vec<NodeState>, AllocError>
     requires ready { IsReady table.now }
     ensures { IfOk result (λ nodes. nodes.items ≡ map (first_node table.now) (node_rows table.now)) }
 {

@@ -1,7 +1,7 @@
-pub mod Lists
-pub mod Sizes
-mod Noted
-pub mod Rising
-pub mod Skipped
-pub mod Unbounded
-pub mod Entries
+pub mod Statement_vector_lists
+pub mod Statement_list_sizes
+mod Statement_summary_step
+pub mod Sorted_interfaces
+pub mod Skipped_list_ends
+pub mod Interfaces_without_quantities
+pub mod Statement_table_entries

@@ -1,6 +1,6 @@
-pub mod Trees
+pub mod Statement_trees
 pub mod Notes
 pub mod Interfaces
-pub mod Keys
+pub mod Name_keys
 pub mod internal
-pub mod Spelling
+pub mod Statement_table

@@ -1,3 +1,3 @@
-pub mod Listed
-pub mod Falls
-pub mod Counts
+pub mod Listed_statements
+pub mod Smaller_bodies
+pub mod Statement_counts

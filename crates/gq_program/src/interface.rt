@@ -311,7 +311,7 @@ impl Interfaces {
         }
     }
 
-    /// The same, each without its quantities. Refused only for want of host memory.
+    /// The same, each without its quantities. Refused only if the host refuses memory.
     pub fn unbounded(&self, alloc: Global) -> Result<Interfaces, AllocError>
         ensures { IfOk result (λ i. i ≡ all_unbounded self.now) }
     {
@@ -345,8 +345,8 @@ impl Interfaces {
         self.entries.as_slice()
     }
 
-    /// The interface of the service with this name, if there is one. It is looked for where the letters of the name are told to stand; a place that is told
-    /// wrongly costs time alone.
+    /// The interface of the service with this name, if there is one. It is looked for where the letters of the name are reported to stand; a place that is
+    /// reported wrongly costs time alone.
     pub fn named(&self, name: &[u8]) -> Option<&Interface>
         ensures { option_copied result ≡ interface_in name.now self.now }
     {

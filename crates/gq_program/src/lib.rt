@@ -25,21 +25,21 @@
 //! ```
 #![tactic(auto)]
 
-mod check;
 pub mod interface;
-pub mod keys;
+pub mod key_index;
+pub mod name_keys;
 pub mod notes;
-pub mod places;
-pub mod program;
+mod program_check;
+pub mod program_tree;
 pub mod shapes;
 pub mod spare;
 pub mod spelling;
 
 pub use gq_model::program::{
-    Bare, Form, Instruction, Name, OperandStatement, Operator, Place, Section, Text, Width,
+    Bare, Form, Instruction, Name, OperandSlot, OperandStatement, Operator, Section, Text, Width,
     WithNumber,
 };
 pub use interface::{Counts, Interface, Interfaces, Upgrade};
-pub use program::{Body, Program, Statement};
+pub use program_tree::{Body, Program, Statement};
 pub use shapes::{Shape, WithAmount, WithBytes, WithSlot, shape_of_opcode, shape_of_word};
 pub use spare::Spare;

@@ -1,10 +1,10 @@
 // What is noted of the statements of a list while they come.
 ghost use Rattle.std.specs.Prelude.{◌≡◌, ◌∷◌, [], ◌++◌, ◌&&◌, List};
-ghost use Rattle.gq_program.specs.declared.program.Statement.{Statement};
+ghost use Rattle.gq_program.specs.declared.program_tree.Statement.{Statement};
 ghost use Rattle.gq_program.specs.Notes.{asks_nothing, keeps_slots};
-ghost use Rattle.gq_program.specs.internal.Listed.{AreNotes};
+ghost use Rattle.gq_program.specs.internal.Listed_statements.{AreNotes};
 
-use crate::program::{Body, Statement};
+use crate::program_tree::{Body, Statement};
 use gq_model::program::Instruction;
 
 /// Whether an instruction asks for nothing.
@@ -37,7 +37,7 @@ pub fn keeps_slots(instruction: &Instruction) -> bool
 
 /// What is noted of a list of statements.
 #[derive(Clone, Copy)]
-pub(crate) struct Notes {
+pub(crate) struct StatementSummary {
     /// The steps of its blocks beside one for each; 2^64 - 1 where there are more.
     pub(crate) further: u64,
     /// No statement asks for anything.
@@ -54,12 +54,12 @@ fn both(first: bool, second: bool) -> bool
     first && second
 }
 
-impl Notes {
+impl StatementSummary {
     /// Of no statement.
-    pub(crate) fn none() -> Notes
+    pub(crate) fn none() -> StatementSummary
         ensures { AreNotes result [] }
     {
-        Notes {
+        StatementSummary {
             further: 0,
             is_quiet: true,
             is_still: true,
@@ -84,7 +84,7 @@ impl Notes {
         let more = arm.cost().max(other.cost());
         let are_quiet = both(arm.is_quiet(), other.is_quiet());
         let are_still = both(arm.is_still(), other.is_still());
-        *self = Notes {
+        *self = StatementSummary {
             further: self.further.saturating_add(more),
             is_quiet: both(self.is_quiet, are_quiet),
             is_still: both(self.is_still, are_still),
@@ -97,7 +97,7 @@ impl Notes {
     {
         let round = body.cost().saturating_add(1);
         let rounds = round.saturating_mul(u64::from(count));
-        *self = Notes {
+        *self = StatementSummary {
             further: self.further.saturating_add(rounds),
             is_quiet: both(self.is_quiet, body.is_quiet()),
             is_still: both(self.is_still, body.is_still()),

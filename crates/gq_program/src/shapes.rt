@@ -2,14 +2,14 @@
 ghost use Rattle.std.specs.Prelude.{◌≡◌, option_map};
 ghost use Rattle.gq_model.specs.texts.Operands.{opcode};
 ghost use Rattle.gq_model.specs.texts.Spelling.{spellings, shape_of_word, shape_of_opcode};
-ghost use Rattle.gq_program.specs.Spelling.{slot_instruction, slot_word, slot_opcode, bytes_instruction, bytes_word, bytes_opcode};
-ghost use Rattle.gq_program.specs.Spelling.{amount_instruction, amount_word, amount_opcode, amount_low, amount_high};
-ghost use Rattle.gq_program.specs.Spelling.{shape_of, word_of, opcode_of, spellings_of};
+ghost use Rattle.gq_program.specs.Statement_table.{slot_instruction, slot_word, slot_opcode, bytes_instruction, bytes_word, bytes_opcode};
+ghost use Rattle.gq_program.specs.Statement_table.{amount_instruction, amount_word, amount_opcode, amount_low, amount_high};
+ghost use Rattle.gq_program.specs.Statement_table.{shape_of, word_of, opcode_of, spellings_of};
 
 pub use crate::spelling::same_text;
 use gq_model::limits::GREATEST_SIZE;
 use gq_model::program::{
-    Bare, Form, Instruction, OperandStatement, Operator, Place, Width, WithNumber,
+    Bare, Form, Instruction, OperandSlot, OperandStatement, Operator, Width, WithNumber,
 };
 
 /// A statement with a slot.
@@ -101,7 +101,7 @@ pub const SHAPES: [Shape; 34] = [
 
 impl WithSlot {
     /// The statement with this slot.
-    pub fn instruction(self, place: Place) -> Instruction
+    pub fn instruction(self, place: OperandSlot) -> Instruction
         ensures { result ≡ slot_instruction self place }
     {
         match self {
@@ -148,7 +148,7 @@ impl WithSlot {
 
 impl WithBytes {
     /// The statement with this slot.
-    pub fn instruction(self, place: Place) -> Instruction
+    pub fn instruction(self, place: OperandSlot) -> Instruction
         ensures { result ≡ bytes_instruction self place }
     {
         match self {
@@ -184,7 +184,7 @@ impl WithBytes {
 
 impl WithAmount {
     /// The statement with this slot and this number.
-    pub fn instruction(self, place: Place, number: u32) -> Instruction
+    pub fn instruction(self, place: OperandSlot, number: u32) -> Instruction
         ensures { result ≡ amount_instruction self place number }
     {
         match self {

@@ -1,6 +1,6 @@
 // Room of lists of statements that are not needed any more, for those to come.
 // No contract: callers see such room in time and host memory alone; benchmarks and refused growths show it.
-use crate::program::{Body, Kept, Listed, Program, Statement};
+use crate::program_tree::{Body, Kept, Listed, Program, Statement};
 use std::alloc::{AllocError, Global};
 
 /// Lists with room for more statements than so are not kept: there are few of them, and small lists would take them.
@@ -13,14 +13,14 @@ pub struct Spare {
 }
 
 impl Spare {
-    /// None, and no room to keep any. It takes no host memory.
+    /// None, and no room to keep any. It allocates no host memory.
     pub fn new(alloc: Global) -> Spare {
         Spare {
             lists: Vec::new(alloc),
         }
     }
 
-    /// None, with room to keep so many of them. Refused where host memory is.
+    /// None, with room to keep so many of them. Fails if the host refuses memory.
     pub fn with_room(alloc: Global, lists: usize) -> Result<Spare, AllocError> {
         Ok(Spare {
             lists: Vec::with_capacity(alloc, lists)?,

@@ -1,9 +1,9 @@
 -- texts that grow at their end, and the leaves that are shared
-mod Found
-mod Opened
-mod Told
-mod Owned
+mod Race_line_text
+mod Shared_leaf_servers
+mod Race_leaf_lines
+mod Leaf_owner_rounds
 -- where nothing was written
-mod Free
+mod Silence_means_raceless
 -- worked examples
-pub mod Rows
+pub mod Race_rows

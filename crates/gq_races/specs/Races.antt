@@ -1,12 +1,12 @@
--- Leaves whose sections may run for several threads, the statements by which these threads can tell of one another, and those that read inputs.
+-- Leaves whose sections may run for several threads, the statements by which these threads can report of one another, and those that read inputs.
 use Rattle.std.specs.Prelude.{◌≡◌, ℕ, zero, suc, ◌+◌, ◌==◌, if◌then◌else◌, Bool, true, false, ◌&&◌, ◌||◌, not, List, [], ◌∷◌, ◌++◌, length}
 use Rattle.gq_model.specs.declared.program.Instruction.{Instruction}
 use Rattle.gq_model.specs.declared.program.Instruction.TheVariants.{Say, Out, Operands, Store, Take, Give, Poke, Call, Make, MakePool, Free, Open, Upgrade}
 use Rattle.gq_model.specs.declared.program.Instruction.TheVariants.{Close}
 use Rattle.gq_model.specs.declared.program.OperandStatement.TheVariants.{Numbered}
 use Rattle.gq_model.specs.declared.program.WithNumber.TheVariants.{Input}
-use Rattle.gq_model.specs.declared.program.Place.{Place}
-use Rattle.gq_model.specs.declared.program.Place.TheVariants.{Own, Shared, Object}
+use Rattle.gq_model.specs.declared.program.OperandSlot.{OperandSlot}
+use Rattle.gq_model.specs.declared.program.OperandSlot.TheVariants.{Own, Shared, Object}
 use Rattle.gq_model.specs.declared.program.Section.{Section}
 use Rattle.gq_model.specs.machine.Program.{Statements, Done, Do, If, Loop, size}
 use Rattle.gq_model.specs.machine.Lists.{any_of}
@@ -59,7 +59,7 @@ is_shared system x = not (any_below (λ z. is_owner system z x) (length system.c
 
 -- STATEMENTS
 
-abbrev pub is_own : Place → Bool
+abbrev pub is_own : OperandSlot → Bool
 is_own (Own i) = true
 is_own (Shared i) = false
 is_own Object = false

@@ -1,3 +1,3 @@
 pub mod Openers
 pub mod Owners
-pub mod Lines
+pub mod Kind_lines

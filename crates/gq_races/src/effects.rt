@@ -2,28 +2,28 @@
 ghost use Rattle.std.specs.Prelude.{◌≡◌, ◌≤◌, ◌+◌, ◌++◌, ◌∷◌, [], OnOk, IfOk, map, sum_by};
 ghost use Rattle.gq_model.specs.machine.Program.{Do, Done, size};
 ghost use Rattle.gq_model.specs.texts.Code.{greatest_statements};
-ghost use Rattle.gq_program.specs.Trees.{tree_of};
+ghost use Rattle.gq_program.specs.Statement_trees.{tree_of};
 ghost use Rattle.gq_races.specs.Races as spec;
 ghost use Rattle.gq_races.specs.Races.{for_several, found_in, is_own, stated_in};
-ghost use Rattle.gq_races.specs.Text as text;
-ghost use Rattle.gq_races.specs.Text.{effect_text, has_effect};
-ghost use Rattle.gq_races.specs.internal.Lines.{effect_line};
+ghost use Rattle.gq_races.specs.Race_text as text;
+ghost use Rattle.gq_races.specs.Race_text.{effect_text, has_effect};
+ghost use Rattle.gq_races.specs.internal.Kind_lines.{effect_line};
 ghost use Rattle.gq_views.specs.Listing.{joined, line};
 
-use crate::front::front_of;
-use gq_model::program::{Instruction, OperandStatement, Place, Section, WithNumber};
-use gq_program::program::{Body, Program, Statement};
-use gq_views::instructions::push_instruction;
+use crate::statement_prefix::prefix_of;
+use gq_model::program::{Instruction, OperandSlot, OperandStatement, Section, WithNumber};
+use gq_program::program_tree::{Body, Program, Statement};
+use gq_views::instruction_text::push_instruction;
 use itoa::Buffer;
 use std::alloc::{AllocError, Global};
 
 // Whether a place is an own slot.
-fn is_own(place: Place) -> bool
+fn is_own(place: OperandSlot) -> bool
     ensures { result ≡ is_own place }
 {
     match place {
-        Place::Own(_) => true,
-        Place::Shared(_) | Place::Object => false,
+        OperandSlot::Own(_) => true,
+        OperandSlot::Shared(_) | OperandSlot::Object => false,
     }
 }
 
@@ -85,14 +85,14 @@ fn word_of(instruction: &Instruction) -> &'static [u8]
 // The line of a statement with its number.
 fn push_effect(
     text: &mut Vec<u8>,
-    front: &[u8],
+    prefix: &[u8],
     number: usize,
     instruction: &Instruction,
 ) -> Result<(), AllocError>
-    ensures { OnOk result (text.new.items ≡ text.old.items ++ line 0 (effect_line front.now (number, instruction.now))) }
+    ensures { OnOk result (text.new.items ≡ text.old.items ++ line 0 (effect_line prefix.now (number, instruction.now))) }
 {
     text.extend_from_slice(word_of(instruction))?;
-    text.extend_from_slice(front)?;
+    text.extend_from_slice(prefix)?;
     text.extend_from_slice(Buffer::new().format(number as u64).as_bytes())?;
     text.extend_from_slice(b" ")?;
     push_instruction(text, instruction)?;
@@ -102,16 +102,16 @@ fn push_effect(
 // The line of a statement without statements in it, if it has one.
 fn push_if_effect(
     text: &mut Vec<u8>,
-    front: &[u8],
+    prefix: &[u8],
     several: bool,
     number: usize,
     instruction: &Instruction,
 ) -> Result<(), AllocError>
     ensures { OnOk result (text.new.items ≡ text.old.items
-        ++ joined (map (effect_line front.now) (found_in (has_effect several) number (Do instruction.now Done)))) }
+        ++ joined (map (effect_line prefix.now) (found_in (has_effect several) number (Do instruction.now Done)))) }
 {
     if has_effect(several, instruction) {
-        push_effect(text, front, number, instruction)
+        push_effect(text, prefix, number, instruction)
     } else {
         Ok(())
     }
@@ -121,26 +121,26 @@ fn push_if_effect(
 #[cycle(effects)]
 fn push_effects_in(
     text: &mut Vec<u8>,
-    front: &[u8],
+    prefix: &[u8],
     several: bool,
     number: usize,
     statement: &Statement,
 ) -> Result<usize, AllocError>
     requires { number + size (tree_of (statement.now ∷ [])) ≤ 65536 }
     ensures lines { OnOk result (text.new.items ≡ text.old.items
-        ++ joined (map (effect_line front.now) (found_in (has_effect several) number (tree_of (statement.now ∷ []))))) }
+        ++ joined (map (effect_line prefix.now) (found_in (has_effect several) number (tree_of (statement.now ∷ []))))) }
     ensures next { IfOk result (λ next. next ≡ number + size (tree_of (statement.now ∷ []))) }
 {
     match statement {
         Statement::Plain(instruction) => {
-            push_if_effect(text, front, several, number, instruction)?;
+            push_if_effect(text, prefix, several, number, instruction)?;
             Ok(number + 1)
         }
         Statement::If(arm, other) => {
-            let between = push_effects(text, front, several, number + 1, arm)?;
-            push_effects(text, front, several, between, other)
+            let between = push_effects(text, prefix, several, number + 1, arm)?;
+            push_effects(text, prefix, several, between, other)
         }
-        Statement::Loop(_, body) => push_effects(text, front, several, number + 1, body),
+        Statement::Loop(_, body) => push_effects(text, prefix, several, number + 1, body),
     }
 }
 
@@ -148,18 +148,18 @@ fn push_effects_in(
 #[cycle(effects)]
 fn push_effects(
     text: &mut Vec<u8>,
-    front: &[u8],
+    prefix: &[u8],
     several: bool,
     first: usize,
     body: &Body,
 ) -> Result<usize, AllocError>
     requires { first + size body.now ≤ 65536 }
-    ensures lines { OnOk result (text.new.items ≡ text.old.items ++ joined (map (effect_line front.now) (found_in (has_effect several) first body.now))) }
+    ensures lines { OnOk result (text.new.items ≡ text.old.items ++ joined (map (effect_line prefix.now) (found_in (has_effect several) first body.now))) }
     ensures next { IfOk result (λ next. next ≡ first + size body.now) }
 {
     let mut number = first;
     for statement in body.statements() {
-        number = push_effects_in(text, front, several, number, statement)?;
+        number = push_effects_in(text, prefix, several, number, statement)?;
     }
     Ok(number)
 }
@@ -185,9 +185,9 @@ fn push_section(
         ++ joined (map effect_text (stated_in (λ section. has_effect (for_several shared section)) label.now ((section, body.now) ∷ [])))) }
 {
     let several = for_several(shared, section);
-    let front = front_of(alloc, label, section)?;
-    let pushed = push_effects(text, front.as_slice(), several, 1, body);
-    drop(front);
+    let prefix = prefix_of(alloc, label, section)?;
+    let pushed = push_effects(text, prefix.as_slice(), several, 1, body);
+    drop(prefix);
     match pushed {
         Ok(_) => Ok(()),
         Err(refused) => Err(refused),

@@ -17,8 +17,8 @@
 #![tactic(auto)]
 
 mod effects;
-mod front;
 mod openers;
 mod opens;
 mod owners;
 pub mod races;
+mod statement_prefix;

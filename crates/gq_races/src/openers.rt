@@ -7,10 +7,10 @@ ghost use Rattle.gq_resolve.specs.Served as served;
 ghost use Rattle.gq_races.specs.internal.Openers.{first_servers, later_servers, opened_from, servers_of};
 
 use gq_model::program::{Name, Section};
-use gq_program::program::{Body, Program};
+use gq_program::program_tree::{Body, Program};
 use gq_resolve::component::Component;
+use gq_resolve::opened_services::{once, push_opened};
 use gq_resolve::routes::server_of;
-use gq_resolve::services::{once, push_opened};
 use gq_scenario::scenario::LeafNo;
 use std::alloc::{AllocError, Global};
 use std::marker::Model;

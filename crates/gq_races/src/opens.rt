@@ -2,16 +2,16 @@
 ghost use Rattle.std.specs.Prelude.{◌≡◌, ◌≤◌, ◌+◌, ◌++◌, ◌∷◌, [], OnOk, IfOk, codes, decimal, length, map, sum_by};
 ghost use Rattle.gq_model.specs.machine.Program.{Do, Done, size};
 ghost use Rattle.gq_model.specs.texts.Code.{greatest_statements};
-ghost use Rattle.gq_program.specs.Trees.{tree_of};
+ghost use Rattle.gq_program.specs.Statement_trees.{tree_of};
 ghost use Rattle.gq_races.specs.Races.{found_in, stated_in};
-ghost use Rattle.gq_races.specs.Text.{opened_text};
-ghost use Rattle.gq_races.specs.internal.Lines.{opened_line};
+ghost use Rattle.gq_races.specs.Race_text.{opened_text};
+ghost use Rattle.gq_races.specs.internal.Kind_lines.{opened_line};
 ghost use Rattle.gq_races.specs.internal.Openers.{opened_among, opens_among};
 ghost use Rattle.gq_views.specs.Listing.{joined, line};
 
-use crate::front::front_of;
+use crate::statement_prefix::prefix_of;
 use gq_model::program::{Instruction, Section};
-use gq_program::program::{Body, Program, Statement};
+use gq_program::program_tree::{Body, Program, Statement};
 use gq_resolve::component::Component;
 use gq_resolve::routes::server_of;
 use gq_scenario::scenario::LeafNo;
@@ -37,11 +37,11 @@ fn opens(
 }
 
 // The line of a statement with its number.
-fn push_number(text: &mut Vec<u8>, front: &[u8], number: usize) -> Result<(), AllocError>
-    ensures { OnOk result (text.new.items ≡ text.old.items ++ line 0 (codes "  opened by " ++ front.now ++ decimal number)) }
+fn push_number(text: &mut Vec<u8>, prefix: &[u8], number: usize) -> Result<(), AllocError>
+    ensures { OnOk result (text.new.items ≡ text.old.items ++ line 0 (codes "  opened by " ++ prefix.now ++ decimal number)) }
 {
     text.extend_from_slice(b"  opened by ")?;
-    text.extend_from_slice(front)?;
+    text.extend_from_slice(prefix)?;
     text.extend_from_slice(Buffer::new().format(number as u64).as_bytes())?;
     text.extend_from_slice(b"\n")
 }
@@ -52,16 +52,16 @@ fn push_if_opens(
     components: &[Component<'_>],
     component: &Component<'_>,
     leaf: LeafNo,
-    front: &[u8],
+    prefix: &[u8],
     number: usize,
     instruction: &Instruction,
 ) -> Result<(), AllocError>
     requires { length components.now ≤ 64 }
     ensures { OnOk result (text.new.items ≡ text.old.items
-        ++ joined (map (opened_line front.now) (found_in (opens_among components.now component.now leaf) number (Do instruction.now Done)))) }
+        ++ joined (map (opened_line prefix.now) (found_in (opens_among components.now component.now leaf) number (Do instruction.now Done)))) }
 {
     if opens(components, component, leaf, instruction) {
-        push_number(text, front, number)
+        push_number(text, prefix, number)
     } else {
         Ok(())
     }
@@ -74,14 +74,14 @@ fn push_opens_in(
     components: &[Component<'_>],
     component: &Component<'_>,
     leaf: LeafNo,
-    front: &[u8],
+    prefix: &[u8],
     number: usize,
     statement: &Statement,
 ) -> Result<usize, AllocError>
     requires few { length components.now ≤ 64 }
     requires numbers { number + size (tree_of (statement.now ∷ [])) ≤ 65536 }
     ensures lines { OnOk result (text.new.items ≡ text.old.items
-        ++ joined (map (opened_line front.now) (found_in (opens_among components.now component.now leaf) number (tree_of (statement.now ∷ []))))) }
+        ++ joined (map (opened_line prefix.now) (found_in (opens_among components.now component.now leaf) number (tree_of (statement.now ∷ []))))) }
     ensures next { IfOk result (λ next. next ≡ number + size (tree_of (statement.now ∷ []))) }
 {
     match statement {
@@ -91,18 +91,18 @@ fn push_opens_in(
                 components,
                 component,
                 leaf,
-                front,
+                prefix,
                 number,
                 instruction,
             )?;
             Ok(number + 1)
         }
         Statement::If(arm, other) => {
-            let between = push_opens(text, components, component, leaf, front, number + 1, arm)?;
-            push_opens(text, components, component, leaf, front, between, other)
+            let between = push_opens(text, components, component, leaf, prefix, number + 1, arm)?;
+            push_opens(text, components, component, leaf, prefix, between, other)
         }
         Statement::Loop(_, body) => {
-            push_opens(text, components, component, leaf, front, number + 1, body)
+            push_opens(text, components, component, leaf, prefix, number + 1, body)
         }
     }
 }
@@ -114,19 +114,19 @@ fn push_opens(
     components: &[Component<'_>],
     component: &Component<'_>,
     leaf: LeafNo,
-    front: &[u8],
+    prefix: &[u8],
     first: usize,
     body: &Body,
 ) -> Result<usize, AllocError>
     requires few { length components.now ≤ 64 }
     requires numbers { first + size body.now ≤ 65536 }
     ensures lines { OnOk result (text.new.items ≡ text.old.items
-        ++ joined (map (opened_line front.now) (found_in (opens_among components.now component.now leaf) first body.now))) }
+        ++ joined (map (opened_line prefix.now) (found_in (opens_among components.now component.now leaf) first body.now))) }
     ensures next { IfOk result (λ next. next ≡ first + size body.now) }
 {
     let mut number = first;
     for statement in body.statements() {
-        number = push_opens_in(text, components, component, leaf, front, number, statement)?;
+        number = push_opens_in(text, components, component, leaf, prefix, number, statement)?;
     }
     Ok(number)
 }
@@ -146,9 +146,17 @@ fn push_section(
     ensures { OnOk result (text.new.items ≡ text.old.items
         ++ joined (map opened_text (stated_in (λ section. opens_among components.now component.now leaf) component.now.label ((section, body.now) ∷ [])))) }
 {
-    let front = front_of(alloc, component.label(), section)?;
-    let pushed = push_opens(text, components, component, leaf, front.as_slice(), 1, body);
-    drop(front);
+    let prefix = prefix_of(alloc, component.label(), section)?;
+    let pushed = push_opens(
+        text,
+        components,
+        component,
+        leaf,
+        prefix.as_slice(),
+        1,
+        body,
+    );
+    drop(prefix);
     match pushed {
         Ok(_) => Ok(()),
         Err(refused) => Err(refused),

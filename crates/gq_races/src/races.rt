@@ -1,16 +1,16 @@
 // The statements by which the outcome of an accepted scenario could depend on the turns.
 ghost use Rattle.std.specs.Prelude.{◌≡◌, ◌≤◌, ◌++◌, ◌∷◌, [], List, IfOk, IfErr, IsOkAnd, OnOk, length, map};
 ghost use Rattle.gq_model.specs.machine.Scenario as model;
-ghost use Rattle.gq_init.specs.Counts.{written_to};
-ghost use Rattle.gq_load.specs.Faults.{Refuses};
+ghost use Rattle.gq_init.specs.Writer_failures.{written_to};
+ghost use Rattle.gq_load.specs.Load_faults.{Refuses};
 ghost use Rattle.gq_load.specs.Load.{loaded};
 ghost use Rattle.gq_races.specs.Races.{IsOrderFree, IsRaceFree, Stated, stated_of};
-ghost use Rattle.gq_races.specs.Text.{effect_text, has_effect, heading, races_text, shared_text, sharing_lines};
-ghost use Rattle.gq_races.specs.Written.{races_written, WroteNothing};
+ghost use Rattle.gq_races.specs.Race_text.{effect_text, has_effect, heading, races_text, shared_text, sharing_lines};
+ghost use Rattle.gq_races.specs.Races_written.{races_written, WroteNothing};
 ghost use Rattle.gq_races.specs.internal.Openers.{opened_among};
 ghost use Rattle.gq_races.specs.internal.Owners.{AreShared};
 ghost use Rattle.gq_views.specs.Listing.{joined};
-ghost use Rattle.gq_world.specs.Outcomes.{WritesAs};
+ghost use Rattle.gq_world.specs.Command_outcomes.{WritesAs};
 
 use crate::effects::push_leaf_effects;
 use crate::openers::all_opened;
@@ -18,13 +18,13 @@ use crate::opens::push_openers;
 use crate::owners::shared;
 use gq_init::counted::Counted;
 use gq_load::accepted::Accepted;
-use gq_load::fault::LoadError;
-use gq_program::program::Program;
+use gq_load::load_fault::LoadError;
+use gq_program::program_tree::Program;
 use gq_resolve::NodeTable;
 use gq_resolve::component::{Component, components};
 use gq_scenario::scenario::LeafNo;
 use gq_world::RunFault;
-use gq_world::text::put_text;
+use gq_world::command_text::put_text;
 use std::alloc::{AllocError, Global};
 use std::io::Write;
 

@@ -1,12 +1,12 @@
-mod Sums
-mod Numbers
-mod Balances
-mod Spending
-mod Freeing
+mod Account_sums
+mod Numbered_account_tables
+mod Balances_after_calls
+mod Balances_made_spaces
+mod Balances_freed_spaces
 mod Ram_opening
-mod First
-mod Closing
-pub mod Callers
-pub mod Moves
-pub mod Handed
-pub mod Opened
+mod First_balances
+mod Closed_account_balances
+pub mod Account_caller_facts
+pub mod Quota_move_sequences
+pub mod Quota_handed_down
+pub mod Node_accounts_opened

@@ -4,12 +4,12 @@ use Rattle.std.proofs.Common.{length-set}
 use Rattle.std.proofs.lemmas.List.{get_or-set_other}
 use Rattle.gq_ram.specs.declared.account.Account.{Account}
 use Rattle.gq_ram.specs.declared.account.AccountNo.{AccountNo}
-use Rattle.gq_ram.specs.Entries.{Entries, account_at, its_account, no_account, with_quota, with_caps, first_account, left_to, is_it, has_members, IsOpen}
+use Rattle.gq_ram.specs.Account_table.{Entries, account_at, its_account, no_account, with_quota, with_caps, first_account, left_to, is_it, has_members, IsOpen}
 use Rattle.gq_ram.specs.Owning.{owned}
 use Rattle.gq_ram.specs.Ledgers.{Ledger, IsBalanced, with_accounts}
-use Rattle.gq_ram.proofs.Sums.{it_true, no_member, open_there, sum_put, each_set, open_put, open_other}
-use Rattle.gq_ram.proofs.Numbers.{sum_opened, each_opened, open_opened}
-use Rattle.gq_ram.proofs.Balances.{HasReference}
+use Rattle.gq_ram.proofs.Account_sums.{it_true, no_member, open_there, sum_put, each_set, open_put, open_other}
+use Rattle.gq_ram.proofs.Numbered_account_tables.{sum_opened, each_opened, open_opened}
+use Rattle.gq_ram.proofs.Balances_after_calls.{HasReference}
 
 -- an account is opened: the number k has it, which had none, and each other number has what it had
 pub opened_balanced : (l : Ledger) (es' : Entries) (k : ℕ) (r : AccountNo) → IsBalanced l → get_or l.accounts k None ≡ None

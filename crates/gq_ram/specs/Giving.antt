@@ -3,8 +3,8 @@ use Rattle.std.specs.Prelude.{◌≡◌, ℕ, ◌<◌, ◌≤◌, ◌↔◌, len
 use Rattle.gq_tariff.specs.declared.amount.Amount.{Amount}
 use Rattle.gq_ram.specs.declared.account.AccountFault.{AccountFault}
 use Rattle.gq_ram.specs.declared.account.AccountFault.TheVariants.{Exceeded, CapsExceeded}
-use Rattle.gq_ram.specs.Entries.{Entries, IsOpen}
-use Rattle.gq_ram.specs.Trees.{Tree, AreNodes, number}
+use Rattle.gq_ram.specs.Account_table.{Entries, IsOpen}
+use Rattle.gq_ram.specs.Account_tree.{Tree, AreNodes, number}
 
 -- quota can go from the node i to the node j: they are two nodes of the tree, and their accounts are open
 pub record CanGive (t : Tree) (es : Entries) (i j : ℕ) : Type 0 where

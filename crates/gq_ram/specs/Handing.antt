@@ -1,7 +1,7 @@
 -- Quota that is handed down a tree: each node is handed an amount, which the nodes right below it are handed theirs from.
 use Rattle.std.specs.Prelude.{ℕ, ◌+◌, List, [], ◌∷◌, nat_eq, if◌then◌else◌}
 use Rattle.gq_tariff.specs.declared.amount.Amount.{Amount}
-use Rattle.gq_ram.specs.Trees.{Tree}
+use Rattle.gq_ram.specs.Account_tree.{Tree}
 
 -- all but the first
 abbrev pub tail : {A : Type 0} → List A → List A

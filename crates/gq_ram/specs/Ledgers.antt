@@ -1,12 +1,12 @@
 -- What a contract sees of an `Accounts`, and what holds in each.
 use Rattle.std.specs.Prelude.{◌≡◌, ℕ, ◌+◌, ◌*◌, ◌/◌, ◌≤◌, List, [], ◌∷◌, Option, Some, None, replicate, length, get_or, slice_set, is_some, IfSome}
 use Rattle.gq_tariff.specs.Prices.{up}
-use Rattle.gq_pages.specs.Bytes.{zeros}
-use Rattle.gq_pages.specs.Frames.{has_bytes, all_free}
+use Rattle.gq_pages.specs.Frame_bytes.{zeros}
+use Rattle.gq_pages.specs.Frame_map.{has_bytes, all_free}
 use Rattle.gq_dataspace.specs.Dataspaces.{Dataspaces, IsVacant, content_of}
 use Rattle.gq_dataspace.specs.declared.spaces.DsId.{DsId}
 use Rattle.gq_ram.specs.declared.account.AccountNo.{AccountNo}
-use Rattle.gq_ram.specs.Entries.{Entries, no_amount, account_at, charged, left_to, sum_over, IsOpen}
+use Rattle.gq_ram.specs.Account_table.{Entries, no_amount, account_at, charged, left_to, sum_over, IsOpen}
 use Rattle.gq_ram.specs.Owning.{IsOf, Owners, owned}
 
 pub record Ledger : Type 0 where

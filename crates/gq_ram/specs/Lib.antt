@@ -1,8 +1,8 @@
-pub mod Entries
+pub mod Account_table
 pub mod Owning
 pub mod Ledgers
 pub mod internal
-pub mod Trees
+pub mod Account_tree
 pub mod Handing
 pub mod Giving
 pub mod Opening

@@ -1,7 +1,7 @@
 -- Accounts that were opened for the nodes of a tree.
 use Rattle.std.specs.Prelude.{◌≡◌, ℕ, ◌<◌, length, Some, None, get_or}
-use Rattle.gq_ram.specs.Entries.{Entries, first_account, IsOpen}
-use Rattle.gq_ram.specs.Trees.{Tree, number, parent, AreNodes}
+use Rattle.gq_ram.specs.Account_table.{Entries, first_account, IsOpen}
+use Rattle.gq_ram.specs.Account_tree.{Tree, number, parent, AreNodes}
 
 -- each node of t has an account that is open, and no other account is
 pub record IsOpened (t : Tree) (old new : Entries) : Type 0 where

@@ -2,11 +2,11 @@
 ghost use Rattle.std.specs.Prelude.{◌≡◌, [], ◌∷◌, ◌+◌, ◌-◌, ◌%◌, ◌<◌, ◌≤◌, ℕ, length, replicate, slice_index, slice_set, get_or};
 ghost use Rattle.std.specs.Prelude.{Some, None, Ok, Err, IfOk, IfSome, OnOk, OnErr};
 ghost use Rattle.std.specs.Int.{w32, to_le_bytes};
-ghost use Rattle.gq_pages.specs.Bytes.{zeroed, word_at, with_bytes};
+ghost use Rattle.gq_pages.specs.Frame_bytes.{zeroed, word_at, with_bytes};
 ghost use Rattle.gq_dataspace.specs.Dataspaces.{content_of};
-ghost use Rattle.gq_ram.specs.Entries.{account_at, with_use, first_account, relieved, quotas_set, quota_moved, caps_moved};
-ghost use Rattle.gq_ram.specs.Entries.{are_related, available, available_caps, has_members, is_it, passed, IsOpen};
-ghost use Rattle.gq_ram.specs.Entries.{IsRefusedFor, transfer_refusal, transfer_caps_refusal, alloc_refusal, close_refusal};
+ghost use Rattle.gq_ram.specs.Account_table.{account_at, with_use, first_account, relieved, quotas_set, quota_moved, caps_moved};
+ghost use Rattle.gq_ram.specs.Account_table.{are_related, available, available_caps, has_members, is_it, passed, IsOpen};
+ghost use Rattle.gq_ram.specs.Account_table.{IsRefusedFor, transfer_refusal, transfer_caps_refusal, alloc_refusal, close_refusal};
 ghost use Rattle.gq_ram.specs.Owning.{IsOf};
 ghost use Rattle.gq_ram.specs.Ledgers.{MakesDataspace, ClosesAccount, IsBalanced, IsSameWhole, with_accounts, with_content, first_ledger};
 
@@ -24,7 +24,7 @@ const NOTHING: Amount = Amount { ram: 0, caps: 0 };
 
 /// Accounts, each with a quota of bytes and one of capabilities, and the dataspaces that they pay for. A contract sees the table of accounts, the
 /// dataspaces, and which account each is of. The quotas of each kind always sum to their totals, and the bytes of the free frames and all that is
-/// used to the total. No call but `new` and `add` takes host memory.
+/// used to the total. No call but `new` and `add` allocates host memory.
 #[derive(Drop)]
 pub struct Accounts {
     // an account's number is its key
@@ -41,7 +41,7 @@ impl Model for Accounts {
 
     ghost Value = { Ledger };
 
-    ghost use Rattle.gq_ram.specs.internal.Fields.{ledger_view, IsAccounts};
+    ghost use Rattle.gq_ram.specs.internal.Accounts_fields.{ledger_view, IsAccounts};
 
     ghost view = { ledger_view };
 
@@ -476,7 +476,7 @@ fn no_owners(alloc: Global, count: u32) -> Result<Vec<Option<AccountNo>>, AllocE
     Vec::from_elem(alloc, None, count as usize)
 }
 
-// The root account and no other. What is inserted is told key by key; as the slab is shrunk, it is known to end with the root's place.
+// The root account and no other. What is inserted is reported key by key; as the slab is shrunk, it is known to end with the root's place.
 fn root_alone(alloc: Global, root: Account) -> Result<Slab<Account>, AllocError>
     ensures { IfOk result (λ accounts. accounts.slots ≡ Some root ∷ []) }
 {

@@ -1,12 +1,12 @@
 // Quota that is handed down the tree, from the root to its leaves.
 ghost use Rattle.std.specs.Prelude.{◌≡◌, ℕ, ◌+◌, ◌<◌, ◌≤◌, ◌↔◌, length, get_or};
-ghost use Rattle.gq_ram.specs.Entries.{account_at, no_amount, IsOpen};
+ghost use Rattle.gq_ram.specs.Account_table.{account_at, no_amount, IsOpen};
 ghost use Rattle.gq_ram.specs.Ledgers.{with_accounts};
-ghost use Rattle.gq_ram.specs.Trees.{account_of, number, AreNodes};
+ghost use Rattle.gq_ram.specs.Account_tree.{account_of, number, AreNodes};
 ghost use Rattle.gq_ram.specs.Handing.{spent};
 
+use crate::account_tree::AccountTree;
 use crate::accounts::Accounts;
-use crate::tree::AccountTree;
 use gq_tariff::Amount;
 
 impl AccountTree {

@@ -26,15 +26,15 @@
 //! tree.donate(&mut accounts, client, server, Amount { ram: 8192, caps: 1 })?;
 //! ```
 //!
-//! Modules: accounts (`accounts`), and the tree of nodes along which quota goes (`tree`, `opening`, `handing`).
+//! Modules: accounts (`accounts`), and the tree of nodes along which quota goes (`account_tree`, `opening`, `handing`).
 #![tactic(auto)]
 
 mod account;
+pub mod account_tree;
 mod accounts;
 mod handing;
 mod opening;
-pub mod tree;
 
 pub use account::{AccountFault, AccountNo};
+pub use account_tree::AccountTree;
 pub use accounts::Accounts;
-pub use tree::AccountTree;

@@ -1,11 +1,11 @@
 // Accounts that are opened for the nodes of a tree.
 ghost use Rattle.std.specs.Prelude.{◌≡◌, ℕ, ◌<◌, ◌≤◌, length, get_or, IfOk};
-ghost use Rattle.gq_ram.specs.Entries.{IsOpen};
+ghost use Rattle.gq_ram.specs.Account_table.{IsOpen};
 ghost use Rattle.gq_ram.specs.Ledgers.{with_accounts};
 ghost use Rattle.gq_ram.specs.Opening.{IsOpened};
 
+use crate::account_tree::AccountTree;
 use crate::accounts::Accounts;
-use crate::tree::AccountTree;
 use std::alloc::{AllocError, Global};
 
 impl AccountTree {

@@ -7,8 +7,8 @@ use Rattle.hex.specs.Hex.{hex_digit_value, digit_or_error, ◌>>=◌, decode_pai
 use Rattle.hex.specs.declared.error.FromHexError.{FromHexError}
 use Rattle.hex.specs.declared.error.FromHexError.TheVariants.{OutOfMemory}
 use Rattle.gq_model.specs.machine.Lists.{all_of}
-use Rattle.gq_scenario.specs.Keys.{hex_value, byte_before, unhex}
-use Rattle.gq_model.proofs.Small.{not_both}
+use Rattle.gq_scenario.specs.Table_keys.{hex_value, byte_before, unhex}
+use Rattle.gq_model.proofs.Small_facts.{not_both}
 
 -- DIGITS
 

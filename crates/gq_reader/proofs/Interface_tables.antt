@@ -10,9 +10,9 @@ use Rattle.gq_model.specs.texts.Letters.{is_name}
 use Rattle.gq_model.specs.texts.Operands.{greatest_number}
 use Rattle.gq_model.specs.machine.Scenario.{Interface, Interfaces}
 use Rattle.gq_program.specs.Interfaces as code
-use Rattle.gq_scenario.specs.Keys.{KeyRule, required, optional, list_length, items_of, is_number, is_quantity, is_table, table_fault}
-use Rattle.gq_scenario.specs.Tables.{greatest_caps, items_at, is_upgrades, is_upgrade_caps, are_named_tables, interface_keys}
-use Rattle.gq_scenario.specs.Trees.{version_number}
+use Rattle.gq_scenario.specs.Table_keys.{KeyRule, required, optional, list_length, items_of, is_number, is_quantity, is_table, table_fault}
+use Rattle.gq_scenario.specs.Document_tables.{greatest_caps, items_at, is_upgrades, is_upgrade_caps, are_named_tables, interface_keys}
+use Rattle.gq_scenario.specs.Component_trees.{version_number}
 use Rattle.gq_scenario.specs.declared.scenario.Version.{Version}
 use Rattle.gq_scenario.specs.declared.scenario.Version.TheVariants.{Two, Three}
 use Rattle.gq_scenario.specs.Document.{number_at, quantity_at, list_at, interface_of, interfaces_of, interfaces_fault, keys_of}
@@ -22,10 +22,10 @@ use Rattle.std.specs.Map.{keys_of as keys}
 use Rattle.std.specs.String.{string_cmp}
 use Rattle.toml.specs.View.{members_view}
 use Rattle.toml.proofs.Views.{Entry}
-use Rattle.gq_reader.proofs.Faults.{members_at_table}
-use Rattle.gq_reader.proofs.Passed.{absent}
-use Rattle.gq_reader.proofs.Kept.{kept, number_small, quantity_small, all_at, few_at}
-use Rattle.gq_model.proofs.Small.{or_first_none}
+use Rattle.gq_reader.proofs.Reported_table_faults.{members_at_table}
+use Rattle.gq_reader.proofs.Faultless_table_facts.{absent}
+use Rattle.gq_reader.proofs.Table_rules_kept.{kept, number_small, quantity_small, all_at, few_at}
+use Rattle.gq_model.proofs.Small_facts.{or_first_none}
 
 abbrev keys_by : Bool → Members → List KeyRule
 keys_by two entries =
@@ -97,7 +97,7 @@ pub counted_keys : (v : Version) (entries : Members) → (v ≡ Two) ⊎ (v ≡ 
 counted_keys v entries (inl e) = rw e refl
 counted_keys v entries (inr e) = rw e refl
 
--- version 1 tells no capabilities
+-- version 1 reports no capabilities
 pub none_in_one : (entries : Members) → table_fault (interface_keys 1 entries) entries ≡ None → number_at (codes "need-caps") entries ≡ 0
 none_in_one entries e =
     let (known, k) = kept (keys_by false entries) entries e in

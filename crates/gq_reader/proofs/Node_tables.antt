@@ -7,17 +7,19 @@ use Rattle.toml.specs.Data.{Data, string, integer, float, boolean, datetime, arr
 use Rattle.gq_model.specs.machine.Lists.{all_of, between}
 use Rattle.gq_model.specs.texts.Letters.{is_name}
 use Rattle.gq_model.specs.texts.Operands.{greatest_number}
-use Rattle.gq_scenario.specs.Keys.{KeyRule, required, optional, either, other, has, is_number, is_quantity, is_text, is_hex, is_name_text, is_table, is_list}
-use Rattle.gq_scenario.specs.Keys.{items_of, list_length, unknown_key, table_fault}
-use Rattle.gq_scenario.specs.Keys.{text_of}
-use Rattle.gq_scenario.specs.Tables.{is_declared, is_inputs, are_named_names, is_named_names, greatest_caps, route_keys}
+use Rattle.gq_scenario.specs.Table_keys.{KeyRule, required, optional, either, other, has, is_number, is_quantity, is_text, is_hex, is_name_text, is_table}
+use Rattle.gq_scenario.specs.Table_keys.{is_list}
+use Rattle.gq_scenario.specs.Table_keys.{items_of, list_length, unknown_key, table_fault}
+use Rattle.gq_scenario.specs.Table_keys.{text_of}
+use Rattle.gq_scenario.specs.Document_tables.{is_declared, is_inputs, are_named_names, is_named_names, greatest_caps, route_keys}
 use Rattle.gq_scenario.specs.Document.{or_empty, text_at, list_at, number_at, quantity_at, table_of, offers_of}
 use Rattle.gq_scenario.specs.Sizes.{IsQuantum}
 use Rattle.gq_model.specs.machine.Scenario.{Offers}
-use Rattle.gq_reader.specs.internal.Sound.{is_name_or_none, has_source, offers_at, IsLeafTable, IsInitTable}
-use Rattle.gq_reader.proofs.Passed.{absent}
-use Rattle.gq_reader.proofs.Kept.{AreKept, fits_or_none, kept, kept_parts, one_there, some_there, last_there, number_small, quantity_small, name_or_none}
-use Rattle.gq_reader.proofs.Kept.{name_there, declared_name, source_there, all_at, few_at}
+use Rattle.gq_reader.specs.internal.Faultless_tables.{is_name_or_none, has_source, offers_at, IsLeafTable, IsInitTable}
+use Rattle.gq_reader.proofs.Faultless_table_facts.{absent}
+use Rattle.gq_reader.proofs.Table_rules_kept.{AreKept, fits_or_none, kept, kept_parts, one_there, some_there, last_there, number_small, quantity_small}
+use Rattle.gq_reader.proofs.Table_rules_kept.{name_or_none}
+use Rattle.gq_reader.proofs.Table_rules_kept.{name_there, declared_name, source_there, all_at, few_at}
 
 -- THE KEYS, by whether the version is at least 2, and at least 3
 

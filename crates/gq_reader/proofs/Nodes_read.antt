@@ -8,17 +8,17 @@ use Rattle.toml.specs.declared.value.Value.{Value}
 use Rattle.toml.proofs.Views.{items_view-drop}
 use Rattle.gq_model.specs.machine.Lists.{or_first}
 use Rattle.gq_model.specs.machine.Scenario.{Route, LeafNode, InitNode, Nodes, Leaf_node, Init_node}
-use Rattle.gq_scenario.specs.Keys.{DocumentFault, members_of, listed, table_fault}
-use Rattle.gq_scenario.specs.Tables.{init_keys, leaf_keys}
+use Rattle.gq_scenario.specs.Table_keys.{DocumentFault, members_of, listed, table_fault}
+use Rattle.gq_scenario.specs.Document_tables.{init_keys, leaf_keys}
 use Rattle.gq_scenario.specs.Document.{is_init, leaf_of, init_of, list_at, routes_of, routes_fault, first_of, node_fault, node_onto, nodes_by}
-use Rattle.gq_reader.specs.internal.Sound.{route_of, IsLeafTable, IsInitTable, IsNode, AreNodes}
-use Rattle.gq_scenario.specs.Trees.{before, onto, IsBefore}
+use Rattle.gq_reader.specs.internal.Faultless_tables.{route_of, IsLeafTable, IsInitTable, IsNode, AreNodes}
+use Rattle.gq_scenario.specs.Component_trees.{before, onto, IsBefore}
 use Rattle.gq_reader.specs.internal.Walk.{own_fault, keys_fault}
 use Rattle.gq_scenario.specs.declared.scenario.Node.{Node}
 use Rattle.gq_scenario.specs.declared.scenario.Node.TheVariants.{Leaf, Init}
-use Rattle.gq_reader.proofs.Faults.{members_at_table}
-use Rattle.gq_reader.proofs.Walked.{node_step, nameless}
-use Rattle.gq_model.proofs.Small.{or_first_none}
+use Rattle.gq_reader.proofs.Reported_table_faults.{members_at_table}
+use Rattle.gq_reader.proofs.First_document_fault.{node_step, nameless}
+use Rattle.gq_model.proofs.Small_facts.{or_first_none}
 
 -- the route of the first of the rest
 pub route_read : (done : List Route) (vs : List Value) (i : ℕ) (v : Value) (t : Members) → i < length vs → v ≡ get_or vs i v → as_table (view v) ≡ Some t
@@ -139,8 +139,8 @@ module _ (levels : ℕ) (vs : List Value) (i : ℕ) (v : Value) (within : i < le
       (sym (first_is (node_fault levels t.version t.services)) ∙ t.sound)
 
   pub node_passed : (t : Members) → as_table (view v) ≡ Some t → AreNodes levels (listed (items_view (drop i vs))) → IsNode levels t
-  node_passed t told nodes =
-      record { version = nodes.version; services = nodes.services; names = nodes.names; sound = rw (members_at_table (view v) t told) at (parted nodes).0 }
+  node_passed t reported nodes =
+      record { version = nodes.version; services = nodes.services; names = nodes.names; sound = rw (members_at_table (view v) t reported) at (parted nodes).0 }
 
   pub rest_passed : AreNodes levels (listed (items_view (drop i vs))) → AreNodes levels (listed (items_view (drop (i + 1) vs)))
   rest_passed nodes = record { version = nodes.version; services = nodes.services; names = nodes.names; sound = (parted nodes).1 }
@@ -159,8 +159,8 @@ module _ (levels : ℕ) (vs : List Value) (i : ℕ) (v : Value) (within : i < le
   pub node_read : (done : List Node) (node : Node) (t : Members) → as_table (view v) ≡ Some t → IsBefore node (node_onto levels t)
       → onto (done ++ node ∷ []) (nodes_by (node_onto levels) (listed (items_view (drop (i + 1) vs))))
       ≡ onto done (nodes_by (node_onto levels) (listed (items_view (drop i vs))))
-  node_read done node t told b =
+  node_read done node t reported b =
       let rest = nodes_by (node_onto levels) (listed (items_view (drop (i + 1) vs))) in
       let one : nodes_by (node_onto levels) (listed (items_view (drop i vs))) ≡ node_onto levels t rest =
-      rw (items_view-drop vs i v within, ← is, ← members_at_table (view v) t told) refl in
+      rw (items_view-drop vs i v within, ← is, ← members_at_table (view v) t reported) refl in
       onto-append done node rest ∙ ap (onto done) (b.is rest ∙ sym one)

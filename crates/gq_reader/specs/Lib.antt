@@ -1,2 +1,2 @@
 pub mod internal
-pub mod Rules
+pub mod Key_rules

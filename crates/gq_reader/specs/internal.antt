@@ -1,3 +1,3 @@
-pub mod Parts
-pub mod Sound
+pub mod Document_parts
+pub mod Faultless_tables
 pub mod Walk

@@ -1,9 +1,9 @@
 // The top table of a scenario's text.
-ghost use Rattle.gq_scenario.specs.Reading.{document_in};
-ghost use Rattle.gq_scenario.specs.Words.{IsDocument};
+ghost use Rattle.gq_scenario.specs.Top_table.{document_in};
+ghost use Rattle.gq_scenario.specs.Fault_words.{IsDocument};
 
 use gq_model::limits::GREATEST_SCENARIO;
-use gq_scenario::fault::{ScenarioError, ScenarioFault};
+use gq_scenario::scenario_fault::{ScenarioError, ScenarioFault};
 use std::alloc::{AllocError, Global};
 use toml::Table;
 

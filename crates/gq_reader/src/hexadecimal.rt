@@ -2,7 +2,7 @@
 ghost use Rattle.std.specs.Prelude.{◌≡◌, true, is_some, IfOk, Some};
 ghost use Rattle.std.specs.Char.{is_ascii_hexdigit};
 ghost use Rattle.gq_model.specs.machine.Lists.{all_of};
-ghost use Rattle.gq_scenario.specs.Keys.{unhex};
+ghost use Rattle.gq_scenario.specs.Table_keys.{unhex};
 
 use hex::FromHexError;
 use std::alloc::{AllocError, Global};

@@ -6,17 +6,17 @@
 //! let scenario = read_scenario(alloc, text)?;
 //! ```
 //!
-//! Modules: the keys of each table (`keys`), faults of tables (`rules`, `walk`), and what is read (`reader`).
+//! Modules: the keys of each table (`table_keys`), faults of tables (`rules`, `first_fault_walk`), and what is read (`reader`).
 #![tactic(auto)]
 
 pub mod document;
+pub mod first_fault_walk;
 pub mod hexadecimal;
-mod interfaces;
-pub mod keys;
+mod interface_reading;
 pub mod reader;
 pub mod rules;
-mod tables;
+pub mod table_keys;
+mod table_reading;
 pub mod value;
-pub mod walk;
 
 pub use reader::read_scenario;

@@ -2,23 +2,23 @@
 ghost use Rattle.std.specs.Prelude.{◌≡◌, ◌≤◌, ◌∷◌, [], None, length, option_map, codes, IfOk};
 ghost use Rattle.toml.specs.View.{table_view};
 ghost use Rattle.gq_scenario.specs.Document.{keys_of, names_of, name_twice, walk_fault, described, document_fault};
-ghost use Rattle.gq_reader.specs.internal.Parts.{interfaces_at, are_too_many, parts_fault};
-ghost use Rattle.gq_scenario.specs.Made.{scenario_made};
-ghost use Rattle.gq_scenario.specs.Reading.{described_or, scenario_in};
-ghost use Rattle.gq_scenario.specs.Words.{SameFault, IsRead};
+ghost use Rattle.gq_reader.specs.internal.Document_parts.{interfaces_at, are_too_many, parts_fault};
+ghost use Rattle.gq_scenario.specs.Scenario_parts.{scenario_made};
+ghost use Rattle.gq_scenario.specs.Top_table.{described_or, scenario_in};
+ghost use Rattle.gq_scenario.specs.Fault_words.{SameFault, IsRead};
 
 use crate::document::read_document;
-use crate::interfaces::read_interfaces;
-use crate::tables::{read_nodes, read_quantum, read_routes_at, take_list};
+use crate::first_fault_walk::{version_of, walk_fault};
+use crate::interface_reading::read_interfaces;
+use crate::table_reading::{read_nodes, read_quantum, read_routes_at, take_list};
 use crate::value::table_at;
-use crate::walk::{version_of, walk_fault};
 use gq_model::limits::GREATEST_NODE_DEPTH;
-use gq_scenario::fault::{ScenarioError, ScenarioFault};
-use gq_scenario::key::Key;
-use gq_scenario::scenario::{Nodes, Parts, Route, Scenario, told};
-use gq_scenario::tree::{
+use gq_scenario::component_tree::{
     GREATEST_COUNT, count_inits, count_leaves, has_long_routes, is_long, name_twice, push_names,
 };
+use gq_scenario::key::Key;
+use gq_scenario::scenario::{Nodes, Parts, Route, Scenario, reported};
+use gq_scenario::scenario_fault::{ScenarioError, ScenarioFault};
 use std::alloc::{AllocError, Global};
 use toml::Table;
 
@@ -100,7 +100,7 @@ fn document_scenario(alloc: Global, top: Table) -> Result<Scenario, ScenarioErro
         return Err(ScenarioError::Fault(ScenarioFault::TooMany));
     }
     let parts = read_parts(alloc, top)?;
-    match parts_fault(alloc, told(&parts.default_routes), &parts.nodes)? {
+    match parts_fault(alloc, reported(&parts.default_routes), &parts.nodes)? {
         Some(fault) => Err(ScenarioError::Fault(fault)),
         None => Ok(Scenario::new(parts)),
     }

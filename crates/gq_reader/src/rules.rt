@@ -4,20 +4,20 @@ ghost use Rattle.toml.specs.Data.{array, get_member};
 ghost use Rattle.toml.specs.View.{view, table_view, items_view};
 ghost use Rattle.gq_model.specs.machine.Lists.{any_of, all_of};
 ghost use Rattle.gq_model.specs.machine.Program.{text_eq};
-ghost use Rattle.gq_scenario.specs.Keys.{is_table, is_number, is_quantity, is_hex, is_name_text, is_true, listed, required, optional, either, other, has};
-ghost use Rattle.gq_scenario.specs.Keys.{is_bad, unknown_key, missing_key, bad_value, table_fault};
-ghost use Rattle.gq_scenario.specs.Tables.{is_total, is_upgrades, is_inputs, are_named_tables, are_named_names};
+ghost use Rattle.gq_scenario.specs.Table_keys.{is_table, is_number, is_quantity, is_hex, is_name_text, is_true, listed, required, optional, either, other, has};
+ghost use Rattle.gq_scenario.specs.Table_keys.{is_bad, unknown_key, missing_key, bad_value, table_fault};
+ghost use Rattle.gq_scenario.specs.Document_tables.{is_total, is_upgrades, is_inputs, are_named_tables, are_named_names};
 ghost use Rattle.gq_model.specs.texts.Operands.{greatest_number};
 ghost use Rattle.gq_scenario.specs.Document.{keys_of};
-ghost use Rattle.gq_scenario.specs.Words.{key_text, SameFault};
-ghost use Rattle.gq_reader.specs.Rules.{entries_or_none, are_counts, fits_of, rule_of};
+ghost use Rattle.gq_scenario.specs.Fault_words.{key_text, SameFault};
+ghost use Rattle.gq_reader.specs.Key_rules.{entries_or_none, are_counts, fits_of, rule_of};
 
 use crate::hexadecimal::is_hex;
 use crate::value::{has, number_of, quantity, value_at};
 use gq_model::letters::is_name;
 use gq_model::limits::{GREATEST_CAPS, INPUTS};
-use gq_scenario::fault::ScenarioFault;
 use gq_scenario::key::{Key, key_of};
+use gq_scenario::scenario_fault::ScenarioFault;
 use toml::{Table, Value};
 
 /// The values that fit a key.

@@ -2,11 +2,11 @@
 ghost use Rattle.std.specs.Prelude.{◌≡◌, option_map};
 ghost use Rattle.toml.specs.Data.{get_member};
 ghost use Rattle.toml.specs.View.{view, table_view, items_view};
-ghost use Rattle.gq_scenario.specs.Keys.{number_of, quantity, has, listed, list_length};
-ghost use Rattle.gq_scenario.specs.Tables.{items_at};
+ghost use Rattle.gq_scenario.specs.Table_keys.{number_of, quantity, has, listed, list_length};
+ghost use Rattle.gq_scenario.specs.Document_tables.{items_at};
 ghost use Rattle.gq_scenario.specs.Document.{text_at, number_at, quantity_at, list_at, table_of};
-ghost use Rattle.gq_reader.specs.Rules.{entries_or_none};
-ghost use Rattle.gq_scenario.specs.Words.{key_text};
+ghost use Rattle.gq_reader.specs.Key_rules.{entries_or_none};
+ghost use Rattle.gq_scenario.specs.Fault_words.{key_text};
 
 use gq_scenario::key::Key;
 use gq_tariff::quantity::read_quantity;

@@ -1,4 +1,4 @@
-mod Lowest
-pub mod Callers
-mod Founds
-mod Payers
+mod Lowest_free_region
+pub mod Region_caller_facts
+mod Found_region_bytes
+mod Buffer_payers

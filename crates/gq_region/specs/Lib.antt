@@ -1,3 +1,3 @@
-pub mod Places
+pub mod Region_places
 pub mod internal
-pub mod Addresses
+pub mod Region_addresses

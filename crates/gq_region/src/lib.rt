@@ -16,7 +16,7 @@
 //! A leaf has 2^32 addresses, a window of 2^26 for each of its 64 slots. At those of a link are the bytes of the buffer of its session.
 //!
 //! ```rust
-//! use gq_region::addresses;
+//! use gq_region::region_addresses;
 //! use gq_slots::Addresses;
 //! use gq_trade::Spot;
 //!
@@ -31,7 +31,7 @@
 //! ```
 #![tactic(auto)]
 
-pub mod addresses;
 mod map;
+pub mod region_addresses;
 
 pub use map::{Base, Full, Range, RegionMap};

@@ -1,6 +1,6 @@
 // A table of places, each free or with what is attached there.
 ghost use Rattle.std.specs.Prelude.{◌≡◌, ℕ, ◌*◌, ◌/◌, ◌%◌, ◌^◌, ◌<◌, ◌≤◌, ◌↔◌, length, replicate, Some, None, slice_set, IfOk, OnErr, IsOk};
-ghost use Rattle.gq_region.specs.Places.{IsTaken, lowest_free, resolved};
+ghost use Rattle.gq_region.specs.Region_places.{IsTaken, lowest_free, resolved};
 
 use std::alloc::{AllocError, Global};
 use std::marker::Model;
@@ -26,7 +26,7 @@ pub struct Base(pub u64);
 pub struct Full;
 
 /// A region map: so many places, each a window of 2^26 addresses, one behind the other from address 0 on. A contract sees the list of what is
-/// attached at each. No call but `new` takes host memory.
+/// attached at each. No call but `new` allocates host memory.
 #[derive(Drop)]
 pub struct RegionMap {
     places: Vec<Option<Range>>,
@@ -35,11 +35,11 @@ pub struct RegionMap {
 }
 
 impl Model for RegionMap {
-    ghost use Rattle.gq_region.specs.Places.{Places};
+    ghost use Rattle.gq_region.specs.Region_places.{Places};
 
     ghost Value = { Places };
 
-    ghost use Rattle.gq_region.specs.internal.Fields.{IsMap};
+    ghost use Rattle.gq_region.specs.internal.Region_fields.{IsMap};
 
     ghost view = { λ m. m.places.items };
 

@@ -6,7 +6,7 @@ use Rattle.gq_model.specs.machine.Scenario.{Component}
 use Rattle.gq_model.specs.machine.Lists.{any_of}
 use Rattle.gq_model.specs.rules.Resolve.{Bad_after, with_name, is_bad_after, after_fault}
 use Rattle.gq_resolve.specs.internal.Afters.{named_by, holds, is_named}
-use Rattle.gq_scenario.proofs.Names.{swapped}
+use Rattle.gq_scenario.proofs.Repeated_names.{swapped}
 use Rattle.std.proofs.Math.Bool.{or-false}
 
 named_by-append : (names : List (List ℕ)) (cs : List Component) (c : Component) → named_by names (cs ++ c ∷ []) ≡ with_name c.node.after (named_by names cs)

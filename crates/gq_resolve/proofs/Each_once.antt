@@ -6,7 +6,7 @@ use Rattle.gq_model.specs.machine.Scenario.{Component}
 use Rattle.gq_model.specs.machine.Routes.{route}
 use Rattle.gq_model.specs.rules.Resolve.{Unresolved, unrouted, services_fault}
 use Rattle.gq_resolve.specs.Served.{without, once}
-use Rattle.gq_model.proofs.Small.{text_is}
+use Rattle.gq_model.proofs.Small_facts.{text_is}
 
 module _ (c : Component) where
   abbrev fault : List ℕ → Option Unresolved

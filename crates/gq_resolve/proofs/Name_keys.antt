@@ -9,15 +9,15 @@ use Rattle.gq_model.specs.machine.Lists.{any_of}
 use Rattle.gq_model.specs.machine.Program.{text_eq}
 use Rattle.gq_model.specs.machine.Scenario.{Component, Nodes, Offers}
 use Rattle.gq_model.specs.machine.Routes.{Routed, is_service, offer_of, offered, providers, numbered}
-use Rattle.gq_scenario.specs.Trees.{nodes_of}
+use Rattle.gq_scenario.specs.Component_trees.{nodes_of}
 use Rattle.gq_scenario.specs.declared.scenario.Node.{Node}
 use Rattle.gq_scenario.specs.declared.scenario.Node.TheVariants.{Leaf, Init}
-use Rattle.gq_program.specs.Keys.{key_of}
-use Rattle.gq_resolve.specs.internal.Keys.{provided_key, node_key, keys_of, is_silent, are_silent, name_keys, route_keys}
+use Rattle.gq_program.specs.Name_keys.{key_of}
+use Rattle.gq_resolve.specs.internal.Search_keys.{provided_key, node_key, keys_of, is_silent, are_silent, name_keys, route_keys}
 use Rattle.gq_resolve.specs.Served.{server_in}
-use Rattle.gq_model.proofs.Small.{text_is}
-use Rattle.gq_program.proofs.Skipped.{skipped, rest, not_both}
-use Rattle.gq_resolve.proofs.Named as named
+use Rattle.gq_model.proofs.Small_facts.{text_is}
+use Rattle.gq_program.proofs.Skipped_list_ends.{skipped, rest, not_both}
+use Rattle.gq_resolve.proofs.Names_by_key as named
 
 not_so : (b : Bool) → (b ≡ true → ⊥) → b ≡ false
 not_so false h = refl

@@ -12,12 +12,12 @@ use Rattle.gq_model.specs.machine.Program.{Statements, Done, Do}
 use Rattle.gq_model.specs.machine.Program as program
 use Rattle.gq_model.specs.rules.Use.{opened_by, services_of}
 use Rattle.gq_program.specs.Notes.{asks_nothing, is_quiet}
-use Rattle.gq_program.specs.Trees.{tree_of}
-use Rattle.gq_program.specs.declared.program.Statement.{Statement}
-use Rattle.gq_program.specs.declared.program.Statement.TheVariants.{Plain, If, Loop}
+use Rattle.gq_program.specs.Statement_trees.{tree_of}
+use Rattle.gq_program.specs.declared.program_tree.Statement.{Statement}
+use Rattle.gq_program.specs.declared.program_tree.Statement.TheVariants.{Plain, If, Loop}
 use Rattle.gq_resolve.specs.Served.{without, once}
-use Rattle.gq_program.proofs.Sizes.{here_is}
-use Rattle.gq_model.proofs.Small.{text_is}
+use Rattle.gq_program.proofs.Statement_list_sizes.{here_is}
+use Rattle.gq_model.proofs.Small_facts.{text_is}
 
 -- STATEMENTS
 

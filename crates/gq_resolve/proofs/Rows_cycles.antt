@@ -11,7 +11,7 @@ uses_none = refl
 uses_itself : first_on_cycle ([] ∷ (1 ∷ []) ∷ []) ≡ Some 1
 uses_itself = refl
 
--- two leaves use each other: the first is told
+-- two leaves use each other: the first is reported
 each_other : first_on_cycle ((1 ∷ []) ∷ (0 ∷ []) ∷ []) ≡ Some 0
 each_other = refl
 

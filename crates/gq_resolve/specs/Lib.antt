@@ -1,4 +1,4 @@
-pub mod Resolved
+pub mod Resolve_faults
 pub mod Reaching
 pub mod internal
 pub mod Routing

@@ -47,21 +47,21 @@ abbrev pub server_in : List ℕ → List (List ℕ × ℕ) → Option ℕ
 server_in service [] = None
 server_in service (e ∷ rest) = if text_eq service e.0 then Some e.1 else server_in service rest
 
-abbrev pub server_told : List ℕ → Option (List (List ℕ × ℕ)) → Option ℕ
-server_told service None = None
-server_told service (Some entries) = server_in service entries
+abbrev pub server_reported : List ℕ → Option (List (List ℕ × ℕ)) → Option ℕ
+server_reported service None = None
+server_reported service (Some entries) = server_in service entries
 
 -- the server of the x-th leaf's service
 abbrev pub server_at : ℕ → List ℕ → List (List (List ℕ × ℕ)) → Option ℕ
-server_at x service routes = server_told service (slice_get routes x)
+server_at x service routes = server_reported service (slice_get routes x)
 
 -- the servers alone
 abbrev pub servers : List (List ℕ × ℕ) → List ℕ
 servers entries = map (λ e. e.1) entries
 
--- the x-th leaf's server of each service that it opens is told, and of no other; each of these has one
+-- the x-th leaf's server of each service that it opens is reported, and of no other; each of these has one
 pub record AreServers (s : Scenario) (routes : List (List (List ℕ × ℕ))) : Type 0 where
-  pub told : (x : ℕ) (c : Component) → slice_get (components s) x ≡ Some c → (service : List ℕ)
+  pub reported : (x : ℕ) (c : Component) → slice_get (components s) x ≡ Some c → (service : List ℕ)
       → server_at x service routes ≡ (if any_of (text_eq service) (services c) then server_of (system s) c service else None)
   pub each : (x : ℕ) (c : Component) → slice_get (components s) x ≡ Some c → (service : List ℕ)
       → is_some (server_at x service routes) ≡ any_of (text_eq service) (services c)

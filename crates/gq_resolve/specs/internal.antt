@@ -1,4 +1,4 @@
 pub mod Afters
-pub mod Order
-pub mod Keys
+pub mod Use_order
+pub mod Search_keys
 pub mod Kept_tables

@@ -169,7 +169,7 @@ fn push_components<'a>(
     Ok(())
 }
 
-/// The leaves of a scenario in preorder, each with its label and its levels. Refused only for want of host memory.
+/// The leaves of a scenario in preorder, each with its label and its levels. Refused only if the host refuses memory.
 pub fn components(alloc: Global, scenario: &Scenario) -> Result<Vec<Component<'_>>, AllocError>
     ensures { IfOk result (λ c. c.items ≡ components scenario.now) }
 {

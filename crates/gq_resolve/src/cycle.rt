@@ -3,7 +3,7 @@ ghost use Rattle.std.specs.Prelude.{◌≡◌, ◌<◌, ◌==◌, ◌||◌, IfOk
 ghost use Rattle.gq_model.specs.machine.Lists.{any_of};
 ghost use Rattle.gq_resolve.specs.Reaching.{reaches_by, first_on_cycle, is_set, flag_at, one_more, flags_by};
 
-use crate::levels::{is_order, levels};
+use crate::leaf_levels::{is_order, levels};
 use std::alloc::{AllocError, Global};
 
 // Whether a flag is set; none beyond the end is.
@@ -56,7 +56,7 @@ fn reaching(alloc: Global, used: &[Vec<u32>], goal: usize) -> Result<Vec<bool>, 
     Ok(flags)
 }
 
-/// Whether a leaf reaches itself by a chain of uses, as `first_on_cycle` has them. Refused only for want of host memory.
+/// Whether a leaf reaches itself by a chain of uses, as `first_on_cycle` has them. Refused only if the host refuses memory.
 pub fn reaches_itself(alloc: Global, used: &[Vec<u32>], leaf: usize) -> Result<bool, AllocError>
     ensures { IfOk result (λ is_on. is_on ≡ reaches_by (length used.now) (map (λ l. l.items) used.now) leaf leaf) }
 {
@@ -78,7 +78,8 @@ fn first_by_rounds(alloc: Global, used: &[Vec<u32>]) -> Result<Option<usize>, Al
 }
 
 /// The first leaf that reaches itself by a chain of uses. The numbers of the leaves that a leaf uses stand at its place; a
-/// number beyond the end is no leaf's. Refused only for want of host memory. Where the leaves stand in an order of use, which is found at once, there is none.
+/// number beyond the end is no leaf's. Refused only if the host refuses memory. Where the leaves stand in an order of use, which is found at once, there is
+/// none.
 pub fn first_on_cycle(alloc: Global, used: &[Vec<u32>]) -> Result<Option<usize>, AllocError>
     ensures first { IfOk result (λ first. first ≡ first_on_cycle (map (λ l. l.items) used.now)) }
     ensures within { IfOk result (λ first. IfSome first (λ x. x < length used.now)) }

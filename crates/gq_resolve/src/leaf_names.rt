@@ -1,33 +1,33 @@
 // The numbers of leaves by their names, of which many are asked for.
 ghost use Rattle.std.specs.Prelude.{◌≡◌, ◌<◌, ◌^◌, length};
 ghost use Rattle.gq_model.specs.machine.Routes.{numbered};
-ghost use Rattle.gq_program.specs.Keys.{AreWithin};
-ghost use Rattle.gq_resolve.specs.internal.Keys.{name_keys};
+ghost use Rattle.gq_program.specs.Name_keys.{AreWithin};
+ghost use Rattle.gq_resolve.specs.internal.Search_keys.{name_keys};
 
 use crate::component::Component;
 use gq_model::program::Name;
-use gq_program::keys::key_of;
-use gq_program::places::Places;
-use gq_scenario::lines::same_bytes;
+use gq_program::key_index::KeyIndex;
+use gq_program::name_keys::key_of;
 use gq_scenario::scenario::LeafNo;
+use gq_scenario::text_pieces::same_bytes;
 use std::marker::Model;
 
 // Where leaves may stand among these, by the numbers of their names.
-fn places_of(components: &[Component<'_>]) -> Places
+fn places_of(components: &[Component<'_>]) -> KeyIndex
     ensures { AreWithin result (name_keys components.now) }
 {
-    let mut places = Places::new();
+    let mut places = KeyIndex::new();
     for (place, component) in components.iter().enumerate() {
         places.put(key_of(component.leaf().name().as_bytes()), place);
     }
     places
 }
 
-/// The leaves of a scenario, in preorder, to be found by their names; where they may stand is told by numbers that are made of these.
+/// The leaves of a scenario, in preorder, to be found by their names; where they may stand is given by numbers that are made of these.
 #[derive(Drop)]
 pub struct LeafNames<'l, 'a> {
     components: &'l [Component<'a>],
-    places: Places,
+    places: KeyIndex,
 }
 
 impl<'l, 'a> Model for LeafNames<'l, 'a> {
@@ -35,8 +35,8 @@ impl<'l, 'a> Model for LeafNames<'l, 'a> {
     ghost use Rattle.std.specs.Coded.{codes};
     ghost use Rattle.gq_model.specs.machine.Scenario.{Component};
     ghost use Rattle.gq_model.specs.internal.Stored.{statements_code, nodes_code};
-    ghost use Rattle.gq_program.specs.Keys.{AreWithin};
-    ghost use Rattle.gq_resolve.specs.internal.Keys.{name_keys};
+    ghost use Rattle.gq_program.specs.Name_keys.{AreWithin};
+    ghost use Rattle.gq_resolve.specs.internal.Search_keys.{name_keys};
 
     ghost Value = { List Component };
 
@@ -52,7 +52,7 @@ impl<'l, 'a> Model for LeafNames<'l, 'a> {
 }
 
 impl<'l, 'a> LeafNames<'l, 'a> {
-    /// These leaves. It takes no host memory.
+    /// These leaves. It allocates no host memory.
     pub fn new(components: &'l [Component<'a>]) -> LeafNames<'l, 'a>
         ensures { result ≡ components.now }
     {

@@ -2,37 +2,37 @@
 //!
 //! ```rust
 //! use gq_resolve::component::components;
-//! use gq_resolve::table::Entries;
+//! use gq_resolve::node_table::Entries;
 //! use gq_resolve::{NodeTable, resolve};
 //!
 //! // A scenario from `gq_reader`, and the program of each leaf, in preorder.
 //! let routes = resolve(alloc, &scenario, programs.as_slice())?;
 //! let components = components(alloc, &scenario)?;
-//! // One table of the nodes by numbers, of which what runs and tells a scenario asks without looking for a name.
+//! // One table of the nodes by numbers, of which what runs and reports a scenario asks without looking for a name.
 //! let entries = Entries::of(alloc, &scenario, components.as_slice(), &routes)?;
 //! let table = NodeTable::new(scenario, programs, entries);
 //! let hello = table.leaf_named(b"hello");
 //! ```
 //!
-//! Modules: routes (`routing`, `routes`), what inits offer (`offers`), what is wrong with a scenario (`resolved`), and the table of nodes (`table`).
+//! Modules: routes (`routing`, `routes`), what inits offer (`offers`), what is wrong with a scenario (`resolved`), and the table of nodes (`node_table`).
 #![tactic(auto)]
 
-pub mod after;
 pub mod component;
 pub mod cycle;
-pub mod fault;
-mod keys;
+mod leaf_levels;
 pub mod leaf_names;
-mod levels;
+pub mod node_table;
 pub mod offers;
+pub mod opened_services;
 pub mod quanta;
+pub mod resolve_fault;
 pub mod resolved;
 pub mod router;
 pub mod routes;
 pub mod routing;
-pub mod services;
-pub mod table;
+mod search_keys;
+pub mod start_after;
 pub mod unrouted;
 
+pub use node_table::NodeTable;
 pub use resolved::{resolve, resolve_components, resolve_opened};
-pub use table::NodeTable;

@@ -1,15 +1,15 @@
 // Services that inits offer.
 ghost use Rattle.std.specs.Prelude.{◌≡◌};
 ghost use Rattle.gq_model.specs.rules.Resolve.{child_serves, is_offer, offers_fault, first_bad_offer, offer_fault};
-ghost use Rattle.gq_resolve.specs.Resolved.{refused};
+ghost use Rattle.gq_resolve.specs.Resolve_faults.{refused};
 
-use crate::fault::ResolveFault;
+use crate::resolve_fault::ResolveFault;
 use crate::routing::{is_service, offer_of};
 use gq_model::program::Name;
 use gq_program::interface::Interfaces;
-use gq_scenario::lines::same_bytes;
+use gq_scenario::component_tree::copied;
 use gq_scenario::scenario::{Init, Node, Nodes, Scenario};
-use gq_scenario::tree::copied;
+use gq_scenario::text_pieces::same_bytes;
 
 // Whether the child of this name serves a service: it is a leaf that provides it, or an init that offers it.
 fn child_serves(name: &Name, service: &Name, children: &Nodes) -> bool
@@ -64,8 +64,8 @@ fn check_below(interfaces: &Interfaces, nodes: &Nodes) -> Result<(), ResolveFaul
     Ok(())
 }
 
-/// Whether each offer of each init is one: there is an interface of the service, and the child that is named serves it, as a leaf that provides it or
-/// as an init that offers it.
+/// Whether each offer of each init is one. There has to be an interface of the service, and the child that is named serves it, as a leaf that provides it or as
+/// an init that offers it.
 ///
 /// Refuses the first init in preorder of which that does not hold, `BadOffer`.
 pub fn check_offers(scenario: &Scenario) -> Result<(), ResolveFault>

@@ -5,13 +5,13 @@ ghost use Rattle.gq_model.specs.machine.Amounts.{part};
 ghost use Rattle.gq_model.specs.machine.Lists.{or_first};
 ghost use Rattle.gq_model.specs.machine.Scenario as model;
 ghost use Rattle.gq_model.specs.rules.Resolve.{first_handed, handed_out, exceeds, exceeded, first_exceeding, quanta_fault};
-ghost use Rattle.gq_resolve.specs.Resolved.{resource_of, fault_of, refused};
-ghost use Rattle.gq_scenario.specs.Trees.{before};
+ghost use Rattle.gq_resolve.specs.Resolve_faults.{resource_of, fault_of, refused};
+ghost use Rattle.gq_scenario.specs.Component_trees.{before};
 
-use crate::fault::ResolveFault;
+use crate::resolve_fault::ResolveFault;
 use gq_model::program::Name;
+use gq_scenario::component_tree::copied;
 use gq_scenario::scenario::{Leaf, Node, Nodes, Quantum, Scenario};
-use gq_scenario::tree::copied;
 
 /// The two kinds of quota.
 #[derive(Clone, Copy)]

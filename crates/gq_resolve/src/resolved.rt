@@ -5,21 +5,21 @@ ghost use Rattle.gq_model.specs.machine.Scenario as model;
 ghost use Rattle.gq_model.specs.machine.Scenario.{System, components};
 ghost use Rattle.gq_model.specs.rules.Resolve.{cycle_fault, unresolved};
 ghost use Rattle.gq_model.specs.rules.Use.{services};
-ghost use Rattle.gq_resolve.specs.Resolved.{Finds};
+ghost use Rattle.gq_resolve.specs.Resolve_faults.{Finds};
 ghost use Rattle.gq_resolve.specs.Served.{leaf_routes, routes_of, AreServers};
 
-use crate::after::check_after;
 use crate::component::{Component, components};
 use crate::cycle::first_on_cycle;
-use crate::fault::{ResolveError, ResolveFault};
 use crate::offers::check_offers;
 use crate::quanta::check_quanta;
+use crate::resolve_fault::{ResolveError, ResolveFault};
 use crate::routes::Routes;
+use crate::start_after::check_after;
 use crate::unrouted::{all_opened, all_routes};
 use gq_model::program::Name;
-use gq_program::program::Program;
+use gq_program::program_tree::Program;
+use gq_scenario::component_tree::copied;
 use gq_scenario::scenario::Scenario;
-use gq_scenario::tree::copied;
 use std::alloc::Global;
 
 // Refuses the first leaf that reaches itself by the servers of the services that are opened.
@@ -44,7 +44,7 @@ fn check_cycle(
 /// Which leaf serves each service that a leaf of a scenario opens; each such service has one. The programs are those of its
 /// leaves, in preorder.
 ///
-/// Refuses if host memory runs out, and by the first fault of the scenario, in this order.
+/// Refuses if the host has no memory left, and by the first fault of the scenario, in this order.
 ///
 /// - An init hands out more bytes than it has (`QuantaExceed`), or more capabilities (`CapsExceed`).
 /// - An init offers a service that has no interface, or that the child which is named does not serve (`BadOffer`).

@@ -2,13 +2,13 @@
 ghost use Rattle.std.specs.Prelude.{◌≡◌};
 ghost use Rattle.gq_model.specs.machine.Routes.{providers, only, route};
 ghost use Rattle.gq_resolve.specs.Routing.{routed};
-ghost use Rattle.gq_resolve.specs.internal.Keys.{first_siblings, AreTold, AreToldOf};
+ghost use Rattle.gq_resolve.specs.internal.Search_keys.{first_siblings, AreReported, AreReportedOf};
 
-use crate::keys::{are_silent, places_of};
 use crate::routing::{Level, RouteFault, first_target, found_or_none, provider, route};
+use crate::search_keys::{are_silent, places_of};
 use gq_model::program::Name;
-use gq_program::keys::key_of;
-use gq_program::places::Places;
+use gq_program::key_index::KeyIndex;
+use gq_program::name_keys::key_of;
 use gq_scenario::scenario::{Nodes, Target};
 use std::marker::Model;
 
@@ -16,8 +16,8 @@ use std::marker::Model;
 const MANY: usize = 4;
 
 // Where services may stand among the siblings at the first of these levels, where no init among them offers any.
-fn first_places(levels: &[Level<'_>]) -> Option<Places>
-    ensures { AreTold result levels.now }
+fn first_places(levels: &[Level<'_>]) -> Option<KeyIndex>
+    ensures { AreReported result levels.now }
 {
     match levels.first() {
         Some(level) => {
@@ -32,8 +32,12 @@ fn first_places(levels: &[Level<'_>]) -> Option<Places>
 }
 
 // Where the only one of these children leads that serves the service, by where it may stand.
-fn only_by<'a>(service: &Name, siblings: &'a Nodes, places: &Places) -> Result<&'a Name, RouteFault>
-    requires { AreToldOf places.now siblings.now }
+fn only_by<'a>(
+    service: &Name,
+    siblings: &'a Nodes,
+    places: &KeyIndex,
+) -> Result<&'a Name, RouteFault>
+    requires { AreReportedOf places.now siblings.now }
     ensures { routed result ≡ only (providers service.now siblings.now) }
 {
     let nodes = siblings.nodes();
@@ -53,10 +57,10 @@ fn only_by<'a>(service: &Name, siblings: &'a Nodes, places: &Places) -> Result<&
 // Where a service leads, by where services may stand among the siblings at the first level.
 fn route_by<'a>(
     levels: &[Level<'a>],
-    places: &Places,
+    places: &KeyIndex,
     service: &Name,
 ) -> Result<&'a Name, RouteFault>
-    requires { AreToldOf places.now (first_siblings levels.now) }
+    requires { AreReportedOf places.now (first_siblings levels.now) }
     ensures { routed result ≡ route levels.now service.now }
 {
     if let Some(level) = levels.first() {
@@ -68,11 +72,11 @@ fn route_by<'a>(
 }
 
 /// The levels of a component, its own init's first, for the routes of its services. Where these are many and no init among its
-/// siblings offers any, it is told where services may stand among these.
+/// siblings offers any, it is reported where services may stand among these.
 #[derive(Drop)]
 pub struct Router<'l, 'a> {
     levels: &'l [Level<'a>],
-    places: Option<Places>,
+    places: Option<KeyIndex>,
 }
 
 impl<'l, 'a> Model for Router<'l, 'a> {
@@ -80,7 +84,7 @@ impl<'l, 'a> Model for Router<'l, 'a> {
     ghost use Rattle.std.specs.Coded.{codes};
     ghost use Rattle.gq_model.specs.machine.Scenario.{Level};
     ghost use Rattle.gq_model.specs.internal.Stored.{statements_code, nodes_code};
-    ghost use Rattle.gq_resolve.specs.internal.Keys.{AreTold};
+    ghost use Rattle.gq_resolve.specs.internal.Search_keys.{AreReported};
 
     ghost Value = { List Level };
 
@@ -88,11 +92,11 @@ impl<'l, 'a> Model for Router<'l, 'a> {
 
     ghost view = { λ r. r.levels.now };
 
-    ghost invariant = { λ r. AreTold r.places r.levels.now };
+    ghost invariant = { λ r. AreReported r.places r.levels.now };
 }
 
 impl<'l, 'a> Router<'l, 'a> {
-    /// These levels, to be asked for the routes of so many services. It takes no host memory.
+    /// These levels, to be asked for the routes of so many services. It allocates no host memory.
     pub fn new(levels: &'l [Level<'a>], services: usize) -> Router<'l, 'a>
         ensures { result ≡ levels.now }
     {
@@ -104,7 +108,7 @@ impl<'l, 'a> Router<'l, 'a> {
         Router { levels, places }
     }
 
-    /// The name of the leaf to which a service leads, as `route` tells it by these levels; and its refusals.
+    /// The name of the leaf to which a service leads, as `route` reports it by these levels; and its refusals.
     pub fn route(&self, service: &Name) -> Result<&'a Name, RouteFault>
         ensures { routed result ≡ route self.now service.now }
     {

@@ -6,10 +6,10 @@ ghost use Rattle.gq_resolve.specs.Served.{servers, server_in, server_at};
 use crate::component::Component;
 use crate::routing::route;
 use gq_model::program::Name;
-use gq_program::keys::key_of;
-use gq_program::places::Places;
-use gq_scenario::lines::same_bytes;
+use gq_program::key_index::KeyIndex;
+use gq_program::name_keys::key_of;
 use gq_scenario::scenario::LeafNo;
+use gq_scenario::text_pieces::same_bytes;
 use std::alloc::{AllocError, Global};
 use std::marker::Model;
 
@@ -42,11 +42,11 @@ pub fn server_of(
     }
 }
 
-/// Services of a leaf, each with the leaf that serves it. Where a service may stand is told by the number of its name.
+/// Services of a leaf, each with the leaf that serves it. Where a service may stand is given by the number of its name.
 #[derive(Drop)]
 pub struct LeafRoutes {
     entries: Vec<(Name, LeafNo)>,
-    places: Places,
+    places: KeyIndex,
 }
 
 impl Model for LeafRoutes {
@@ -54,8 +54,8 @@ impl Model for LeafRoutes {
 
     ghost Value = { List (List ℕ × ℕ) };
 
-    ghost use Rattle.gq_program.specs.Keys.{AreWithin};
-    ghost use Rattle.gq_resolve.specs.internal.Keys.{route_keys};
+    ghost use Rattle.gq_program.specs.Name_keys.{AreWithin};
+    ghost use Rattle.gq_resolve.specs.internal.Search_keys.{route_keys};
 
     ghost view = { λ r. r.entries.items };
 
@@ -69,11 +69,11 @@ impl LeafRoutes {
     {
         LeafRoutes {
             entries: Vec::new(alloc),
-            places: Places::new(),
+            places: KeyIndex::new(),
         }
     }
 
-    /// Puts a service with the leaf that serves it at the end. Refused only for want of host memory.
+    /// Puts a service with the leaf that serves it at the end. Refused only if the host refuses memory.
     pub fn push(&mut self, service: Name, server: LeafNo) -> Result<(), AllocError>
         ensures { OnOk result (self.new ≡ self.old ++ (service, server) ∷ []) }
     {
@@ -144,7 +144,7 @@ impl Routes {
         }
     }
 
-    /// For each leaf the numbers of the leaves that serve it. Refused only for want of host memory.
+    /// For each leaf the numbers of the leaves that serve it. Refused only if the host refuses memory.
     pub fn numbers(&self, alloc: Global) -> Result<Vec<Vec<u32>>, AllocError>
         ensures { IfOk result (λ used. map (λ l. l.items) used.items ≡ map servers self.now) }
     {

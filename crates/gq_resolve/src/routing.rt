@@ -5,11 +5,11 @@ ghost use Rattle.gq_model.specs.machine.Scenario as model;
 ghost use Rattle.gq_model.specs.machine.Routes.{Routed, is_service, fits, offer_of, child_named, providers, only, first_fit, route};
 ghost use Rattle.gq_resolve.specs.Routing.{routed, led_found, led_by};
 ghost use Rattle.gq_scenario.specs.Targets.{target_of};
-ghost use Rattle.gq_scenario.specs.Trees.{nodes_of};
+ghost use Rattle.gq_scenario.specs.Component_trees.{nodes_of};
 
 use gq_model::program::Name;
-use gq_scenario::lines::same_bytes;
 use gq_scenario::scenario::{Node, Nodes, Route, Target};
+use gq_scenario::text_pieces::same_bytes;
 use std::marker::Model;
 
 /// Why a service leads to no leaf.
@@ -136,7 +136,7 @@ fn child_named<'a>(
     Err(RouteFault::NoRoute)
 }
 
-/// The leaf behind a node that serves the service: it is a leaf that provides it, or an init that offers it. An offer that leads nowhere is told as such.
+/// The leaf behind a node that serves the service: it is a leaf that provides it, or an init that offers it. An offer that leads nowhere is reported as such.
 pub fn provider<'a>(node: &'a Node, service: &Name) -> Option<Result<&'a Name, RouteFault>>
     ensures { led_found result ≡ providers service.now (nodes_of (node.now ∷ [])) }
 {

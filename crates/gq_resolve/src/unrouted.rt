@@ -4,20 +4,20 @@ ghost use Rattle.gq_model.specs.machine.Routes.{Routed, route};
 ghost use Rattle.gq_model.specs.rules.Resolve as model;
 ghost use Rattle.gq_model.specs.rules.Resolve.{Unrouted, services_fault, routes_fault};
 ghost use Rattle.gq_model.specs.rules.Use.{services, services_in};
-ghost use Rattle.gq_resolve.specs.Resolved.{Finds, fault_of, refused};
+ghost use Rattle.gq_resolve.specs.Resolve_faults.{Finds, fault_of, refused};
 ghost use Rattle.gq_resolve.specs.Routing.{routed_not};
 ghost use Rattle.gq_resolve.specs.Served.{entry, server_among, leaf_routes};
 
 use crate::component::Component;
-use crate::fault::{ResolveError, ResolveFault};
 use crate::leaf_names::LeafNames;
+use crate::opened_services::{once, opened};
+use crate::resolve_fault::{ResolveError, ResolveFault};
 use crate::router::Router;
 use crate::routes::{LeafRoutes, Routes};
 use crate::routing::RouteFault;
-use crate::services::{once, opened};
 use gq_model::program::Name;
-use gq_program::program::Program;
-use gq_scenario::tree::copied;
+use gq_program::program_tree::Program;
+use gq_scenario::component_tree::copied;
 use std::alloc::{AllocError, Global};
 
 /// The fault of a leaf's service that leads nowhere.

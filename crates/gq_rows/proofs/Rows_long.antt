@@ -4,7 +4,7 @@ use Rattle.std.specs.Prelude.{codes}
 use Rattle.std.specs.Fmt.{digits}
 use Rattle.gq_model.specs.declared.act.Act.TheVariants.{Turns}
 use Rattle.gq_model.specs.machine.Accounts.{whole}
-use Rattle.gq_model.proofs.Samples.{pooled}
+use Rattle.gq_model.proofs.Sample_scenarios.{pooled}
 
 one_chunk : whole pooled (3848 ∷ []) ((0, Turns 1026) ∷ [])
     ≡ codes "account init quota 45056\naccount init -> a quota 20480 used 8192 steps 1026/3848 running\n"

@@ -12,20 +12,20 @@ use Rattle.gq_model.specs.machine.World.{Empty, In_object, Session, Current, Lea
 use Rattle.gq_model.specs.machine.Doing.{Doing, Quiet}
 use Rattle.gq_model.specs.machine.Run.{run}
 use Rattle.gq_model.specs.rules.Use.{subject}
-use Rattle.gq_model.specs.rules.Kinds.{Kind, Link_kind, Memory, Empty_kind, State, Context, no_kinds}
+use Rattle.gq_model.specs.rules.Kinds.{Kind, Link_kind, Memory, Empty_kind, AbstractState, Context, no_kinds}
 use Rattle.gq_model.specs.rules.Flow.{context}
-use Rattle.gq_model.proofs.Samples.{good_log, log_client}
-use Rattle.gq_laws.specs.Links.{IsLinkedWorld}
+use Rattle.gq_model.proofs.Sample_scenarios.{good_log, log_client}
+use Rattle.gq_laws.specs.Session_links.{IsLinkedWorld}
 use Rattle.gq_laws.specs.Typed.{AreKinds, Meets}
-use Rattle.gq_laws.specs.Statements.{TakesLeaf}
-use Rattle.gq_laws.specs.Replies.{HasEnded, Replies, Resumes}
-use Rattle.gq_laws.proofs.gathering.Reaching.{in_reached}
-use Rattle.gq_laws.proofs.setting.Settings.{set_linked}
-use Rattle.gq_laws.proofs.linking.Linked_worlds.{kept_linked, start_linked}
-use Rattle.gq_laws.proofs.stating.Numbers.{zeros_bytes}
-use Rattle.gq_laws.proofs.stating.Frame.{zeros}
-use Rattle.gq_laws.proofs.replying.Worlds.{replies_ruled}
-use Rattle.gq_laws.proofs.replying.Stands.{resumes_ruled}
+use Rattle.gq_laws.specs.Inside_steps.{TakesLeaf}
+use Rattle.gq_laws.specs.Reply_stances.{HasEnded, Replies, Resumes}
+use Rattle.gq_laws.proofs.upheld_worlds.Reached_world_induction.{in_reached}
+use Rattle.gq_laws.proofs.input_settings.Setting_keeps_invariants.{set_linked}
+use Rattle.gq_laws.proofs.session_links.Linked_worlds.{kept_linked, start_linked}
+use Rattle.gq_laws.proofs.statement_rules.Statement_number_bounds.{zeros_bytes}
+use Rattle.gq_laws.proofs.statement_rules.Stance_frame.{zeros}
+use Rattle.gq_laws.proofs.reply_rules.World_after_reply.{replies_ruled}
+use Rattle.gq_laws.proofs.reply_rules.Stance_after_reply.{resumes_ruled}
 
 abbrev log : System
 log = system good_log
@@ -68,7 +68,17 @@ abbrev g : Current
 g = record { session = 0; section = Opening }
 
 abbrev s : Session
-s = the (record { client = 0; spot = In_object 0; server = 0; service = []; level = 0; donation = amount 0 0; accepted = true; object = Empty; slots = [] })
+s = the (record {
+  client = 0;
+  line_column = In_object 0;
+  server = 0;
+  service = [];
+  level = 0;
+  donation = amount 0 0;
+  accepted = true;
+  object = Empty;
+  slots = [];
+})
     (session_at v 0)
 
 abbrev promised : ℕ → Option Kind
@@ -77,7 +87,7 @@ promised k = Some (Link_kind (codes "log") 0 (amount 8192 0))
 abbrev c : Context
 c = context (subject log d.component) Opening
 
-abbrev state : State
+abbrev state : AbstractState
 state = record { own = replicate 64 Empty_kind; bank = Memory Space 16 ∷ replicate 7 Empty_kind; bounds = [] }
 
 takes : TakesLeaf d
@@ -107,7 +117,7 @@ ended =
       ended = refl;
     }
 
--- so the world is as told
+-- so the world is as reported
 is_replied : Replies promised c state d g s w
 is_replied = replies_ruled promised c d takes linked refl state g s w ended
 
@@ -121,7 +131,7 @@ client = the none (slice_get v.leaves 1)
 abbrev e : Context
 e = context (subject log (the (record { label = []; node = log_client; levels = [] }) (slice_get log.components 1))) Main
 
-abbrev linked_state : State
+abbrev linked_state : AbstractState
 linked_state = record { own = Link_kind (codes "log") 0 (amount 8192 0) ∷ replicate 63 Empty_kind; bank = no_kinds; bounds = [] }
 
 waited : Meets promised e linked_state v client

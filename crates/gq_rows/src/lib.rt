@@ -3,28 +3,28 @@
 #![tactic(auto)]
 
 #[cfg(test)]
-mod code;
+mod code_rows;
 #[cfg(test)]
-mod execute;
+mod execute_rows;
 #[cfg(test)]
-mod interfaces;
+mod interface_rows;
 #[cfg(test)]
-mod letters;
+mod letter_rows;
 #[cfg(test)]
-mod load;
+mod load_rows;
 #[cfg(test)]
-mod programs;
+mod program_rows;
 #[cfg(test)]
-mod races;
+mod race_rows;
 #[cfg(test)]
-mod reading;
+mod reader_rows;
 #[cfg(test)]
-mod rule_texts;
+mod rule_text_rows;
 #[cfg(test)]
-mod text;
+mod text_rows;
 #[cfg(test)]
-mod toml_places;
+mod toml_place_rows;
 #[cfg(test)]
-mod views;
+mod view_rows;
 #[cfg(test)]
-mod world;
+mod world_rows;

@@ -1,2 +1,2 @@
-pub mod Found
-pub mod Written
+pub mod First_rule_found
+pub mod Rule_text_parts

@@ -1,1 +1,1 @@
-pub mod Rules
+pub mod Rule_tables

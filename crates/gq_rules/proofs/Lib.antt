@@ -1,4 +1,4 @@
-pub mod Programs
-pub mod Flows
-pub mod Points
-pub mod Unchanged
+pub mod Program_section_facts
+pub mod Statement_list_flow
+pub mod Statement_list_states
+pub mod Slot_keeping_statements

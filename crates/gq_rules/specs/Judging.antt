@@ -1,19 +1,19 @@
 -- What the functions that judge a statement answer.
 use Rattle.std.specs.Prelude.{◌≡◌, ℕ, Bool, true, false, List, ◌∷◌, Result, Ok, Err}
 use Rattle.gq_model.specs.machine.Amounts.{Amount}
-use Rattle.gq_model.specs.rules.Kinds.{State}
-use Rattle.gq_caps.specs.Links.{service_of, level_of, given_of}
+use Rattle.gq_model.specs.rules.Kinds.{AbstractState}
+use Rattle.gq_caps.specs.Known_links.{service_of, level_of, given_of}
 use Rattle.gq_caps.specs.declared.link.Link.{Link}
 use Rattle.gq_model.specs.rules.Rules.{Judged}
 use Rattle.gq_model.specs.declared.fault.Rule.{Rule}
 
 -- the state that a call left, or the rule that it answered
-abbrev pub after : {A : Type 0} → Result A Rule → State → Judged
+abbrev pub after : {A : Type 0} → Result A Rule → AbstractState → Judged
 after (Ok a) s = Ok s
 after (Err rule) s = Err rule
 
 -- one operand more
-abbrev pub with_operand : ℕ → State → State
+abbrev pub with_operand : ℕ → AbstractState → AbstractState
 with_operand a s = record s { bounds = a ∷ s.bounds }
 
 -- the rule is answered just where the test fails

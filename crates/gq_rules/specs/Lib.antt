@@ -1,4 +1,4 @@
 pub mod Judging
 pub mod Flowing
-pub mod Peaks
+pub mod List_maxima
 pub mod internal

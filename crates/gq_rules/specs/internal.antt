@@ -1,2 +1,2 @@
-pub mod Steps
-pub mod Reached
+pub mod List_states
+pub mod Open_maxima

@@ -1,6 +1,6 @@
 // A rule that is broken, with its place.
 ghost use Rattle.std.specs.Prelude.{◌≡◌};
-ghost use Rattle.gq_model.specs.rules.Kinds.{State};
+ghost use Rattle.gq_model.specs.rules.Kinds.{AbstractState};
 ghost use Rattle.gq_model.specs.rules.Flow.{at};
 ghost use Rattle.gq_rules.specs.Judging.{after};
 ghost use Rattle.gq_rules.specs.Flowing.{flowed};
@@ -17,7 +17,7 @@ pub struct Broken {
 
 /// A rule that is broken is so at this place.
 pub fn at(place: u64, judged: Result<(), Rule>) -> Result<(), Broken>
-    ensures { (s : State) → flowed result s ≡ at place (after judged s) }
+    ensures { (s : AbstractState) → flowed result s ≡ at place (after judged s) }
 {
     match judged {
         Ok(()) => Ok(()),

@@ -3,17 +3,17 @@ ghost use Rattle.std.specs.Prelude.{◌≡◌, ◌+◌, ◌-◌, ◌<◌, ◌^�
 ghost use Rattle.gq_model.specs.machine.Program.{size, Done, Do, If, Loop};
 ghost use Rattle.gq_model.specs.rules.Kinds.{inside};
 ghost use Rattle.gq_model.specs.rules.Flow.{later, flow, points};
-ghost use Rattle.gq_program.specs.Trees.{tree_of};
+ghost use Rattle.gq_program.specs.Statement_trees.{tree_of};
 ghost use Rattle.gq_caps.specs.Measured.{AreFew};
 ghost use Rattle.gq_rules.specs.Flowing.{flowed, few_loops};
-ghost use Rattle.gq_rules.specs.internal.Steps.{chosen, points_in};
-ghost use Rattle.gq_rules.specs.internal.Reached.{PeaksWith};
-ghost use Rattle.gq_rules.specs.Peaks.{Peaks};
+ghost use Rattle.gq_rules.specs.internal.List_states.{chosen, points_in};
+ghost use Rattle.gq_rules.specs.internal.Open_maxima.{PeaksWith};
+ghost use Rattle.gq_rules.specs.List_maxima.{Peaks};
 ghost use Rattle.gq_program.specs.Notes.{is_still};
 
 use crate::broken::{Broken, at};
 use crate::context::Context;
-use crate::state::State;
+use crate::known_state::AbstractState;
 use gq_caps::Totals;
 use gq_program::notes::keeps_slots;
 use gq_program::{Body, Instruction, Statement};
@@ -24,7 +24,7 @@ use gq_program::{Body, Instruction, Statement};
 #[cycle(flows)]
 pub fn flow(
     context: &Context<'_>,
-    state: &mut State,
+    state: &mut AbstractState,
     place: &mut u64,
     peaks: &mut Totals,
     body: &Body,
@@ -48,7 +48,7 @@ pub fn flow(
 #[inline(always)]
 fn flow_judged(
     context: &Context<'_>,
-    state: &mut State,
+    state: &mut AbstractState,
     place: &mut u64,
     instruction: &Instruction,
 ) -> Result<(), Broken>
@@ -65,7 +65,7 @@ fn flow_judged(
 #[inline(always)]
 fn flow_plain(
     context: &Context<'_>,
-    state: &mut State,
+    state: &mut AbstractState,
     place: &mut u64,
     peaks: &mut Totals,
     instruction: &Instruction,
@@ -89,7 +89,7 @@ fn flow_plain(
 #[cycle(flows)]
 fn flow_statement(
     context: &Context<'_>,
-    state: &mut State,
+    state: &mut AbstractState,
     place: &mut u64,
     peaks: &mut Totals,
     statement: &Statement,
@@ -128,7 +128,7 @@ fn flow_statement(
 #[inline(never)]
 fn flow_if(
     context: &Context<'_>,
-    state: &mut State,
+    state: &mut AbstractState,
     place: &mut u64,
     peaks: &mut Totals,
     arm: &Body,
@@ -156,7 +156,7 @@ fn flow_if(
 #[inline(never)]
 fn flow_loop(
     context: &Context<'_>,
-    state: &mut State,
+    state: &mut AbstractState,
     place: &mut u64,
     peaks: &mut Totals,
     count: u16,
@@ -183,7 +183,7 @@ fn flow_loop(
 #[cycle(flows)]
 fn flow_still_if(
     context: &Context<'_>,
-    state: &mut State,
+    state: &mut AbstractState,
     place: &mut u64,
     peaks: &mut Totals,
     arm: &Body,
@@ -212,7 +212,7 @@ fn flow_still_if(
 #[cycle(flows)]
 fn flow_still_loop(
     context: &Context<'_>,
-    state: &mut State,
+    state: &mut AbstractState,
     place: &mut u64,
     peaks: &mut Totals,
     count: u16,

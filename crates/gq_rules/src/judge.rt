@@ -4,7 +4,7 @@ ghost use Rattle.gq_model.specs.rules.Rules.{judge, judged};
 ghost use Rattle.gq_rules.specs.Judging.{after};
 
 use crate::context::Context;
-use crate::state::State;
+use crate::known_state::AbstractState;
 use gq_caps::Kind;
 use gq_model::fault::Rule;
 use gq_program::Instruction;
@@ -12,7 +12,7 @@ use gq_program::Instruction;
 impl<'a> Context<'a> {
     /// What is known after an instruction, by the rules for it alone. It stands alone, so that the usual ones don't pay for the others.
     #[inline(never)]
-    fn judge(&self, state: &mut State, instruction: &Instruction) -> Result<(), Rule>
+    fn judge(&self, state: &mut AbstractState, instruction: &Instruction) -> Result<(), Rule>
         ensures { after result state.new ≡ judge self.now state.old instruction.now }
     {
         match instruction {
@@ -43,7 +43,7 @@ impl<'a> Context<'a> {
 
     /// The same. Those on operands alone, which are the usual ones, are judged at once.
     #[inline(always)]
-    fn judge_usual(&self, state: &mut State, instruction: &Instruction) -> Result<(), Rule>
+    fn judge_usual(&self, state: &mut AbstractState, instruction: &Instruction) -> Result<(), Rule>
         ensures { after result state.new ≡ judge self.now state.old instruction.now }
     {
         match instruction {
@@ -54,7 +54,7 @@ impl<'a> Context<'a> {
 
     /// What is known after an instruction, by the rules for it and for what the current session costs after it.
     #[inline(always)]
-    pub fn judged(&self, state: &mut State, instruction: &Instruction) -> Result<(), Rule>
+    pub fn judged(&self, state: &mut AbstractState, instruction: &Instruction) -> Result<(), Rule>
         ensures { after result state.new ≡ judged self.now state.old instruction.now }
     {
         self.judge_usual(state, instruction)?;

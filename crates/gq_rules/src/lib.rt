@@ -18,13 +18,13 @@ pub mod broken;
 pub mod context;
 pub mod flow;
 mod judge;
-pub mod memory;
-pub mod operands;
-pub mod sessions;
-pub mod state;
+pub mod known_state;
+pub mod memory_rules;
+pub mod operand_rules;
+pub mod session_rules;
 pub mod subject;
 
 pub use broken::{Broken, at};
 pub use context::Context;
-pub use state::State;
+pub use known_state::AbstractState;
 pub use subject::Subject;

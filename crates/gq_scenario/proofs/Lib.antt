@@ -1,9 +1,9 @@
-pub mod Components
-pub mod Pieces
-pub mod Keyed
+pub mod List_image_equality
+pub mod Text_line_pieces
+pub mod Table_key_lookup
 pub mod Tree_counts
-pub mod Preorder
-pub mod Names
+pub mod Preorder_leaves
+pub mod Repeated_names
 pub mod Nodes_counted
-pub mod Differing
-pub mod Emptied
+pub mod Distinct_leaf_names
+pub mod Scenarios_without_quantities

@@ -4,7 +4,7 @@ use Rattle.gq_model.specs.machine.Accounts.{leaf_count}
 use Rattle.gq_model.specs.machine.Scenario.{InitNode, Nodes, End, Leaf_node, Init_node, Scenario}
 use Rattle.gq_scenario.specs.Document.{init_count, has_too_many}
 use Rattle.gq_scenario.specs.Sizes.{node_count, counted}
-use Rattle.gq_scenario.specs.Trees.{before, nodes_of}
+use Rattle.gq_scenario.specs.Component_trees.{before, nodes_of}
 use Rattle.gq_scenario.specs.declared.scenario.Node.{Node}
 use Rattle.gq_scenario.specs.declared.scenario.Node.TheVariants.{Leaf, Init}
 use Rattle.gq_scenario.proofs.Tree_counts.{nodes_drop}

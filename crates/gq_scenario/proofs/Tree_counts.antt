@@ -6,13 +6,13 @@ use Rattle.std.proofs.lemmas.List.{drop_more, take_more}
 use Rattle.gq_model.specs.machine.Scenario.{InitNode, Nodes}
 use Rattle.gq_model.specs.machine.Lists.{any_of}
 use Rattle.gq_model.specs.machine.Program.{text_eq}
-use Rattle.gq_scenario.specs.Keys.{NameTwice}
+use Rattle.gq_scenario.specs.Table_keys.{NameTwice}
 use Rattle.gq_scenario.specs.Document.{name_twice}
 use Rattle.gq_scenario.specs.Sizes.{node_count, counted}
-use Rattle.gq_scenario.specs.Trees.{before, nodes_of}
+use Rattle.gq_scenario.specs.Component_trees.{before, nodes_of}
 use Rattle.gq_scenario.specs.declared.scenario.Node.{Node}
 use Rattle.gq_scenario.specs.declared.scenario.Node.TheVariants.{Leaf, Init}
-use Rattle.gq_scenario.proofs.Names.{seen_after, seen_after-append, any_of-seen}
+use Rattle.gq_scenario.proofs.Repeated_names.{seen_after, seen_after-append, any_of-seen}
 
 pub nodes_drop : (items : List Node) (i : ℕ) (node : Node) → i < length items → node ≡ get_or items i node
     → nodes_of (drop i items) ≡ before node (nodes_of (drop (i + 1) items))

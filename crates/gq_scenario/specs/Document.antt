@@ -8,8 +8,9 @@ use Rattle.gq_model.specs.machine.Scenario.{Interface, Interfaces, Target, Child
 use Rattle.gq_model.specs.machine.Scenario.{Offers, End, Leaf_node, Init_node, Scenario}
 use Rattle.gq_model.specs.machine.Accounts.{leaf_count}
 use Rattle.gq_model.specs.texts.Sources.{program_from}
-use Rattle.gq_scenario.specs.Keys.{DocumentFault, NameTwice, TooDeep, TooMany, number_of, quantity, text_of, members_of, listed, unhex_of, has, table_fault}
-use Rattle.gq_scenario.specs.Tables.{version_of, items_at, top_keys, interface_keys, init_keys, leaf_keys, route_keys}
+use Rattle.gq_scenario.specs.Table_keys.{DocumentFault, NameTwice, TooDeep, TooMany, number_of, quantity, text_of, members_of, listed, unhex_of, has}
+use Rattle.gq_scenario.specs.Table_keys.{table_fault}
+use Rattle.gq_scenario.specs.Document_tables.{version_of, items_at, top_keys, interface_keys, init_keys, leaf_keys, route_keys}
 
 -- VALUES AT KEYS
 
@@ -69,7 +70,7 @@ routes_in (Some items) = Some (routes_of (listed items))
 abbrev pub routes_at : List ℕ → Members → Option (List Route)
 routes_at key entries = routes_in (items_at key entries)
 
--- bytes of each upgrade, and its capabilities, 0 where none are told
+-- bytes of each upgrade, and its capabilities, 0 where none are reported
 abbrev pub upgrades_of : List Data → List Data → List Amount
 upgrades_of [] caps = []
 upgrades_of (d ∷ rest) [] = amount (or_zero (quantity d)) 0 ∷ upgrades_of rest []
@@ -106,7 +107,7 @@ abbrev pub offers_of : Members → Offers
 offers_of no_members = []
 offers_of (member key d rest) = (key, or_empty (text_of d)) ∷ offers_of rest
 
--- a leaf's program is told as text or as code
+-- a leaf's program is reported as text or as code
 abbrev pub source_from : Option (List ℕ) → Option (List ℕ) → Source
 source_from (Some text) code = As_text text
 source_from None (Some code) = As_code code

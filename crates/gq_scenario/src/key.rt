@@ -2,8 +2,8 @@
 ghost use Rattle.std.specs.Prelude.{◌≡◌, Some, if◌then◌else◌, map, codes};
 ghost use Rattle.gq_model.specs.machine.Lists.{any_of};
 ghost use Rattle.gq_model.specs.machine.Program.{text_eq};
-ghost use Rattle.gq_scenario.specs.Reading.{key_word};
-ghost use Rattle.gq_scenario.specs.Words.{key_text, printed_key};
+ghost use Rattle.gq_scenario.specs.Top_table.{key_word};
+ghost use Rattle.gq_scenario.specs.Fault_words.{key_text, printed_key};
 
 use std::fmt::{Display, Error, Formatter, Write};
 

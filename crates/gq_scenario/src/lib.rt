@@ -1,7 +1,7 @@
 //! Scenarios as trees of components, and how a TOML document is read as one: the definitions, in `specs/`.
 //!
 //! ```rust
-//! use gq_scenario::lines::next_line;
+//! use gq_scenario::text_pieces::next_line;
 //! use gq_scenario::scenario::Quantum;
 //!
 //! let quantum = Quantum::new(4096, 2);
@@ -11,12 +11,12 @@
 //! ```
 #![tactic(auto)]
 
-pub mod fault;
+pub mod component_tree;
 pub mod key;
-pub mod lines;
-pub mod node;
-pub mod places;
-pub mod quantities;
+pub mod leaf_positions;
+pub mod node_numbers;
 pub mod scenario;
+pub mod scenario_fault;
 pub mod source;
-pub mod tree;
+pub mod text_pieces;
+pub mod without_quantities;

@@ -4,13 +4,13 @@ ghost use Rattle.gq_model.specs.machine.Amounts.{amount, counts_caps};
 ghost use Rattle.gq_model.specs.texts.Sources.{program_from};
 ghost use Rattle.gq_scenario.specs.Given.{source_of};
 ghost use Rattle.gq_model.specs.machine.Scenario.{components};
-ghost use Rattle.gq_scenario.specs.Made.{scenario_made, IsScenario};
+ghost use Rattle.gq_scenario.specs.Scenario_parts.{scenario_made, IsScenario};
 ghost use Rattle.gq_scenario.specs.Sizes.{IsQuantum};
 ghost use Rattle.gq_scenario.specs.Targets.{target_of};
-ghost use Rattle.gq_scenario.specs.Trees.{version_number, nodes_of};
+ghost use Rattle.gq_scenario.specs.Component_trees.{version_number, nodes_of};
 
+use crate::component_tree::{count_leaves, leaf_from};
 use crate::source::Source;
-use crate::tree::{count_leaves, leaf_from};
 use arrayvec::ArrayVec;
 use gq_model::limits::INPUTS;
 use gq_model::program::Name;
@@ -187,8 +187,8 @@ impl Route {
     }
 }
 
-/// Routes that may be told.
-pub fn told(routes: &Option<Vec<Route>>) -> Option<&[Route]>
+/// Routes that may be reported.
+pub fn reported(routes: &Option<Vec<Route>>) -> Option<&[Route]>
     ensures { option_map (λ r. r.now) result ≡ option_map (λ r. r.items) routes.now }
 {
     match routes {
@@ -319,7 +319,7 @@ impl Leaf {
     pub fn routes(&self) -> Option<&[Route]>
         ensures { option_map (λ r. r.now) result ≡ self.now.routes }
     {
-        told(&self.routes)
+        reported(&self.routes)
     }
 }
 
@@ -395,14 +395,14 @@ impl Init {
     pub fn routes(&self) -> Option<&[Route]>
         ensures { option_map (λ r. r.now) result ≡ self.now.routes }
     {
-        told(&self.routes)
+        reported(&self.routes)
     }
 
     /// The routes of its children that have none of their own.
     pub fn default_routes(&self) -> Option<&[Route]>
         ensures { option_map (λ r. r.now) result ≡ self.now.default_routes }
     {
-        told(&self.default_routes)
+        reported(&self.default_routes)
     }
 
     /// The services that it offers, each with the name of the child that serves it. In versions 1 and 2 it has none.
@@ -440,14 +440,14 @@ impl Model for Nodes {
 
     ghost coded = { nodes_code (Prim.hlevel (codes, statements_code (Prim.hlevel codes))) (Prim.hlevel codes) };
 
-    ghost use Rattle.gq_scenario.specs.Trees.{nodes_of};
+    ghost use Rattle.gq_scenario.specs.Component_trees.{nodes_of};
 
     ghost view = { λ n. nodes_of n.nodes.items };
 
     ghost size = { node_count };
 
     ghost use Rattle.std.proofs.Common.{arith};
-    ghost use Rattle.gq_scenario.specs.internal.Falls.{falls};
+    ghost use Rattle.gq_scenario.specs.internal.Smaller_children.{falls};
 
     ghost size_decreases = { λ n h. omega (arith, falls n.nodes.items) };
 }
@@ -494,7 +494,7 @@ impl Model for Scenario {
     ghost use Rattle.std.specs.Coded.{codes};
     ghost use Rattle.gq_model.specs.machine.Scenario.{Scenario};
     ghost use Rattle.gq_model.specs.internal.Stored.{statements_code, nodes_code};
-    ghost use Rattle.gq_scenario.specs.Made.{scenario_made, IsScenario};
+    ghost use Rattle.gq_scenario.specs.Scenario_parts.{scenario_made, IsScenario};
 
     ghost Value = { Scenario };
 
@@ -520,8 +520,8 @@ impl Scenario {
         }
     }
 
-    /// What every scenario is: it has at most 64 leaves, 64 inits below the root, 64 interfaces and 64 routes in a list, no
-    /// name stands twice or is the root's, no node is deeper than 4, and the whole system has whole pages. It does nothing.
+    /// What every scenario is. It has at most 64 leaves, 64 inits below the root, 64 interfaces and 64 routes in a list. No name stands twice or is the root's,
+    /// and no node is deeper than 4. The whole system has whole pages. It does nothing.
     pub fn laws(&self)
         ensures { IsScenario self.now }
     {
@@ -568,7 +568,7 @@ impl Scenario {
     pub fn default_routes(&self) -> Option<&[Route]>
         ensures { option_map (λ r. r.now) result ≡ self.now.default_routes }
     {
-        told(&self.default_routes)
+        reported(&self.default_routes)
     }
 
     /// What services ask of their clients, and give them.

@@ -6,12 +6,13 @@ use Rattle.gq_model.specs.machine.Program.{text_eq}
 use Rattle.gq_model.specs.machine.Scenario.{Interface, Interfaces, LeafNode, InitNode, Nodes, End, Leaf_node, Init_node, Scenario, Component, System}
 use Rattle.gq_model.specs.machine.Scenario.{components_of, components, interface_in, service_in}
 use Rattle.gq_model.specs.rules.Use.{subject}
-use Rattle.gq_model.proofs.Small.{none_some, some_same}
-use Rattle.gq_sizes.specs.Alike.{AreAsOne, AllAsOne, ProvideAsOne, SubjectsAsOne, LeavesAsOne, InitsAsOne, NodesAsOne, ComponentsAsOne, AllComponents}
+use Rattle.gq_model.proofs.Small_facts.{none_some, some_same}
+use Rattle.gq_sizes.specs.Unsized_equality.{AreAsOne, AllAsOne, ProvideAsOne, SubjectsAsOne, LeavesAsOne, InitsAsOne, NodesAsOne, ComponentsAsOne}
+use Rattle.gq_sizes.specs.Unsized_equality.{AllComponents}
 use Rattle.gq_program.specs.Interfaces.{unbounded}
-use Rattle.gq_scenario.specs.Unsized.{without_quanta}
-use Rattle.gq_sizes.proofs.Fitting.{free, found_again, map_length}
-use Rattle.gq_sizes.proofs.Routing.{components_so}
+use Rattle.gq_scenario.specs.Without_quantities.{without_quanta}
+use Rattle.gq_sizes.proofs.Least_sizes_fit.{free, found_again, map_length}
+use Rattle.gq_sizes.proofs.Equal_route_targets.{components_so}
 
 -- INTERFACES
 

@@ -3,10 +3,10 @@ use Rattle.std.proofs.Common.{◌≡◌, ℕ, ◌+◌, List, [], ◌∷◌, ◌+
 use Rattle.gq_model.specs.declared.program.Instruction.{Instruction}
 use Rattle.gq_model.specs.declared.program.Instruction.TheVariants.{Say, Out, Operands, Make, MakePool, Load}
 use Rattle.gq_model.specs.declared.program.Instruction.TheVariants.{Store, Free, Take, Give, Peek, Poke, Open, Upgrade, Call, Close}
-use Rattle.gq_model.specs.declared.program.Place.TheVariants.{Own, Shared, Object}
+use Rattle.gq_model.specs.declared.program.OperandSlot.TheVariants.{Own, Shared, Object}
 use Rattle.gq_model.specs.machine.Program.{Statements, Done, Do, If, Loop, size}
 use Rattle.gq_model.specs.rules.Flow.{at, flow, state_or}
-use Rattle.gq_model.specs.rules.Kinds.{State, Context, inside}
+use Rattle.gq_model.specs.rules.Kinds.{AbstractState, Context, inside}
 use Rattle.gq_model.specs.rules.Rules.{judged}
 use Rattle.gq_verify.specs.Visits.{Sight, At_statement, At_point, sights, slots_of}
 use Rattle.gq_sizes.specs.Size.{Gift, gift_of, gifts}
@@ -24,7 +24,7 @@ shown-append (At_statement c s i ∷ rest) b =
 shown-append (At_point k s ∷ rest) b = shown-append rest b
 
 -- it depends on slots alone
-gift_same : (c : Context) (s : State) (i : Instruction) → gift_of c (slots_of s) i ≡ gift_of c s i
+gift_same : (c : Context) (s : AbstractState) (i : Instruction) → gift_of c (slots_of s) i ≡ gift_of c s i
 gift_same c s (Upgrade (Own k) n) = refl
 gift_same c s (Upgrade (Shared k) n) = refl
 gift_same c s (Upgrade Object n) = refl
@@ -44,7 +44,7 @@ gift_same c s (Give place) = refl
 gift_same c s (Peek place) = refl
 gift_same c s (Poke place) = refl
 
-pub gifts_same : (c : Context) (k : ℕ) (s : State) (b : Statements) → gifts_shown (sights c k s b) ≡ gifts c s b
+pub gifts_same : (c : Context) (k : ℕ) (s : AbstractState) (b : Statements) → gifts_shown (sights c k s b) ≡ gifts c s b
 gifts_same c k s Done = refl
 gifts_same c k s (Do i rest) =
     let t = state_or s (at 1 (judged c s i)) in

@@ -5,7 +5,7 @@ use Rattle.gq_model.specs.machine.Lists.{all_of}
 use Rattle.gq_model.specs.machine.Scenario.{Component, Interfaces, System}
 use Rattle.gq_model.specs.rules.Use.{subject}
 use Rattle.gq_verify.specs.Visits.{Sight, after_all}
-use Rattle.gq_verify.proofs.Left.{next_left, none_left}
+use Rattle.gq_verify.proofs.List_remainders.{next_left, none_left}
 use Rattle.gq_sizes.specs.Gives.{leaf_gives_right}
 
 -- a test of all that is shown, one after the other

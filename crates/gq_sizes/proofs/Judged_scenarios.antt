@@ -11,21 +11,21 @@ use Rattle.gq_model.specs.rules.Accept.{program_refusal, not_resolved, own_refus
 use Rattle.gq_model.specs.rules.Resolve.{first_handed, handed_out, exceeded, exceeds, first_exceeding, sibling, unfit, unfit_after, after_fault, routes_fault}
 use Rattle.gq_model.specs.rules.Resolve.{cycle_fault, offer_fault, quanta_fault, unresolved}
 use Rattle.gq_model.specs.rules.Use.{subject}
-use Rattle.gq_model.proofs.Small.{none_some, some_same, or_first_none}
-use Rattle.gq_laws.specs.Sound.{IsSound}
-use Rattle.gq_laws.proofs.paying.Places.{starts_after}
-use Rattle.gq_laws.proofs.progress.Lasting.{afters_fit}
-use Rattle.gq_laws.proofs.verified.Sound_systems.{is_resolved}
-use Rattle.gq_sizes.specs.Alike.{AllComponents, ScenariosAsOne}
+use Rattle.gq_model.proofs.Small_facts.{none_some, some_same, or_first_none}
+use Rattle.gq_laws.specs.Sound_scenarios.{IsSound}
+use Rattle.gq_laws.proofs.quota_payment.Leaf_component_positions.{starts_after}
+use Rattle.gq_laws.proofs.progress.Lasting_world_invariant.{afters_fit}
+use Rattle.gq_laws.proofs.verified_programs.Sound_systems.{is_resolved}
+use Rattle.gq_sizes.specs.Unsized_equality.{AllComponents, ScenariosAsOne}
 use Rattle.gq_sizes.specs.Size.{refusal_without}
-use Rattle.gq_scenario.specs.Unsized.{without_quanta, unsized}
-use Rattle.gq_sizes.proofs.Freeing.{AnyStep, AnyState, fits_free, free_allows, any_along}
+use Rattle.gq_scenario.specs.Without_quantities.{without_quanta, unsized}
+use Rattle.gq_sizes.proofs.Faultless_without_quantities.{AnyStep, AnyState, fits_free, free_allows, any_along}
 use Rattle.gq_sizes.proofs.Freed_scenarios.{nodes_free, pair_of, none_counted}
-use Rattle.gq_sizes.proofs.Needing.{both, interfaces, subjects, fine}
-use Rattle.gq_sizes.proofs.Resolving.{offers_so, after_so, routes_so, cycles_so}
-use Rattle.gq_sizes.proofs.Sizing.{requests_sized}
-use Rattle.gq_sizes.proofs.Stepping.{AskAsOne, budget_so}
-use Rattle.gq_sizes.proofs.Accepting.{all_pass, steps_none, asks_all, sibling_both, not_less}
+use Rattle.gq_sizes.proofs.Session_needs_bounded.{both, interfaces, subjects, fine}
+use Rattle.gq_sizes.proofs.Resolved_without_quantities.{offers_so, after_so, routes_so, cycles_so}
+use Rattle.gq_sizes.proofs.Sized_program_points.{requests_sized}
+use Rattle.gq_sizes.proofs.Equal_section_requests.{AskAsOne, budget_so}
+use Rattle.gq_sizes.proofs.Sized_scenario_accepted.{all_pass, steps_none, asks_all, sibling_both, not_less}
 
 -- NODES THAT ARE HANDED NOTHING
 

@@ -3,29 +3,29 @@ use Rattle.std.proofs.Common.{◌≡◌, ℕ, List, [], ◌∷◌, Option, Some,
 use Rattle.std.specs.Prelude.{Result, codes}
 use Rattle.gq_model.specs.machine.Lists.{or_first}
 use Rattle.gq_model.specs.machine.Scenario.{Component, LeafNode, Scenario, components}
-use Rattle.gq_model.proofs.Small.{or_first_none}
-use Rattle.gq_scenario.specs.Keys.{DocumentFault}
-use Rattle.gq_scenario.specs.Tables.{version_of}
+use Rattle.gq_model.proofs.Small_facts.{or_first_none}
+use Rattle.gq_scenario.specs.Table_keys.{DocumentFault}
+use Rattle.gq_scenario.specs.Document_tables.{version_of}
 use Rattle.gq_scenario.specs.Document.{list_at, described, walk_fault, names_of, name_twice, counts_fault, document_fault}
-use Rattle.gq_scenario.specs.Reading.{ReadFault, Bad_document, described_or, read_from, document_in, scenario_in}
-use Rattle.gq_scenario.specs.Unsized.{unsized}
-use Rattle.gq_scenario.proofs.Differing.{names_differ}
-use Rattle.gq_reader.proofs.Documents.{walked}
+use Rattle.gq_scenario.specs.Top_table.{ReadFault, Bad_document, described_or, read_from, document_in, scenario_in}
+use Rattle.gq_scenario.specs.Without_quantities.{unsized}
+use Rattle.gq_scenario.proofs.Distinct_leaf_names.{names_differ}
+use Rattle.gq_reader.proofs.Faultless_document_parts.{walked}
 use Rattle.gq_load.specs.Load.{Fault, Unread, source_fault, sources_fault, refused, scenario_fault, loaded_or, loaded_from, loaded}
-use Rattle.gq_load.specs.Unsized.{unsized_refusal}
-use Rattle.gq_load.proofs.Services.{services_fair}
+use Rattle.gq_load.specs.Unsized_judgement.{unsized_refusal}
+use Rattle.gq_load.proofs.Read_service_resources.{services_fair}
 use Rattle.gq_load.proofs.Sound_programs.{nodes_given, programs_are}
 use Rattle.gq_load.proofs.Sound_texts.{loaded_sound, not_ok, same_scenario}
-use Rattle.gq_laws.specs.Sound.{IsWellFormed}
-use Rattle.gq_sizes.specs.Alike.{AllComponents}
+use Rattle.gq_laws.specs.Sound_scenarios.{IsWellFormed}
+use Rattle.gq_sizes.specs.Unsized_equality.{AllComponents}
 use Rattle.gq_sizes.specs.Endless.{HaveEnds}
-use Rattle.gq_sizes.specs.Judged.{fault_without, judged_without, judged_without_from}
+use Rattle.gq_sizes.specs.Judged_scenario.{fault_without, judged_without, judged_without_from}
 use Rattle.gq_sizes.specs.Least.{HasLeast, HasWholePages, IsAcceptedSized, NoneShort}
 use Rattle.gq_sizes.specs.Size.{refusal_without}
-use Rattle.gq_sizes.proofs.Accepting.{is_accepted_sized}
-use Rattle.gq_sizes.proofs.Ending.{settled}
+use Rattle.gq_sizes.proofs.Sized_scenario_accepted.{is_accepted_sized}
+use Rattle.gq_sizes.proofs.Settled_capability_needs.{settled}
 use Rattle.gq_sizes.proofs.Freed_scenarios.{components_both, nodes_free}
-use Rattle.gq_sizes.proofs.Holding.{has_least, nodes_self, self}
+use Rattle.gq_sizes.proofs.Accepted_sizes_suffice.{has_least, nodes_self, self}
 use Rattle.gq_sizes.proofs.Judged_scenarios.{is_judged}
 use Rattle.gq_sizes.proofs.Sized_texts.{refused_none}
 

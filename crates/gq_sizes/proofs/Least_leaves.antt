@@ -9,34 +9,34 @@ use Rattle.gq_tariff.specs.Prices.{classes}
 use Rattle.gq_model.specs.machine.Accounts.{leaf_count}
 use Rattle.gq_model.specs.machine.Amounts.{Resource, Ram, Caps, Amount, amount, part}
 use Rattle.gq_model.specs.machine.Lists.{greatest}
-use Rattle.gq_model.specs.machine.Prices.{chunks, heap_of}
+use Rattle.gq_model.specs.machine.Resource_prices.{chunks, heap_of}
 use Rattle.gq_model.specs.machine.Program.{Statements, Done, body_of, section_in}
 use Rattle.gq_model.specs.machine.Scenario.{Component, Nodes, System}
 use Rattle.gq_model.specs.declared.program.Section.TheVariants.{Main}
 use Rattle.gq_model.specs.rules.Accept.{Budget, budgets_from}
 use Rattle.gq_model.specs.rules.Budgets.{heap_cost, own}
 use Rattle.gq_model.specs.rules.Flow.{context, points, start_of}
-use Rattle.gq_model.specs.rules.Kinds.{State, Subject, kind_places, kinds_cost}
+use Rattle.gq_model.specs.rules.Kinds.{AbstractState, Subject, kind_places, kinds_cost}
 use Rattle.gq_model.specs.rules.Use.{subject}
-use Rattle.gq_resolve.proofs.Pushed.{next_is, one_more, onto}
+use Rattle.gq_resolve.proofs.Mapped_list_growth.{next_is, one_more, onto}
 use Rattle.gq_scenario.specs.Sizes.{node_count}
-use Rattle.gq_scenario.specs.Trees.{before, nodes_of}
+use Rattle.gq_scenario.specs.Component_trees.{before, nodes_of}
 use Rattle.gq_scenario.specs.declared.scenario.Node.{Node}
 use Rattle.gq_scenario.specs.declared.scenario.Node.TheVariants.{Leaf, Init}
 use Rattle.gq_scenario.proofs.Tree_counts.{nodes_drop}
-use Rattle.gq_verify.specs.Counting.{saturated}
+use Rattle.gq_verify.specs.Saturated_numbers.{saturated}
 use Rattle.gq_verify.specs.Visits.{most_shown, section_sights, sights_by, slots_of}
-use Rattle.gq_verify.proofs.Shown.{most_of_section}
+use Rattle.gq_verify.proofs.Visited_point_maxima.{most_of_section}
 use Rattle.gq_sizes.specs.Size.{Given, children_least, is_named, least_caps, leaf_least, own_by, quantum_of, section_points, slots_cost, starts_after}
-use Rattle.gq_sizes.specs.internal.Told.{init_least_told, leaf_least_told}
-use Rattle.gq_sizes.specs.Tables.{IsLeast, leasts_from, own_least}
-use Rattle.gq_sizes.proofs.Saturating.{greatest_saturated, saturated_both, saturated_own}
+use Rattle.gq_sizes.specs.internal.Printed_sizes.{init_least_printed, leaf_least_printed}
+use Rattle.gq_sizes.specs.Saturated_tables.{IsLeast, leasts_from, own_least}
+use Rattle.gq_sizes.proofs.Saturated_cost_sums.{greatest_saturated, saturated_both, saturated_own}
 use Rattle.gq_sizes.proofs.Slot_costs.{slots_ram}
 
 -- HEAP
 
-heap_same : (cs ps : List ℕ) (states : List State) → length ps ≡ length cs →
-    ((k : ℕ) → k < length cs → get_or ps k 0 ≡ greatest (λ (s : State). sum_by (kind_places (get_or cs k 0)) s.own) states) →
+heap_same : (cs ps : List ℕ) (states : List AbstractState) → length ps ≡ length cs →
+    ((k : ℕ) → k < length cs → get_or ps k 0 ≡ greatest (λ (s : AbstractState). sum_by (kind_places (get_or cs k 0)) s.own) states) →
     heap_of Caps cs ps ≡ heap_cost Caps states cs
 heap_same [] ps states n h = refl
 heap_same (c ∷ cs) [] states n h = absurd (omega (arith, n))
@@ -46,31 +46,31 @@ heap_same (c ∷ cs) (p ∷ ps) states n h =
 -- WHAT A LEAF NEEDS FOR ITSELF
 
 -- `main` begins with empty slots, so a program without it has nothing at its points, of which none is shown
-most_by : (f : State → ℕ) → ((s : State) → f (slots_of s) ≡ f s) → (v : Subject) → f (start_of v Main) ≡ 0 → (x : Option Statements) →
+most_by : (f : AbstractState → ℕ) → ((s : AbstractState) → f (slots_of s) ≡ f s) → (v : Subject) → f (start_of v Main) ≡ 0 → (x : Option Statements) →
     section_in Main v.program.sections ≡ x → greatest f (section_points v Main) ≡ most_shown f (section_sights v Main)
 most_by f slots v zero_is (Some b) is = most_of_section f slots v Main b is
 most_by f slots v zero_is None is =
     let none : greatest f (points (context v Main) (start_of v Main) Done) ≡ 0 = omega (arith, zero_is) in
     ap (λ o. greatest f (points (context v Main) (start_of v Main) (body_of o))) is ∙ (none ∙ ap (λ o. most_shown f (sights_by v Main o)) (sym is))
 
-pub most_of_main : (f : State → ℕ) → ((s : State) → f (slots_of s) ≡ f s) → (v : Subject) → f (start_of v Main) ≡ 0 →
+pub most_of_main : (f : AbstractState → ℕ) → ((s : AbstractState) → f (slots_of s) ≡ f s) → (v : Subject) → f (start_of v Main) ≡ 0 →
     greatest f (section_points v Main) ≡ most_shown f (section_sights v Main)
 most_of_main f slots v zero_is = most_by f slots v zero_is (section_in Main v.program.sections) refl
 
 pub own_kept : (f : Given) (v : Subject) (slots heap : ℕ) (places : List ℕ) →
-    slots ≡ most_shown (λ (s : State). saturated (slots_cost f Caps s.own)) (section_sights v Main) → length places ≡ 8 →
-    ((k : ℕ) → k < 8 → get_or places k 0 ≡ most_shown (λ (s : State). sum_by (kind_places (get_or classes k 0)) s.own) (section_sights v Main)) →
+    slots ≡ most_shown (λ (s : AbstractState). saturated (slots_cost f Caps s.own)) (section_sights v Main) → length places ≡ 8 →
+    ((k : ℕ) → k < 8 → get_or places k 0 ≡ most_shown (λ (s : AbstractState). sum_by (kind_places (get_or classes k 0)) s.own) (section_sights v Main)) →
     heap ≡ heap_of Caps classes places → saturated (slots + heap) ≡ saturated (own_by f Caps v)
 own_kept f v slots heap places most eight counts is =
     let states = section_points v Main in
-    let kept = λ (s : State). saturated (slots_cost f Caps s.own) in
-    let first : slots ≡ saturated (greatest (λ (s : State). slots_cost f Caps s.own) states) =
-    most ∙ (sym (most_of_main kept (λ s. refl) v refl) ∙ greatest_saturated (λ (s : State). slots_cost f Caps s.own) states) in
+    let kept = λ (s : AbstractState). saturated (slots_cost f Caps s.own) in
+    let first : slots ≡ saturated (greatest (λ (s : AbstractState). slots_cost f Caps s.own) states) =
+    most ∙ (sym (most_of_main kept (λ s. refl) v refl) ∙ greatest_saturated (λ (s : AbstractState). slots_cost f Caps s.own) states) in
     let second : heap ≡ heap_cost Caps states classes =
     is
     ∙ heap_same classes places states eight
-    (λ k h. counts k h ∙ sym (most_of_main (λ (s : State). sum_by (kind_places (get_or classes k 0)) s.own) (λ s. refl) v refl)) in
-    saturated_both slots heap (greatest (λ (s : State). slots_cost f Caps s.own) states) (heap_cost Caps states classes) (omega (arith, first))
+    (λ k h. counts k h ∙ sym (most_of_main (λ (s : AbstractState). sum_by (kind_places (get_or classes k 0)) s.own) (λ s. refl) v refl)) in
+    saturated_both slots heap (greatest (λ (s : AbstractState). slots_cost f Caps s.own) states) (heap_cost Caps states classes) (omega (arith, first))
     (ap saturated second)
 
 greatest_same : {A : Type 0} → (f g : A → ℕ) → ((x : A) → f x ≡ g x) → (l : List A) → greatest f l ≡ greatest g l
@@ -81,7 +81,7 @@ own_ram : (given : Given) (v : Subject) → own_by given Ram v ≡ own Ram v
 own_ram given v =
     let states = section_points v Main in
     ap (λ n. n + heap_cost Ram states classes)
-    (greatest_same (λ (s : State). slots_cost given Ram s.own) (λ (s : State). kinds_cost Ram s.own) (λ s. slots_ram given s.own) states)
+    (greatest_same (λ (s : AbstractState). slots_cost given Ram s.own) (λ (s : AbstractState). kinds_cost Ram s.own) (λ s. slots_ram given s.own) states)
 
 own_is : (all : System) (given : Given) → IsLeast all given → (c : Component) (ram : ℕ) → ram ≡ own Ram (subject all c) →
     amount ram (saturated (own_by given Caps (subject all c))) ≡ own_least all c
@@ -133,8 +133,8 @@ module _ (name : List ℕ) (all : List Component) (i : ℕ) (c : Component) (wit
 -- WHAT A LEAF NEEDS
 
 module _ (all : System) (c : Component) (least : Amount) (is : least ≡ own_least all c) (small : least.ram < 2 ^ 64) where
-  abbrev told : ℕ → Component → Amount
-  told n d = amount (saturated (leaf_least n Ram all d)) (saturated (leaf_least n Caps all d))
+  abbrev reported : ℕ → Component → Amount
+  reported n d = amount (saturated (leaf_least n Ram all d)) (saturated (leaf_least n Caps all d))
 
   own_small : least.ram ≡ saturated (own_by (least_caps all) Ram (subject all c))
   own_small = let e = ap (λ (a : Amount). a.ram) is in omega (arith, e, small)
@@ -143,10 +143,10 @@ module _ (all : System) (c : Component) (least : Amount) (is : least ≡ own_lea
   own_caps_is = ap (λ (a : Amount). a.caps) is
 
   -- for itself alone
-  pub along_zero : (n : ℕ) → n ≡ 0 → least ≡ told n c
-  along_zero n e = ap₂ amount own_small own_caps_is ∙ ap (λ k. told k c) (sym e)
+  pub along_zero : (n : ℕ) → n ≡ 0 → least ≡ reported n c
+  along_zero n e = ap₂ amount own_small own_caps_is ∙ ap (λ k. reported k c) (sym e)
 
-  along_none_by : (n : ℕ) → starts_after c.node.name all.components ≡ None → least ≡ told (suc n) c
+  along_none_by : (n : ℕ) → starts_after c.node.name all.components ≡ None → least ≡ reported (suc n) c
   along_none_by n e =
       let at = λ (r : Resource) (o : Option Component).
       saturated (max (own_by (least_caps all) r (subject all c)) (quantum_of (leaf_least n r all) o)) in
@@ -155,25 +155,25 @@ module _ (all : System) (c : Component) (least : Amount) (is : least ≡ own_lea
       ap₂ amount first second ∙ ap (λ o. amount (at Ram o) (at Caps o)) (sym e)
 
   -- where none starts after it
-  pub along_none : (n m : ℕ) (name : List ℕ) → n ≡ suc m → name ≡ c.node.name → None ≡ starts_after name all.components → least ≡ told n c
+  pub along_none : (n m : ℕ) (name : List ℕ) → n ≡ suc m → name ≡ c.node.name → None ≡ starts_after name all.components → least ≡ reported n c
   along_none n m name e named none =
-      along_none_by m (ap (λ s. starts_after s all.components) (sym named) ∙ sym none) ∙ ap (λ k. told k c) (sym e)
+      along_none_by m (ap (λ s. starts_after s all.components) (sym named) ∙ sym none) ∙ ap (λ k. reported k c) (sym e)
 
   along_some_by : (n : ℕ) (d : Component) → starts_after c.node.name all.components ≡ Some d →
-      amount (max least.ram (told n d).ram) (max least.caps (told n d).caps) ≡ told (suc n) c
+      amount (max least.ram (reported n d).ram) (max least.caps (reported n d).caps) ≡ reported (suc n) c
   along_some_by n d e =
       let at = λ (r : Resource) (o : Option Component).
       saturated (max (own_by (least_caps all) r (subject all c)) (quantum_of (leaf_least n r all) o)) in
-      let first : max least.ram (told n d).ram ≡ at Ram (Some d) = omega (arith, own_small) in
-      let second : max least.caps (told n d).caps ≡ at Caps (Some d) = omega (arith, own_caps_is) in
+      let first : max least.ram (reported n d).ram ≡ at Ram (Some d) = omega (arith, own_small) in
+      let second : max least.caps (reported n d).caps ≡ at Caps (Some d) = omega (arith, own_caps_is) in
       ap₂ amount first second ∙ ap (λ o. amount (at Ram o) (at Caps o)) (sym e)
 
   -- and where one does
   pub along_some : (n m : ℕ) (name : List ℕ) (d : Component) (more : Amount) → n ≡ suc m → name ≡ c.node.name →
-      Some d ≡ starts_after name all.components → more ≡ told m d → amount (max least.ram more.ram) (max least.caps more.caps) ≡ told n c
+      Some d ≡ starts_after name all.components → more ≡ reported m d → amount (max least.ram more.ram) (max least.caps more.caps) ≡ reported n c
   along_some n m name d more e named some next =
       ap (λ (a : Amount). amount (max least.ram a.ram) (max least.caps a.caps)) next
-      ∙ (along_some_by m d (ap (λ s. starts_after s all.components) (sym named) ∙ sym some) ∙ ap (λ k. told k c) (sym e))
+      ∙ (along_some_by m d (ap (λ s. starts_after s all.components) (sym named) ∙ sym some) ∙ ap (λ k. reported k c) (sym e))
 
 -- LEAVES
 
@@ -192,27 +192,27 @@ least_put all cs i c x are at next is made now whole put inv =
     let n = length all.components in
     let there = λ (r : Resource). ap (λ (l : List Component). leaf_least (length l) r all c) are
     ∙ (ap (quantum_of (leaf_least n r all)) (sym at) ∙ ap (λ (l : List Component). quantum_of (leaf_least n r all) (slice_get l i)) are) in
-    let told : x ≡ leaf_least_told all i = is ∙ ap₂ (λ a b. amount (saturated a) (saturated b)) (there Ram) (there Caps) in
+    let reported : x ≡ leaf_least_printed all i = is ∙ ap₂ (λ a b. amount (saturated a) (saturated b)) (there Ram) (there Caps) in
     onto made now (x ∷ []) (leasts_from all (i + 1) (drop (i + 1) cs)) (leasts_from all i (drop i cs)) whole put
     (ap (leasts_from all i) next
-    ∙ (ap (λ n. leaf_least_told all i ∷ leasts_from all n (drop n cs)) (sym (add-one i))
-    ∙ ap (λ a. a ∷ leasts_from all (i + 1) (drop (i + 1) cs)) (sym told))) inv
+    ∙ (ap (λ n. leaf_least_printed all i ∷ leasts_from all n (drop n cs)) (sym (add-one i))
+    ∙ ap (λ a. a ∷ leasts_from all (i + 1) (drop (i + 1) cs)) (sym reported))) inv
 
 -- what the leaf of a number needs, where there is one
 least_from : (all : System) (x k : ℕ) (cs : List Component) → ((i : ℕ) → slice_get all.components (x + i) ≡ slice_get cs i) →
-    get_or (leasts_from all x cs) k (amount 0 0) ≡ leaf_least_told all (x + k)
+    get_or (leasts_from all x cs) k (amount 0 0) ≡ leaf_least_printed all (x + k)
 least_from all x k [] h =
     let n = length all.components in
     ap (λ o. amount (saturated (quantum_of (leaf_least n Ram all) o)) (saturated (quantum_of (leaf_least n Caps all) o))) (sym (h k))
-least_from all x zero (c ∷ cs) h = ap (leaf_least_told all) (omega arith)
+least_from all x zero (c ∷ cs) h = ap (leaf_least_printed all) (omega arith)
 least_from all x (suc k) (c ∷ cs) h =
-    least_from all (suc x) k cs (λ i. ap (slice_get all.components) (omega arith) ∙ h (suc i)) ∙ ap (leaf_least_told all) (omega arith)
+    least_from all (suc x) k cs (λ i. ap (slice_get all.components) (omega arith) ∙ h (suc i)) ∙ ap (leaf_least_printed all) (omega arith)
 
-pub least_told : (all : System) (least : List Amount) → least ≡ leasts_from all 0 all.components → (x : ℕ) →
-    get_or least x (amount 0 0) ≡ leaf_least_told all x
-least_told all least e x =
+pub least_printed : (all : System) (least : List Amount) → least ≡ leasts_from all 0 all.components → (x : ℕ) →
+    get_or least x (amount 0 0) ≡ leaf_least_printed all x
+least_printed all least e x =
     ap (λ l. get_or l x (amount 0 0)) e
-    ∙ (least_from all 0 x all.components (λ i. ap (slice_get all.components) (omega arith)) ∙ ap (leaf_least_told all) (omega arith))
+    ∙ (least_from all 0 x all.components (λ i. ap (slice_get all.components) (omega arith)) ∙ ap (leaf_least_printed all) (omega arith))
 
 -- CHILDREN
 
@@ -252,19 +252,19 @@ plus_part : (r : Resource) (a b x : Amount) → x ≡ amount (saturated (a.ram +
 plus_part Ram a b x e = ap (λ (y : Amount). y.ram) e
 plus_part Caps a b x e = ap (λ (y : Amount). y.caps) e
 
-told_part : (r : Resource) (all : System) (x : ℕ) (nodes : Nodes) (a : Amount) → a ≡ init_least_told all x nodes →
+printed_part : (r : Resource) (all : System) (x : ℕ) (nodes : Nodes) (a : Amount) → a ≡ init_least_printed all x nodes →
     part r a ≡ saturated (children_least r all x nodes)
-told_part Ram all x nodes a e = ap (λ (y : Amount). y.ram) e
-told_part Caps all x nodes a e = ap (λ (y : Amount). y.caps) e
+printed_part Ram all x nodes a e = ap (λ (y : Amount). y.ram) e
+printed_part Caps all x nodes a e = ap (λ (y : Amount). y.caps) e
 
 -- one node more
 pub amounts_put : (r : Resource) (all : System) (items : List Node) (i : ℕ) (node : Node) → i < length items → node ≡ get_or items i node →
-    (x y whole : ℕ) (sum needed next : Amount) → y ≡ x + leaf_count (nodes_of (node ∷ [])) → needed ≡ init_least_told all x (nodes_of (node ∷ [])) →
+    (x y whole : ℕ) (sum needed next : Amount) → y ≡ x + leaf_count (nodes_of (node ∷ [])) → needed ≡ init_least_printed all x (nodes_of (node ∷ [])) →
     next ≡ amount (saturated (sum.ram + needed.ram)) (saturated (sum.caps + needed.caps)) →
     saturated (part r sum + children_least r all x (nodes_of (drop i items))) ≡ whole →
     saturated (part r next + children_least r all y (nodes_of (drop (i + 1) items))) ≡ whole
 amounts_put r all items i node within is x y whole sum needed next at e f inv =
-    needed_put items i node within is r all x y (part r sum) (part r needed) (part r next) whole at (told_part r all x (nodes_of (node ∷ [])) needed e)
+    needed_put items i node within is r all x y (part r sum) (part r needed) (part r next) whole at (printed_part r all x (nodes_of (node ∷ [])) needed e)
     (plus_part r sum needed next f) inv
 
 end_kept : (s t n : ℕ) → s < 2 ^ 64 → t ≡ 0 → saturated (s + t) ≡ saturated n → s ≡ saturated n
@@ -273,7 +273,7 @@ end_kept s t n small none e = omega (arith, small, none, e)
 -- and at the end all
 pub amounts_all : (all : System) (items : List Node) (i first next : ℕ) (sum : Amount) → length items ≤ i → sum.ram < 2 ^ 64 → sum.caps < 2 ^ 64 →
     ((r : Resource) → saturated (part r sum + children_least r all next (nodes_of (drop i items))) ≡ saturated (children_least r all first (nodes_of items))) →
-    sum ≡ init_least_told all first (nodes_of items)
+    sum ≡ init_least_printed all first (nodes_of items)
 amounts_all all items i first next sum h small few inv =
     let none = λ (r : Resource). ap (λ (l : List Node). children_least r all next (nodes_of l)) (drop_of_length-le items h) in
     ap₂ amount (end_kept sum.ram _ _ small (none Ram) (inv Ram)) (end_kept sum.caps _ _ few (none Caps) (inv Caps))

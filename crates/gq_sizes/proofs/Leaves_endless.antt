@@ -7,23 +7,23 @@ use Rattle.gq_model.specs.declared.program.Section.TheVariants.{Main}
 use Rattle.gq_model.specs.machine.Accounts.{leaf_count}
 use Rattle.gq_model.specs.machine.Lists.{any_of}
 use Rattle.gq_model.specs.machine.Scenario.{Component, Nodes, System}
-use Rattle.gq_model.specs.rules.Kinds.{State, Subject}
+use Rattle.gq_model.specs.rules.Kinds.{AbstractState, Subject}
 use Rattle.gq_model.specs.rules.Use.{subject}
-use Rattle.gq_resolve.proofs.Pushed.{onto}
-use Rattle.gq_scenario.specs.Trees.{before, nodes_of}
+use Rattle.gq_resolve.proofs.Mapped_list_growth.{onto}
+use Rattle.gq_scenario.specs.Component_trees.{before, nodes_of}
 use Rattle.gq_scenario.specs.declared.scenario.Node.{Node}
 use Rattle.gq_scenario.specs.declared.scenario.Node.TheVariants.{Leaf, Init}
 use Rattle.gq_scenario.proofs.Tree_counts.{nodes_drop}
 use Rattle.gq_sizes.specs.Endless.{Test, leads, is_endless, passes, leaf_endless, endless_at, at_start, children_endless}
 use Rattle.gq_sizes.specs.Passing.{AreEndless, endless_from, endless_owns}
-use Rattle.gq_sizes.proofs.Finding.{or_assoc, or_none}
+use Rattle.gq_sizes.proofs.Any_test_search.{or_assoc, or_none}
 use Rattle.gq_sizes.specs.Size.{section_points}
 
 -- LEAVES
 
 -- at some point of `main` a slot of the leaf's own has a link to a session that passes
 abbrev pub own_leads : Test → Subject → Bool
-own_leads test v = any_of (λ (s : State). any_of (leads test) s.own) (section_points v Main)
+own_leads test v = any_of (λ (s : AbstractState). any_of (leads test) s.own) (section_points v Main)
 
 owns_of : (all : System) (test : Test) → test ≡ is_endless all → (cs : List Component) → map (own_leads test) (map (subject all) cs) ≡ endless_owns all cs
 owns_of all test is [] = refl
@@ -39,12 +39,12 @@ pub leaf_put : (all : System) (cs : List Component) (i : ℕ) (c : Component) (b
     made ++ endless_from all i (drop i cs) ≡ whole → now ++ endless_from all (i + 1) (drop (i + 1) cs) ≡ whole
 leaf_put all cs i c b are at next is made now whole put inv =
     let n = length all.components in
-    let told : b ≡ endless_at all i = is ∙ (ap (λ (l : List Component). leaf_endless (length l) all c) are
+    let reported : b ≡ endless_at all i = is ∙ (ap (λ (l : List Component). leaf_endless (length l) all c) are
     ∙ (ap (passes (leaf_endless n all)) (sym at) ∙ ap (λ (l : List Component). passes (leaf_endless n all) (slice_get l i)) are)) in
     onto made now (b ∷ []) (endless_from all (i + 1) (drop (i + 1) cs)) (endless_from all i (drop i cs)) whole put
     (ap (endless_from all i) next
     ∙ (ap (λ n. endless_at all i ∷ endless_from all n (drop n cs)) (sym (add-one i))
-    ∙ ap (λ a. a ∷ endless_from all (i + 1) (drop (i + 1) cs)) (sym told))) inv
+    ∙ ap (λ a. a ∷ endless_from all (i + 1) (drop (i + 1) cs)) (sym reported))) inv
 
 endless_of : (all : System) (x k : ℕ) (cs : List Component) → ((i : ℕ) → slice_get all.components (x + i) ≡ slice_get cs i) →
     get_or (endless_from all x cs) k false ≡ endless_at all (x + k)

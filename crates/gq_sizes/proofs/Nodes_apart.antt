@@ -4,7 +4,7 @@ use Rattle.std.proofs.Math.Seq.{take-length}
 use Rattle.gq_model.specs.machine.Accounts.{leaf_count}
 use Rattle.gq_model.specs.machine.Scenario.{LeafNode, InitNode, Nodes, End, Leaf_node, Init_node, System}
 use Rattle.gq_scenario.specs.Sizes.{node_count}
-use Rattle.gq_scenario.specs.Trees.{before, nodes_of}
+use Rattle.gq_scenario.specs.Component_trees.{before, nodes_of}
 use Rattle.gq_scenario.specs.declared.scenario.Node.{Node}
 use Rattle.gq_scenario.specs.declared.scenario.Node.TheVariants.{Leaf, Init}
 use Rattle.gq_sizes.specs.Least.{least_nodes}

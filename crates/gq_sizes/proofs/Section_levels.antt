@@ -12,7 +12,7 @@ use Rattle.gq_model.specs.rules.Kinds.{Subject, in_main, level_of}
 use Rattle.gq_model.specs.rules.Verdict.{is_wanted, same_truth, first_unwanted, program_fault}
 use Rattle.gq_model.specs.texts.Code.{is_body, is_section, section_number, are_sections, IsProgram}
 use Rattle.gq_model.proofs.Rules_laws.{accepted, same_section_is}
-use Rattle.gq_model.proofs.Small.{none_some, some_none}
+use Rattle.gq_model.proofs.Small_facts.{none_some, some_none}
 use Rattle.gq_sizes.specs.Size.{is_up_to}
 use Rattle.gq_model.proofs.Section_laws.{in_order}
 

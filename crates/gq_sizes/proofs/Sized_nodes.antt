@@ -10,12 +10,12 @@ use Rattle.gq_model.specs.machine.Lists.{or_first}
 use Rattle.gq_model.specs.machine.Scenario.{Route, Nodes, End, Leaf_node, Init_node, Level, Component, Scenario, System, components_of, level, below}
 use Rattle.gq_model.specs.rules.Resolve.{handed_out, exceeded, exceeds, first_exceeding, quanta_fault}
 use Rattle.gq_model.proofs.Component_laws.{components_count}
-use Rattle.gq_model.proofs.Small.{none_some, some_same}
-use Rattle.gq_sizes.specs.Alike.{NodesAsOne}
+use Rattle.gq_model.proofs.Small_facts.{none_some, some_same}
+use Rattle.gq_sizes.specs.Unsized_equality.{NodesAsOne}
 use Rattle.gq_sizes.specs.Size.{least_at, children_least, root_least}
-use Rattle.gq_scenario.specs.Unsized.{without_quanta}
+use Rattle.gq_scenario.specs.Without_quantities.{without_quanta}
 use Rattle.gq_sizes.specs.Least.{caps_of, least_nodes}
-use Rattle.gq_sizes.proofs.Owning.{handed_ram, handed_caps}
+use Rattle.gq_sizes.proofs.Own_need_comparison.{handed_ram, handed_caps}
 
 module _ (version : ℕ) (all : System) where
   -- what the x-th leaf is handed

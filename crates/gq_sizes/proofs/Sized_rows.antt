@@ -6,12 +6,12 @@ use Rattle.gq_model.specs.machine.Amounts.{Ram, Caps, amount}
 use Rattle.gq_model.specs.declared.program.Instruction.{Instruction}
 use Rattle.gq_model.specs.declared.program.Instruction.TheVariants.{Make, Open, Close}
 use Rattle.gq_model.specs.declared.program.Form.TheVariants.{Slice}
-use Rattle.gq_model.specs.declared.program.Place.TheVariants.{Own, Shared}
+use Rattle.gq_model.specs.declared.program.OperandSlot.TheVariants.{Own, Shared}
 use Rattle.gq_model.specs.declared.program.Section.TheVariants.{Main, Opening, Upgrading, Calling, Closing}
 use Rattle.gq_model.specs.machine.Program.{Done}
 use Rattle.gq_model.specs.machine.Scenario.{Scenario, Interface, Any_child, LeafNode, Nodes, End, Init_node, system}
-use Rattle.gq_model.proofs.Samples.{all_do, any_to, init_node, leaf, leaves, main_of, server}
-use Rattle.gq_scenario.specs.Unsized.{unsized}
+use Rattle.gq_model.proofs.Sample_scenarios.{all_do, any_to, init_node, leaf, leaves, main_of, server}
+use Rattle.gq_scenario.specs.Without_quantities.{unsized}
 use Rattle.gq_sizes.specs.Endless.{is_endless}
 use Rattle.gq_sizes.specs.Size_text.{size_text}
 

@@ -11,27 +11,27 @@ use Rattle.gq_model.specs.rules.Kinds.{Subject}
 use Rattle.gq_model.specs.rules.Resolve.{unresolved}
 use Rattle.gq_model.specs.rules.Use.{subject}
 use Rattle.gq_model.specs.rules.Verdict.{program_fault}
-use Rattle.gq_model.proofs.Small.{or_first_none, some_none}
+use Rattle.gq_model.proofs.Small_facts.{or_first_none, some_none}
 use Rattle.gq_program.specs.Interfaces.{all_unbounded, capped, unbounded}
-use Rattle.gq_scenario.specs.Reading.{scenario_in}
-use Rattle.gq_scenario.specs.Unsized.{unsized}
-use Rattle.gq_load.specs.Faults.{PrintsFault, Refuses}
+use Rattle.gq_scenario.specs.Top_table.{scenario_in}
+use Rattle.gq_scenario.specs.Without_quantities.{unsized}
+use Rattle.gq_load.specs.Load_faults.{PrintsFault, Refuses}
 use Rattle.gq_load.specs.Load.{Fault, loaded_or, refused, sources_fault}
-use Rattle.gq_load.specs.declared.fault.LoadError.{LoadError}
-use Rattle.gq_load.specs.declared.fault.LoadError.TheVariants as error
-use Rattle.gq_load.specs.Unsized.{unsized_fault, unsized_refusal}
-use Rattle.gq_verify.specs.Counting.{saturated}
+use Rattle.gq_load.specs.declared.load_fault.LoadError.{LoadError}
+use Rattle.gq_load.specs.declared.load_fault.LoadError.TheVariants as error
+use Rattle.gq_load.specs.Unsized_judgement.{unsized_fault, unsized_refusal}
+use Rattle.gq_verify.specs.Saturated_numbers.{saturated}
 use Rattle.gq_sizes.specs.Size.{Gift, all_gifts, all_short, asked_above, least_caps, needed, ram_sum}
 use Rattle.gq_sizes.specs.Needing.{BreakNothing, subjects_by}
 use Rattle.gq_sizes.specs.Endless.{is_endless}
-use Rattle.gq_sizes.specs.Judged.{fault_without, judged_without, judged_without_from}
+use Rattle.gq_sizes.specs.Judged_scenario.{fault_without, judged_without, judged_without_from}
 use Rattle.gq_sizes.specs.Passing.{endless_rows, tests}
 use Rattle.gq_sizes.specs.Size_text.{size_text}
-use Rattle.gq_sizes.specs.internal.Told as told
-use Rattle.gq_sizes.specs.internal.Told.{interface_lines, node_lines, root_line}
-use Rattle.gq_sizes.specs.Tables.{AreOf, caps_rows, ram_rows, row}
-use Rattle.gq_sizes.proofs.Beside.{text_beside}
-use Rattle.gq_sizes.proofs.Subjects.{subjects_are}
+use Rattle.gq_sizes.specs.internal.Printed_sizes as reported
+use Rattle.gq_sizes.specs.internal.Printed_sizes.{interface_lines, node_lines, root_line}
+use Rattle.gq_sizes.specs.Saturated_tables.{AreOf, caps_rows, ram_rows, row}
+use Rattle.gq_sizes.proofs.Least_sizes_printed.{text_beside}
+use Rattle.gq_sizes.proofs.Judged_leaf_subjects.{subjects_are}
 
 -- NO PROGRAM BREAKS A RULE
 
@@ -109,20 +109,20 @@ endless_rows_same all (e ∷ rest) = ap (λ rows. tests (is_endless all e.0) ∷
 
 -- the rows of the scenario without its quantities are those of the scenario
 module _ (all : System) (s free : Scenario) (ifs : Interfaces) (rows : List (List ℕ)) (is : free ≡ unsized s) (same : ifs ≡ s.interfaces) where
-  pub ram_told : (cs : List Component) → cs ≡ all.components → rows ≡ ram_rows all (all_gifts all cs) free.interfaces →
+  pub ram_printed : (cs : List Component) → cs ≡ all.components → rows ≡ ram_rows all (all_gifts all cs) free.interfaces →
       rows ≡ ram_rows all (all_gifts all all.components) ifs
-  ram_told cs are made =
+  ram_printed cs are made =
       let given = all_gifts all all.components in
       made
       ∙ (ap (λ l. ram_rows all (all_gifts all l) free.interfaces) are
       ∙ (ap (λ (f : Scenario). ram_rows all given f.interfaces) is ∙ (ram_rows_same all given s.interfaces ∙ ap (ram_rows all given) (sym same))))
 
-  pub caps_told : rows ≡ caps_rows all free.interfaces → rows ≡ caps_rows all ifs
-  caps_told made = made ∙ (ap (λ (f : Scenario). caps_rows all f.interfaces) is ∙ (caps_rows_same all s.interfaces ∙ ap (caps_rows all) (sym same)))
+  pub caps_are_printed : rows ≡ caps_rows all free.interfaces → rows ≡ caps_rows all ifs
+  caps_are_printed made = made ∙ (ap (λ (f : Scenario). caps_rows all f.interfaces) is ∙ (caps_rows_same all s.interfaces ∙ ap (caps_rows all) (sym same)))
 
-pub endless_told : (all : System) (s free : Scenario) (ifs : Interfaces) (rows : List (List Bool)) → free ≡ unsized s → ifs ≡ s.interfaces
+pub endless_printed : (all : System) (s free : Scenario) (ifs : Interfaces) (rows : List (List Bool)) → free ≡ unsized s → ifs ≡ s.interfaces
     → rows ≡ endless_rows all free.interfaces → rows ≡ endless_rows all ifs
-endless_told all s free ifs rows is same made =
+endless_printed all s free ifs rows is same made =
     made ∙ (ap (λ (f : Scenario). endless_rows all f.interfaces) is ∙ (endless_rows_same all s.interfaces ∙ ap (endless_rows all) (sym same)))
 
 -- REFUSALS
@@ -155,4 +155,4 @@ text_is s free version ifs is numbered same first second third whole a b c d =
     let nodes = node_lines s.version all (codes "init") 0 s.nodes in
     d
     ∙ (ap (λ t. t ++ root ++ nodes) (c ∙ ap (λ t. t ++ short) (b ∙ ap (λ t. t ++ lines version ifs) a))
-    ∙ ((λ j. lines (numbered j) (same j) ++ short ++ root ++ nodes) ∙ (ap (λ (f : Scenario). told.told_text (system f) s) is ∙ text_beside s)))
+    ∙ ((λ j. lines (numbered j) (same j) ++ short ++ root ++ nodes) ∙ (ap (λ (f : Scenario). reported.reported_text (system f) s) is ∙ text_beside s)))

@@ -4,9 +4,9 @@ use Rattle.std.proofs.lemmas.List.Sums.{sum_by-cons}
 use Rattle.gq_model.specs.machine.Amounts.{Ram}
 use Rattle.gq_model.specs.declared.program.Form.TheVariants.{Slice}
 use Rattle.gq_model.specs.machine.Lists.{greatest}
-use Rattle.gq_model.specs.machine.Prices.{price_memory}
+use Rattle.gq_model.specs.machine.Resource_prices.{price_memory}
 use Rattle.gq_model.specs.machine.Scenario.{Interface}
-use Rattle.gq_model.specs.rules.Kinds.{State, session_cost}
+use Rattle.gq_model.specs.rules.Kinds.{AbstractState, session_cost}
 use Rattle.gq_model.specs.rules.Kinds.{Kind, Empty_kind, Memory, Pool_kind, Link_kind, kind_lent, kind_price, kinds_cost}
 use Rattle.gq_sizes.specs.Size as size
 use Rattle.gq_sizes.specs.Size.{Given, lent_by, slot_cost, slots_cost}
@@ -29,8 +29,8 @@ slots_ram given (kind ∷ rest) =
     omega (arith, all, held, lent, here, more)
 
 -- what a session costs in bytes, at any of these points
-pub session_ram : (i : Interface) (states : List State) →
-    greatest (size.session_cost (λ _ _. 0) Ram i) states ≡ greatest (λ (s : State). session_cost Ram i s.bank) states
+pub session_ram : (i : Interface) (states : List AbstractState) →
+    greatest (size.session_cost (λ _ _. 0) Ram i) states ≡ greatest (λ (s : AbstractState). session_cost Ram i s.bank) states
 session_ram i [] = refl
 session_ram i (s ∷ rest) =
     let here = ap (λ n. price_memory Ram Slice i.object + n) (slots_ram (λ _ _. 0) s.bank) in

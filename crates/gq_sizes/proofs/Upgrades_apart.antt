@@ -4,10 +4,10 @@ use Rattle.std.proofs.Common.{Bool, true, false}
 use Rattle.std.specs.Prelude.{if◌then◌else◌}
 use Rattle.std.proofs.Math.Seq.{take-length}
 use Rattle.gq_model.specs.machine.Amounts.{Amount, amount, counts_caps}
-use Rattle.gq_verify.specs.Counting.{saturated}
+use Rattle.gq_verify.specs.Saturated_numbers.{saturated}
 use Rattle.gq_sizes.specs.Least.{beyond, caps_of, least_upgrades}
-use Rattle.gq_sizes.specs.Tables.{row}
-use Rattle.gq_sizes.proofs.Rounds.{row_get}
+use Rattle.gq_sizes.specs.Saturated_tables.{row}
+use Rattle.gq_sizes.proofs.Capability_need_rounds.{row_get}
 
 -- the number of a level of these rows
 pub level_is : (f : ℕ → ℕ) (xs : List ℕ) (n l : ℕ) → xs ≡ row f → n ≡ get_or xs l 0 → l ≤ 3 → n ≡ f l

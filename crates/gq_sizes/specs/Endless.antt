@@ -6,10 +6,10 @@ use Rattle.gq_model.specs.machine.Accounts.{leaf_count}
 use Rattle.gq_model.specs.machine.Lists.{any_of}
 use Rattle.gq_model.specs.machine.Program.{Statements}
 use Rattle.gq_model.specs.machine.Scenario.{Interface, Nodes, End, Leaf_node, Init_node, Component, Scenario, System, interface_in, system}
-use Rattle.gq_model.specs.rules.Kinds.{Kind, Link_kind, State, Subject}
+use Rattle.gq_model.specs.rules.Kinds.{Kind, Link_kind, AbstractState, Subject}
 use Rattle.gq_model.specs.rules.Use.{subject}
 use Rattle.gq_sizes.specs.Size.{is_named, is_up_to, rounds, section_points, starts_after}
-use Rattle.gq_scenario.specs.Unsized.{unsized}
+use Rattle.gq_scenario.specs.Without_quantities.{unsized}
 use Rattle.gq_model.specs.machine.Amounts.{counts_caps}
 
 -- INTERFACES
@@ -26,7 +26,8 @@ leads test kind = false
 -- at some point a session of a level up to l of this leaf holds one that passes
 abbrev pub leaf_holds : Test → Subject → ℕ → Bool
 leaf_holds test v l =
-    any_of (λ (p : Section × Statements). is_up_to l p.0 && any_of (λ (s : State). any_of (leads test) s.bank) (section_points v p.0)) v.program.sections
+    any_of (λ (p : Section × Statements). is_up_to l p.0 && any_of (λ (s : AbstractState). any_of (leads test) s.bank) (section_points v p.0))
+    v.program.sections
 
 -- at some point a session of a service and a level holds one that passes
 abbrev pub holds : Test → System → Test
@@ -45,7 +46,7 @@ is_endless all = goes_on (rounds all) all
 
 -- at some point of `main` a slot of the leaf's own has a link to such a session
 abbrev pub own_endless : System → Subject → Bool
-own_endless all v = any_of (λ (s : State). any_of (leads (is_endless all)) s.own) (section_points v Main)
+own_endless all v = any_of (λ (s : AbstractState). any_of (leads (is_endless all)) s.own) (section_points v Main)
 
 abbrev pub passes : (Component → Bool) → Option Component → Bool
 passes test None = false

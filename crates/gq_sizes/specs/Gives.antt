@@ -9,7 +9,7 @@ use Rattle.gq_model.specs.rules.Kinds.{Subject}
 use Rattle.gq_model.specs.rules.Use.{subject}
 use Rattle.gq_verify.specs.Visits.{Sight, At_statement, At_point, section_sights}
 use Rattle.gq_sizes.specs.Size.{Gift, gift_of, open_at}
-use Rattle.gq_scenario.specs.Unsized.{unsized}
+use Rattle.gq_scenario.specs.Without_quantities.{unsized}
 
 -- the bytes that an interface asks for its upgrade to a level
 abbrev pub upgrade_to : ℕ → Interface → ℕ

@@ -4,10 +4,10 @@ use Rattle.gq_model.specs.machine.Accounts.{leaf_count}
 use Rattle.gq_model.specs.machine.Amounts.{Ram, Caps, Amount, amount, counts_caps}
 use Rattle.gq_model.specs.machine.Scenario.{Interface, Interfaces, Nodes, End, Leaf_node, Init_node, Scenario, System, system, interface_in}
 use Rattle.gq_model.specs.rules.Kinds.{need_of}
-use Rattle.gq_laws.specs.Sound.{IsSound}
+use Rattle.gq_laws.specs.Sound_scenarios.{IsSound}
 use Rattle.gq_sizes.specs.Size.{Gift, all_gifts, all_short, children_least, least_at, least_caps, ram_sum, root_least}
 use Rattle.gq_sizes.specs.Endless.{NoneEndless}
-use Rattle.gq_scenario.specs.Unsized.{unsized}
+use Rattle.gq_scenario.specs.Without_quantities.{unsized}
 
 -- capabilities are 0 where the version counts none
 abbrev pub caps_of : ℕ → ℕ → ℕ

@@ -1,11 +1,11 @@
 pub mod Size_text
-pub mod Tables
-pub mod Kept
+pub mod Saturated_tables
+pub mod Point_maxima
 pub mod Needing
-pub mod Judged
-pub mod Written
+pub mod Judged_scenario
+pub mod Size_written
 pub mod internal
-pub mod Alike
+pub mod Unsized_equality
 pub mod Size
 pub mod Least
 pub mod Endless

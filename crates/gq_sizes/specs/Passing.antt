@@ -1,7 +1,7 @@
 -- What is kept of a system while it is found where no number of capabilities is enough.
 use Rattle.std.specs.Prelude.{◌≡◌, ℕ, suc, min, Bool, false, ◌&&◌, ◌||◌, List, [], ◌∷◌, map, Option, Some, None, get_or}
 use Rattle.gq_model.specs.machine.Scenario.{Interface, Interfaces, Component, System}
-use Rattle.gq_model.specs.rules.Kinds.{State, Subject}
+use Rattle.gq_model.specs.rules.Kinds.{AbstractState, Subject}
 use Rattle.gq_model.specs.rules.Use.{subject}
 use Rattle.gq_program.specs.Interfaces.{place_in}
 use Rattle.gq_verify.specs.Visits.{Sight, At_statement, At_point}
@@ -42,7 +42,7 @@ AreEndless all test = (service : List ℕ) (level : ℕ) → test service level 
 -- POINTS
 
 -- whether one was found by now, after what is shown next
-abbrev pub found_by : (State → Bool) → Bool → Sight → Bool
+abbrev pub found_by : (AbstractState → Bool) → Bool → Sight → Bool
 found_by f found (At_statement c s i) = found
 found_by f found (At_point k s) = found || f s
 

@@ -6,7 +6,7 @@ use Rattle.gq_tariff.specs.Prices.{classes, up}
 use Rattle.gq_model.specs.machine.Accounts.{entry, leaf_count}
 use Rattle.gq_model.specs.machine.Amounts.{Resource, Ram, Caps, Amount}
 use Rattle.gq_model.specs.machine.Lists.{greatest}
-use Rattle.gq_model.specs.machine.Prices.{price_memory}
+use Rattle.gq_model.specs.machine.Resource_prices.{price_memory}
 use Rattle.gq_model.specs.declared.program.Form.TheVariants.{Slice}
 use Rattle.gq_model.specs.declared.program.Instruction.{Instruction}
 use Rattle.gq_model.specs.declared.program.Instruction.TheVariants.{Open, Upgrade}
@@ -18,12 +18,12 @@ use Rattle.gq_model.specs.machine.Scenario.{interface_in}
 use Rattle.gq_model.specs.rules.Accept.{Refusal}
 use Rattle.gq_model.specs.rules.Budgets.{heap_cost}
 use Rattle.gq_model.specs.rules.Flow.{at, body, context, flow, points, start_of, state_or}
-use Rattle.gq_model.specs.rules.Kinds.{Kind, Link_kind, State, Subject, Context, inside, kind_at, kind_price, level_of}
+use Rattle.gq_model.specs.rules.Kinds.{Kind, Link_kind, AbstractState, Subject, Context, inside, kind_at, kind_price, level_of}
 use Rattle.gq_model.specs.rules.Rules.{judged, link_kind}
 use Rattle.gq_model.specs.rules.Use.{subject}
 use Rattle.gq_model.specs.texts.Fault_texts.{section_word}
-use Rattle.gq_scenario.specs.Unsized.{unsized}
-use Rattle.gq_load.specs.Unsized.{unsized_refusal}
+use Rattle.gq_scenario.specs.Without_quantities.{unsized}
+use Rattle.gq_load.specs.Unsized_judgement.{unsized_refusal}
 
 -- WHAT IS JUDGED
 
@@ -50,10 +50,10 @@ abbrev pub slots_cost : Given → Resource → List Kind → ℕ
 slots_cost given r kinds = sum_by (slot_cost given r) kinds
 
 -- a session's object and its slots
-abbrev pub session_cost : Given → Resource → Interface → State → ℕ
+abbrev pub session_cost : Given → Resource → Interface → AbstractState → ℕ
 session_cost given r i s = price_memory r Slice i.object + slots_cost given r s.bank
 
-abbrev pub section_points : Subject → Section → List State
+abbrev pub section_points : Subject → Section → List AbstractState
 section_points v section = points (context v section) (start_of v section) (body v section)
 
 abbrev pub is_up_to : ℕ → Section → Bool
@@ -84,11 +84,11 @@ abbrev pub gift_on : ℕ → Option (List ℕ × ℕ × Amount) → List Gift
 gift_on n None = []
 gift_on n (Some l) = (l.0, suc l.1, n) ∷ []
 
-abbrev pub gift_of : Context → State → Instruction → List Gift
+abbrev pub gift_of : Context → AbstractState → Instruction → List Gift
 gift_of c s (Upgrade place n) = gift_on n (link_kind (kind_at c s place))
 gift_of c s _ = []
 
-abbrev pub gifts : Context → State → Statements → List Gift
+abbrev pub gifts : Context → AbstractState → Statements → List Gift
 gifts c s Done = []
 gifts c s (Do i rest) = gift_of c s i ++ gifts c (state_or s (at 1 (judged c s i))) rest
 gifts c s (If arm other rest) =
@@ -163,7 +163,7 @@ least_caps all = caps_sum (rounds all) all
 -- what a leaf's own slots and heap cost at most
 abbrev pub own_by : Given → Resource → Subject → ℕ
 own_by given r v =
-    let states = section_points v Main in greatest (λ (s : State). slots_cost given r s.own) states + heap_cost r states classes
+    let states = section_points v Main in greatest (λ (s : AbstractState). slots_cost given r s.own) states + heap_cost r states classes
 
 -- the leaves that start after that of this name
 abbrev pub starts_after : List ℕ → List Component → Option Component

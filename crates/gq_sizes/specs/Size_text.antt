@@ -2,12 +2,12 @@
 -- place of its own (`sized`), to which the laws apply. A number above 2^64 - 1 is printed as 2^64 - 1; the bytes of a short `open` never come there. Where no
 -- number of capabilities is enough, `none` stands in its place.
 use Rattle.std.specs.Prelude.{ℕ, suc, ◌+◌, ◌-◌, Bool, true, false, List, [], ◌∷◌, ◌++◌, Option, Some, None, decimal, codes}
-use Rattle.gq_model.specs.machine.Accounts.{entry, leaf_count, told}
+use Rattle.gq_model.specs.machine.Accounts.{entry, leaf_count, reported}
 use Rattle.gq_model.specs.machine.Amounts.{Resource, Ram, Caps, Amount, part}
 use Rattle.gq_model.specs.machine.Scenario.{Interface, Interfaces, Nodes, Leaf_node, Init_node, Scenario, System, below, system}
 use Rattle.gq_model.specs.rules.Kinds.{need_of}
-use Rattle.gq_scenario.specs.Unsized.{unsized}
-use Rattle.gq_verify.specs.Counting.{saturated}
+use Rattle.gq_scenario.specs.Without_quantities.{unsized}
+use Rattle.gq_verify.specs.Saturated_numbers.{saturated}
 use Rattle.gq_sizes.specs.Endless.{children_endless, endless_at, is_endless}
 use Rattle.gq_sizes.specs.Least.{sized}
 use Rattle.gq_sizes.specs.Size.{all_gifts, all_short}
@@ -28,7 +28,7 @@ least_entry None = codes " least none"
 least_entry (Some n) = entry (codes "least") n
 
 abbrev pub caps_entries : ℕ → ℕ → Option ℕ → List ℕ
-caps_entries version n least = told version (entry (codes "caps") n ++ least_entry least)
+caps_entries version n least = reported version (entry (codes "caps") n ++ least_entry least)
 
 -- lines of what there is, with the least bytes and the least capabilities
 abbrev pub need_line : ℕ → List ℕ → Amount → ℕ → Option ℕ → List ℕ

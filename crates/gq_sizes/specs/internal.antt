@@ -1,2 +1,2 @@
 pub mod Short_lines
-pub mod Told
+pub mod Printed_sizes

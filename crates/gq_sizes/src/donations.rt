@@ -3,23 +3,23 @@
 ghost use Rattle.std.specs.Prelude.{◌≡◌, IsTrue, None, IfOk, IfErr, map};
 ghost use Rattle.gq_model.specs.texts.Code.{is_section};
 ghost use Rattle.gq_model.specs.machine.Scenario as model;
-ghost use Rattle.gq_load.specs.Faults.{PrintsFault};
-ghost use Rattle.gq_load.specs.Unsized.{unsized_fault};
-ghost use Rattle.gq_scenario.specs.Unsized.{unsized};
-ghost use Rattle.gq_sizes.specs.Judged.{fault_without};
+ghost use Rattle.gq_load.specs.Load_faults.{PrintsFault};
+ghost use Rattle.gq_load.specs.Unsized_judgement.{unsized_fault};
+ghost use Rattle.gq_scenario.specs.Without_quantities.{unsized};
+ghost use Rattle.gq_sizes.specs.Judged_scenario.{fault_without};
 
 use crate::endless::{Tests, endless};
+use crate::faultless_programs::all_verified;
 use crate::needs::free_ram;
-use crate::points::LEVELS;
-use crate::programs::all_verified;
-use gq_load::fault::LoadError;
-use gq_load::quantities::{Unsized, judge_unsized};
+use crate::point_maxima::LEVELS;
+use gq_load::load_fault::LoadError;
+use gq_load::unsized_scenarios::{Unsized, judge_unsized};
 use gq_model::program::Name;
 use gq_program::{Instruction, Interfaces, Section};
 use gq_resolve::component::{Component, components};
-use gq_rules::{Context, State};
-use gq_scenario::quantities::without_quantities;
+use gq_rules::{AbstractState, Context};
 use gq_scenario::scenario::Scenario;
+use gq_scenario::without_quantities::without_quantities;
 use gq_verify::{Verified, Visitor};
 use std::alloc::{AllocError, Global};
 
@@ -72,7 +72,12 @@ impl<'a> Visitor for Donating<'a> {
 
     ghost leads = { λ a e b. Unit {0} };
 
-    fn statement(&mut self, context: &Context<'_>, state: &State, instruction: &Instruction) {
+    fn statement(
+        &mut self,
+        context: &Context<'_>,
+        state: &AbstractState,
+        instruction: &Instruction,
+    ) {
         match instruction {
             Instruction::Open(_, service, _) => {
                 let amount = self.need(service.as_bytes(), 0);
@@ -90,7 +95,7 @@ impl<'a> Visitor for Donating<'a> {
         }
     }
 
-    fn point(&mut self, _number: u64, _state: &State) {}
+    fn point(&mut self, _number: u64, _state: &AbstractState) {}
 }
 
 /// What the statements of a section are to give.

@@ -9,15 +9,15 @@ ghost use Rattle.gq_model.specs.texts.Code.{is_section};
 ghost use Rattle.gq_sizes.specs.Endless.{holds, leads, leaf_holds};
 ghost use Rattle.gq_sizes.specs.Passing.{chain_rows, endless_rows, held_of, held_rows, passing, test_at};
 ghost use Rattle.gq_sizes.specs.Size.{is_named, is_up_to, section_points};
-ghost use Rattle.gq_sizes.specs.Tables.{AreOf};
+ghost use Rattle.gq_sizes.specs.Saturated_tables.{AreOf};
 
 use crate::needs::{is_provider, is_up_to};
-use crate::points::LEVELS;
-use crate::sections::levels_are_low;
+use crate::point_maxima::LEVELS;
+use crate::section_levels::levels_are_low;
 use gq_caps::{Bank, Kind};
 use gq_program::{Instruction, Interfaces, Name, Section};
 use gq_resolve::component::Component;
-use gq_rules::{Context, State};
+use gq_rules::{AbstractState, Context};
 use gq_verify::{Verified, Visitor};
 use std::alloc::{AllocError, Global};
 
@@ -94,9 +94,14 @@ impl<'a> Visitor for Held<'a> {
     ghost leads = { λ a e b. (b.sessions ≡ a.sessions)
         × (b.found ≡ found_by (λ s. any_of (leads (passing a.sessions.now.interfaces.now a.sessions.now.tests.now)) s.bank) a.found e) };
 
-    fn statement(&mut self, _context: &Context<'_>, _state: &State, _instruction: &Instruction) {}
+    fn statement(
+        &mut self,
+        _context: &Context<'_>,
+        _state: &AbstractState,
+        _instruction: &Instruction,
+    ) {}
 
-    fn point(&mut self, _number: u64, state: &State) {
+    fn point(&mut self, _number: u64, state: &AbstractState) {
         let held = self.sessions.held(state.bank());
         self.found |= held;
     }

@@ -5,10 +5,10 @@ ghost use Rattle.gq_verify.specs.Visits.{after_all, section_sights};
 ghost use Rattle.gq_sizes.specs.Size.{Gift, gifts_above, gifts_in, least_gift};
 ghost use Rattle.gq_sizes.specs.Needing.{given_at, gift_row, gifts_of, least_of, up_to};
 
-use crate::points::LEVELS;
+use crate::point_maxima::LEVELS;
 use gq_program::{Instruction, Name, Section};
-use gq_rules::{Context, State};
-use gq_scenario::lines::same_bytes;
+use gq_rules::{AbstractState, Context};
+use gq_scenario::text_pieces::same_bytes;
 use gq_verify::{Verified, Visitor};
 
 /// The least bytes that any statement gives for each level of a service, where one does.
@@ -44,7 +44,12 @@ impl<'a> Visitor for Giving<'a> {
 
     ghost leads = { λ a e b. (b.service ≡ a.service) × (b.level ≡ a.level) × (b.least ≡ given_at a.service.now a.level a.least e) };
 
-    fn statement(&mut self, context: &Context<'_>, state: &State, instruction: &Instruction) {
+    fn statement(
+        &mut self,
+        context: &Context<'_>,
+        state: &AbstractState,
+        instruction: &Instruction,
+    ) {
         if let Instruction::Upgrade(place, given) = instruction {
             if let Some(link) = context.link_at(state, *place) {
                 self.give(link.service(), link.level() + 1, *given);
@@ -52,7 +57,7 @@ impl<'a> Visitor for Giving<'a> {
         }
     }
 
-    fn point(&mut self, _number: u64, _state: &State) {}
+    fn point(&mut self, _number: u64, _state: &AbstractState) {}
 }
 
 /// The least that is given for a level of a service, also by a section of a leaf.

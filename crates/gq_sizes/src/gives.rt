@@ -4,21 +4,21 @@ ghost use Rattle.gq_model.specs.machine.Lists.{all_of};
 ghost use Rattle.gq_model.specs.machine.Scenario as model;
 ghost use Rattle.gq_model.specs.machine.Scenario.{interface_in, number_of};
 ghost use Rattle.gq_model.specs.texts.Code.{is_section};
-ghost use Rattle.gq_load.specs.Faults.{PrintsFault};
-ghost use Rattle.gq_load.specs.Unsized.{unsized_fault};
-ghost use Rattle.gq_scenario.specs.Unsized.{unsized};
+ghost use Rattle.gq_load.specs.Load_faults.{PrintsFault};
+ghost use Rattle.gq_load.specs.Unsized_judgement.{unsized_fault};
+ghost use Rattle.gq_scenario.specs.Without_quantities.{unsized};
 ghost use Rattle.gq_verify.specs.Visits.{section_sights};
 ghost use Rattle.gq_sizes.specs.Gives.{GivesLeast, gives_right, leaf_gives_right, upgrade_to};
-ghost use Rattle.gq_sizes.specs.Judged.{fault_without};
+ghost use Rattle.gq_sizes.specs.Judged_scenario.{fault_without};
 
-use crate::programs::all_verified;
-use gq_load::fault::LoadError;
-use gq_load::quantities::{Unsized, judge_unsized};
+use crate::faultless_programs::all_verified;
+use gq_load::load_fault::LoadError;
+use gq_load::unsized_scenarios::{Unsized, judge_unsized};
 use gq_program::{Instruction, Interface, Interfaces, Section};
 use gq_resolve::component::{Component, components};
-use gq_rules::{Context, State};
-use gq_scenario::quantities::without_quantities;
+use gq_rules::{AbstractState, Context};
 use gq_scenario::scenario::Scenario;
+use gq_scenario::without_quantities::without_quantities;
 use gq_verify::{Verified, Visitor};
 use std::alloc::{AllocError, Global};
 
@@ -67,7 +67,12 @@ impl<'a> Visitor for Exact<'a> {
 
     ghost leads = { λ a e b. (b.interfaces ≡ a.interfaces) × (b.right ≡ (a.right && gives_right a.interfaces.now e)) };
 
-    fn statement(&mut self, context: &Context<'_>, state: &State, instruction: &Instruction) {
+    fn statement(
+        &mut self,
+        context: &Context<'_>,
+        state: &AbstractState,
+        instruction: &Instruction,
+    ) {
         match instruction {
             Instruction::Open(_, service, given) => {
                 let asked = self.need(service.as_bytes());
@@ -83,7 +88,7 @@ impl<'a> Visitor for Exact<'a> {
         }
     }
 
-    fn point(&mut self, _number: u64, _state: &State) {}
+    fn point(&mut self, _number: u64, _state: &AbstractState) {}
 }
 
 /// Whether the statements of a section give what the interfaces ask.

@@ -3,24 +3,24 @@ ghost use Rattle.std.specs.Prelude.{◌≡◌, ◌+◌, ◌≤◌, ◌∷◌, []
 ghost use Rattle.gq_model.specs.machine.Accounts.{leaf_count};
 ghost use Rattle.gq_model.specs.machine.Scenario as model;
 ghost use Rattle.gq_model.specs.rules.Accept as accept;
-ghost use Rattle.gq_load.specs.Faults.{PrintsFault};
-ghost use Rattle.gq_load.specs.Unsized.{unsized_fault};
-ghost use Rattle.gq_scenario.specs.Trees.{nodes_of};
-ghost use Rattle.gq_scenario.specs.Unsized.{unsized};
-ghost use Rattle.gq_sizes.specs.Judged.{fault_without};
+ghost use Rattle.gq_load.specs.Load_faults.{PrintsFault};
+ghost use Rattle.gq_load.specs.Unsized_judgement.{unsized_fault};
+ghost use Rattle.gq_scenario.specs.Component_trees.{nodes_of};
+ghost use Rattle.gq_scenario.specs.Without_quantities.{unsized};
+ghost use Rattle.gq_sizes.specs.Judged_scenario.{fault_without};
 ghost use Rattle.gq_sizes.specs.Least.{shorts_of};
 
-use crate::found::{Found, found_of};
-use crate::interfaces::Sums;
-use crate::nodes::Leaves;
-pub use crate::places::Least;
-use crate::points::LEVELS;
+use crate::interface_lines::Sums;
+use crate::least_quantities::{LeastFound, found_of};
+use crate::node_lines::Leaves;
+use crate::point_maxima::LEVELS;
+pub use crate::quantity_lines::Least;
 use crate::shorts::push_shorts;
-use gq_load::fault::LoadError;
-use gq_load::quantities::{Unsized, judge_unsized};
+use gq_load::load_fault::LoadError;
+use gq_load::unsized_scenarios::{Unsized, judge_unsized};
 use gq_resolve::component::{Component, components};
-use gq_scenario::quantities::without_quantities;
 use gq_scenario::scenario::{Node, Nodes, Scenario};
+use gq_scenario::without_quantities::without_quantities;
 use std::alloc::{AllocError, Global};
 
 /// What each quantity of a scenario is at least. A number above 2^64 - 1 is kept as 2^64 - 1.
@@ -102,7 +102,7 @@ fn push_node(
 fn least_nodes(
     alloc: Global,
     scenario: &Scenario,
-    found: &Found,
+    found: &LeastFound,
 ) -> Result<Vec<Least>, AllocError> {
     let _count = scenario.leaf_count();
     let leaves = Leaves {

@@ -1,7 +1,7 @@
 //! How much is enough: the least quantities under which a scenario is accepted, and the laws that say so.
 //!
 //! ```rust
-//! use gq_sizes::laws::{least_laws, size_laws};
+//! use gq_sizes::least_size_laws::{least_laws, size_laws};
 //! use gq_sizes::size::size;
 //! use gq_world::Counted;
 //!
@@ -13,34 +13,35 @@
 //! size_laws();
 //! ```
 //!
-//! `size` looks at the scenario without its quantities (`judged`), whose points it sees by the verifier's walk (`points`). The definitions are:
+//! `size` looks at the scenario without its quantities (`judged_scenario`), whose points it sees by the verifier's walk (`point_maxima`). The definitions are:
 //!
 //! - `specs/Size`: how much is needed,
 //! - `specs/Endless`: where no number of capabilities is enough,
 //! - `specs/Least`: the scenario with the least quantities in place of its own,
 //! - `specs/Size_text`: the text, by that scenario.
 //!
-//! Modules: least quantities (`needs`, `gifts`, `leaves`) and their lines (`size`, by `interfaces`, `shorts` and `nodes`); what is least in numbers
-//! (`leasts`, `donations`, `found`); whether a scenario has the least quantities of another (`sized`, `same`), and gives what its interfaces ask (`gives`).
+//! Modules: least quantities (`needs`, `gifts`, `leaf_needs`) and their lines (`size`, by `interface_lines`, `shorts` and `node_lines`). What is least in
+//! numbers (`leasts`, `donations`, `least_quantities`). Whether a scenario has the least quantities of another (`sized`, `same`), and gives what its interfaces
+//! ask (`gives`).
 #![tactic(auto)]
 
 pub mod donations;
 mod endless;
-mod found;
+mod faultless_programs;
 mod gifts;
 pub mod gives;
-mod interfaces;
-mod judged;
-pub mod laws;
+mod interface_lines;
+mod judged_scenario;
+mod leaf_needs;
+mod least_quantities;
+pub mod least_size_laws;
 pub mod leasts;
-mod leaves;
 mod needs;
-mod nodes;
-mod places;
-mod points;
-mod programs;
+mod node_lines;
+mod point_maxima;
+mod quantity_lines;
 mod same;
-mod sections;
+mod section_levels;
 mod shorts;
 pub mod size;
 pub mod sized;

@@ -4,19 +4,19 @@ ghost use Rattle.gq_model.specs.machine.Amounts.{Ram, Caps};
 ghost use Rattle.gq_model.specs.machine.Scenario.{System};
 ghost use Rattle.gq_model.specs.machine.Scenario as model;
 ghost use Rattle.gq_model.specs.rules.Use.{subject};
-ghost use Rattle.gq_verify.specs.Counting.{saturated};
+ghost use Rattle.gq_verify.specs.Saturated_numbers.{saturated};
 ghost use Rattle.gq_sizes.specs.Size.{Gift, all_gifts, asked_above, is_named, is_up_to, leaf_needed, needed, ram_sum};
-ghost use Rattle.gq_sizes.specs.Kept.{given_in};
+ghost use Rattle.gq_sizes.specs.Point_maxima.{given_in};
 ghost use Rattle.gq_sizes.specs.Needing.{gift_row, needed_of};
-ghost use Rattle.gq_sizes.specs.Tables.{AreOf, caps_rows, ram_rows, round_rows, row, sum_rows};
+ghost use Rattle.gq_sizes.specs.Saturated_tables.{AreOf, caps_rows, ram_rows, round_rows, row, sum_rows};
 
 use crate::gifts::{Gifts, given_above, least_gifts};
-use crate::points::{Given, LEVELS, most_caps, most_ram};
-use crate::sections::levels_are_low;
+use crate::point_maxima::{LEVELS, LeastGifts, most_caps, most_ram};
+use crate::section_levels::levels_are_low;
 use gq_program::{Interface, Interfaces, Name, Section};
 use gq_resolve::component::Component;
-use gq_rules::sessions::level_of;
-use gq_scenario::lines::same_bytes;
+use gq_rules::session_rules::level_of;
+use gq_scenario::text_pieces::same_bytes;
 use gq_verify::Verified;
 use std::alloc::{AllocError, Global};
 
@@ -47,7 +47,7 @@ fn leaf_ram(verified: &Verified<'_>, interface: &Interface, level: u8) -> u64
 }
 
 /// The same in capabilities; 2^64 - 1 where it is more.
-fn leaf_caps(verified: &Verified<'_>, given: &Given<'_>, level: u8) -> u64
+fn leaf_caps(verified: &Verified<'_>, given: &LeastGifts<'_>, level: u8) -> u64
     ensures { (i : model.Interface) →
         result ≡ saturated (leaf_needed (given_in given.now.interfaces.now given.now.sums.now) Caps verified.now i level) }
 {
@@ -93,7 +93,7 @@ fn provider_caps(
     component: &Component<'_>,
     verified: &Verified<'_>,
     service: &Name,
-    given: &Given<'_>,
+    given: &LeastGifts<'_>,
     level: u8,
 ) -> u64
     ensures { (i : model.Interface) → result ≡ saturated (if is_named service.now component.now.node.provides
@@ -129,7 +129,7 @@ fn needed_caps(
     components: &[Component<'_>],
     leaves: &[Verified<'_>],
     service: &Name,
-    given: &Given<'_>,
+    given: &LeastGifts<'_>,
     level: u8,
 ) -> u64
     ensures { (i : model.Interface) → result ≡ saturated (needed_of
@@ -245,7 +245,7 @@ fn round_caps(
     alloc: Global,
     components: &[Component<'_>],
     leaves: &[Verified<'_>],
-    given: &Given<'_>,
+    given: &LeastGifts<'_>,
 ) -> Result<Needs, AllocError>
     ensures { (all : System) → components.now ≡ all.components → leaves.now ≡ map (subject all) all.components →
         IfOk result (λ n. n.items ≡ round_rows all (given_in given.now.interfaces.now given.now.sums.now) given.now.interfaces.now) }
@@ -287,7 +287,7 @@ pub(crate) fn least_caps(
     let rounds = 4 * interfaces.entries().len() + 1;
     let mut sums = first_rows(alloc, interfaces)?;
     for _round in 0..rounds {
-        let given = Given {
+        let given = LeastGifts {
             interfaces,
             sums: sums.as_slice(),
         };

@@ -5,9 +5,9 @@ ghost use Rattle.gq_scenario.specs.Targets.{target_of};
 
 use gq_model::program::Name;
 use gq_program::{Counts, Interface};
-use gq_scenario::lines::same_bytes;
 use gq_scenario::scenario::{Route, Target, Version};
 use gq_scenario::source::Source;
+use gq_scenario::text_pieces::same_bytes;
 
 /// Whether two names are one.
 pub(crate) fn same_name(a: &Name, b: &Name) -> bool

@@ -3,22 +3,22 @@ ghost use Rattle.std.specs.Prelude.{◌≡◌, ◌≤◌, ◌+◌, ◌++◌, ◌
 ghost use Rattle.gq_model.specs.machine.Program.{size};
 ghost use Rattle.gq_model.specs.machine.Scenario as model;
 ghost use Rattle.gq_model.specs.texts.Code.{greatest_statements};
-ghost use Rattle.gq_program.specs.Trees.{tree_of};
+ghost use Rattle.gq_program.specs.Statement_trees.{tree_of};
 ghost use Rattle.gq_sizes.specs.Size.{Gift, all_short, open_at, opens_from};
-ghost use Rattle.gq_sizes.specs.Kept.{given_in};
-ghost use Rattle.gq_sizes.specs.Tables.{ram_rows};
-ghost use Rattle.gq_sizes.specs.internal.Short_lines.{leaves_by, line_by, lines_by, program_by, sections_by, short_front, short_text};
+ghost use Rattle.gq_sizes.specs.Point_maxima.{given_in};
+ghost use Rattle.gq_sizes.specs.Saturated_tables.{ram_rows};
+ghost use Rattle.gq_sizes.specs.internal.Short_lines.{leaves_by, line_by, lines_by, program_by, sections_by, short_prefix, short_text};
 
-use crate::interfaces::Sums;
-use crate::points::LEVELS;
-use gq_program::program::{Body, Program, Statement};
+use crate::interface_lines::Sums;
+use crate::point_maxima::LEVELS;
+use gq_program::program_tree::{Body, Program, Statement};
 use gq_program::{Instruction, Interfaces, Section};
 use gq_resolve::component::Component;
 use gq_views::listing::push_heading;
-use gq_views::words::{end_line, push_entry, push_number};
+use gq_views::view_words::{end_line, push_entry, push_number};
 use std::alloc::AllocError;
 
-/// What statements of a section of a leaf are told by: of each interface the sums that its sessions need at least.
+/// What statements of a section of a leaf are reported by: of each interface the sums that its sessions need at least.
 #[derive(Clone, Copy)]
 struct Opens<'a> {
     interfaces: &'a Interfaces,
@@ -42,8 +42,8 @@ impl<'a> Opens<'a> {
     }
 
     /// Puts the leaf and the section at the end of a text.
-    fn push_front(&self, text: &mut Vec<u8>) -> Result<(), AllocError>
-        ensures { OnOk result (text.new.items ≡ text.old.items ++ short_front self.now.label.now self.now.section) }
+    fn push_prefix(&self, text: &mut Vec<u8>) -> Result<(), AllocError>
+        ensures { OnOk result (text.new.items ≡ text.old.items ++ short_prefix self.now.label.now self.now.section) }
     {
         text.extend_from_slice(b"short ")?;
         text.extend_from_slice(self.label)?;
@@ -61,7 +61,7 @@ impl<'a> Opens<'a> {
     ) -> Result<(), AllocError>
         ensures { OnOk result (text.new.items ≡ text.old.items ++ short_text self.now.label.now self.now.section number gives least) }
     {
-        self.push_front(text)?;
+        self.push_prefix(text)?;
         text.extend_from_slice(b" at ")?;
         push_number(text, number as u64)?;
         push_entry(text, b"gives", gives)?;
@@ -107,7 +107,7 @@ impl<'a> Opens<'a> {
     }
 }
 
-/// The lines of a statement with this number, and of those in it; tells the number of the next.
+/// The lines of a statement with this number, and of those in it; reports the number of the next.
 #[cycle(statements)]
 fn push_statement(
     text: &mut Vec<u8>,
@@ -134,7 +134,7 @@ fn push_statement(
     }
 }
 
-/// The lines of the statements of a list whose first has this number; tells the number of the next.
+/// The lines of the statements of a list whose first has this number; reports the number of the next.
 #[cycle(statements)]
 fn push_body(
     text: &mut Vec<u8>,

@@ -3,31 +3,31 @@ ghost use Rattle.std.specs.Prelude.{◌≡◌, ℕ, suc, ◌+◌, ◌*◌, ◌^�
 ghost use Rattle.gq_model.specs.machine.Accounts.{leaf_count};
 ghost use Rattle.gq_model.specs.machine.Amounts.{Ram, Caps, amount, counts_caps};
 ghost use Rattle.gq_model.specs.machine.Scenario as model;
-ghost use Rattle.gq_load.specs.Faults.{PrintsFault};
-ghost use Rattle.gq_scenario.specs.Trees.{nodes_of, version_number};
-ghost use Rattle.gq_scenario.specs.Unsized.{unsized};
-ghost use Rattle.gq_verify.specs.Counting.{saturated};
-ghost use Rattle.gq_sizes.specs.Judged.{fault_without};
+ghost use Rattle.gq_load.specs.Load_faults.{PrintsFault};
+ghost use Rattle.gq_scenario.specs.Component_trees.{nodes_of, version_number};
+ghost use Rattle.gq_scenario.specs.Without_quantities.{unsized};
+ghost use Rattle.gq_verify.specs.Saturated_numbers.{saturated};
+ghost use Rattle.gq_sizes.specs.Judged_scenario.{fault_without};
 ghost use Rattle.gq_sizes.specs.Least.{beyond, caps_of, least_interface, least_interfaces, least_nodes, least_upgrades, sized, sum_at};
 ghost use Rattle.gq_sizes.specs.Size.{Gift, all_gifts, children_least, least_caps, ram_sum, root_least};
 ghost use Rattle.gq_sizes.specs.Size_text.{unless};
-ghost use Rattle.gq_sizes.specs.Tables.{AreLeast, caps_rows, ram_rows, row};
+ghost use Rattle.gq_sizes.specs.Saturated_tables.{AreLeast, caps_rows, ram_rows, row};
 
-use crate::found::{Found, found_of};
-use crate::nodes::Leaves;
-use crate::places::Least;
-use crate::points::LEVELS;
+use crate::least_quantities::{LeastFound, found_of};
+use crate::node_lines::Leaves;
+use crate::point_maxima::LEVELS;
+use crate::quantity_lines::Least;
 use crate::same::{
     same_counts, same_name, same_names, same_numbers, same_offers, same_routes, same_source,
     same_version,
 };
-use gq_load::fault::LoadError;
-use gq_load::quantities::judge_unsized;
+use gq_load::load_fault::LoadError;
+use gq_load::unsized_scenarios::judge_unsized;
 use gq_model::program::Name;
 use gq_program::{Interface, Upgrade};
 use gq_resolve::component::components;
-use gq_scenario::quantities::without_quantities;
 use gq_scenario::scenario::{Init, Leaf, Node, Quantum, Scenario, Version};
+use gq_scenario::without_quantities::without_quantities;
 use std::alloc::Global;
 
 /// Whether so many capabilities are the least, where they are counted; else whether there are none.
@@ -288,7 +288,7 @@ fn is_top_sized(made: &Scenario, scenario: &Scenario, leaves: &Leaves<'_>) -> bo
 }
 
 /// Whether a scenario is another, of which this is found without its quantities, with the least quantities.
-fn is_sized_by(made: &Scenario, scenario: &Scenario, found: &Found) -> bool
+fn is_sized_by(made: &Scenario, scenario: &Scenario, found: &LeastFound) -> bool
     requires ram { found.now.sums.ram.items
         ≡ ram_rows (model.system (unsized scenario.now)) (all_gifts (model.system (unsized scenario.now)) (model.components (unsized scenario.now)))
         (unsized scenario.now).interfaces }

@@ -5,17 +5,17 @@ ghost use Rattle.gq_model.specs.machine.Scenario as model;
 ghost use Rattle.gq_model.specs.rules.Use.{subject};
 ghost use Rattle.gq_model.specs.machine.Lists.{any_of};
 ghost use Rattle.gq_model.specs.declared.program.Section.TheVariants.{Main};
-ghost use Rattle.gq_scenario.specs.Trees.{nodes_of};
+ghost use Rattle.gq_scenario.specs.Component_trees.{nodes_of};
 ghost use Rattle.gq_sizes.specs.Endless.{endless_at};
 ghost use Rattle.gq_sizes.specs.Endless.{at_start, children_endless, leads, leaf_endless};
 ghost use Rattle.gq_sizes.specs.Passing.{AreEndless, endless_from, endless_owns, passing};
 ghost use Rattle.gq_sizes.specs.Size.{section_points};
 
 use crate::endless::Sessions;
-use crate::leaves::starts_after;
+use crate::leaf_needs::starts_after;
 use gq_program::{Instruction, Section};
 use gq_resolve::component::Component;
-use gq_rules::{Context, State};
+use gq_rules::{AbstractState, Context};
 use gq_scenario::scenario::{Leaf, Node, Nodes};
 use gq_verify::{Verified, Visitor};
 use std::alloc::{AllocError, Global};
@@ -36,9 +36,14 @@ impl<'a> Visitor for Owned<'a> {
     ghost leads = { λ a e b. (b.sessions ≡ a.sessions)
         × (b.found ≡ found_by (λ s. any_of (leads (passing a.sessions.now.interfaces.now a.sessions.now.tests.now)) s.own) a.found e) };
 
-    fn statement(&mut self, _context: &Context<'_>, _state: &State, _instruction: &Instruction) {}
+    fn statement(
+        &mut self,
+        _context: &Context<'_>,
+        _state: &AbstractState,
+        _instruction: &Instruction,
+    ) {}
 
-    fn point(&mut self, _number: u64, state: &State) {
+    fn point(&mut self, _number: u64, state: &AbstractState) {
         let held = self.sessions.held(state.own());
         self.found |= held;
     }

@@ -1,3 +1,3 @@
-mod Writing
-pub mod Callers
-pub mod Contents
+mod Slice_byte_writes
+pub mod Slice_caller_facts
+pub mod Slice_byte_lists

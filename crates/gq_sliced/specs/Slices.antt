@@ -3,7 +3,7 @@
 use Rattle.std.specs.Prelude.{◌≡◌, ℕ, ◌+◌, ◌<◌, ◌≤◌, List}
 use Rattle.gq_tariff.specs.Prices.{up}
 use Rattle.gq_store.specs.Store.{Store, word, one_more, Spares}
-use Rattle.gq_store.specs.Bytes.{listed, PutsBytes}
+use Rattle.gq_store.specs.Chunk_bytes.{listed, PutsBytes}
 
 -- the byte i of a slice, after 32 bytes of bookkeeping
 abbrev pub slice_byte : Store → ℕ → ℕ → ℕ
@@ -13,10 +13,10 @@ slice_byte st k i = st.byte k (32 + i)
 abbrev pub slice_bytes : Store → ℕ → ℕ → List ℕ
 slice_bytes st k n = listed n (slice_byte st k)
 
--- The chunk k is a slice of n bytes, with n at its front.
+-- The chunk k is a slice of n bytes, with n at its start.
 pub record HasSize (st : Store) (k n : ℕ) : Type 0 where
   pub pages : st.size k ≡ up (n + 32)
-  pub front : word (st.byte k) 0 ≡ n
+  pub prefix : word (st.byte k) 0 ≡ n
   pub small : n ≤ 67108864
   pub number : k < 1048576
 

@@ -1,4 +1,4 @@
-//! A sliced heap over any store of chunks: each slice is a chunk of its own, with its size at the front, and is gone whole when it is freed.
+//! A sliced heap over any store of chunks: each slice is a chunk of its own, with its size at the start, and is gone whole when it is freed.
 //!
 //! ```rust
 //! use gq_list_store::ListStore;
@@ -24,8 +24,8 @@ use gq_tariff::price::{PAGE, SLICE_HEADER};
 use gq_tariff::{Held, price_slice};
 use std::marker::Model;
 
-/// The bytes of bookkeeping at the front of a slice, as an offset in its chunk.
-const FRONT: u32 = SLICE_HEADER as u32;
+/// The bytes of bookkeeping at the start of a slice, as an offset in its chunk.
+const HEADER: u32 = SLICE_HEADER as u32;
 
 /// The number of a slice: that of its chunk.
 #[derive(Clone, Copy, Debug, PartialEq, Eq)]
@@ -66,7 +66,7 @@ impl SliceNo {
     }
 }
 
-/// A sliced heap. It keeps no table and takes no host memory; each call is given the store.
+/// A sliced heap. It keeps no table and allocates no host memory; each call is given the store.
 #[derive(Clone, Copy, Debug)]
 pub struct Sliced;
 
@@ -114,7 +114,7 @@ impl Sliced {
         requires { HasByte (S.state store.now) slice index }
         ensures { result ≡ slice_byte (S.state store.now) slice index }
     {
-        store.load(slice.chunk(), FRONT + index)
+        store.load(slice.chunk(), HEADER + index)
     }
 
     /// Sets the byte of a slice at an index.
@@ -123,7 +123,7 @@ impl Sliced {
         ensures puts { PutsInSlice (S.state store.old) (S.state store.new) slice index (value ∷ []) }
         ensures rest { S.same_rest store.old store.new }
     {
-        store.store(slice.chunk(), FRONT + index, value);
+        store.store(slice.chunk(), HEADER + index, value);
     }
 
     /// The number in the four bytes of a slice from an index on, the lowest first.
@@ -131,7 +131,7 @@ impl Sliced {
         requires { HasWord (S.state store.now) slice index }
         ensures { result ≡ word (slice_byte (S.state store.now) slice) index }
     {
-        store.load4(slice.chunk(), FRONT + index)
+        store.load4(slice.chunk(), HEADER + index)
     }
 
     /// Writes a number to the four bytes of a slice from an index on, the lowest first.
@@ -140,7 +140,7 @@ impl Sliced {
         ensures puts { PutsInSlice (S.state store.old) (S.state store.new) slice index (spelled 4 value) }
         ensures rest { S.same_rest store.old store.new }
     {
-        store.store4(slice.chunk(), FRONT + index, value);
+        store.store4(slice.chunk(), HEADER + index, value);
     }
 
     /// What a slice of `n` bytes costs more than its bytes, in bytes.
@@ -158,5 +158,5 @@ fn pages_of(size: u32) -> u32
     ensures price { result * 4096 ≡ up (size + 32) }
     ensures few { (0 < result) × (result ≤ 16385) }
 {
-    (size + FRONT).div_ceil(PAGE as u32)
+    (size + HEADER).div_ceil(PAGE as u32)
 }

@@ -1,21 +1,21 @@
 -- Where the bytes of a slot stand, in the machine's world.
 use Rattle.std.proofs.Common.{◌≡◌, ℕ, List, length, get_or, Option, Some, None, Bool, true, false, cond, eqb, refl, sym, ap, ◌∙◌}
 use Rattle.gq_model.specs.machine.Scenario.{System}
-use Rattle.gq_model.specs.machine.Memory.{behind, bytes_spot}
+use Rattle.gq_model.specs.machine.Memory.{behind, bytes_slot_id}
 use Rattle.gq_model.specs.machine.World as world
 use Rattle.gq_store.specs.Store.{Store}
 use Rattle.gq_trade.specs.Numbers.{IsTaken}
 use Rattle.gq_contents.specs.declared.content.Content.{Content}
 use Rattle.gq_contents.specs.declared.content.Content.TheVariants.{Empty, Block, Slice, Space, Pool, Link, Waiting}
 use Rattle.gq_contents.specs.Contents.{seen}
-use Rattle.gq_trade.specs.declared.session.Spot.{Spot}
-use Rattle.gq_trade.specs.declared.session.Spot.TheVariants.{InSession}
-use Rattle.gq_trade.specs.Seen.{session_seen, spot_seen}
+use Rattle.gq_trade.specs.declared.session.SlotId.{SlotId}
+use Rattle.gq_trade.specs.declared.session.SlotId.TheVariants.{InSession}
+use Rattle.gq_trade.specs.Seen_sessions.{session_seen, slot_id_seen}
 use Rattle.gq_trade.specs.Trading.{IsTrading, session_at}
 use Rattle.gq_trade.proofs.Sessions_kept.{between_at}
 use Rattle.gq_slots.specs.Slots.{Frame, Slots, memory_of, content_at, world_seen}
-use Rattle.gq_slots.proofs.Worlds.{session_there}
-use Rattle.gq_slots.specs.Addresses.{AreBuffers, IsLinked, buffer_spot, place_in, place_seen}
+use Rattle.gq_slots.proofs.Slot_change_worlds.{session_there}
+use Rattle.gq_slots.specs.Slot_addresses.{AreBuffers, IsLinked, buffer_slot_id, place_in, place_seen}
 
 chosen : (b : Bool) (k : ℕ) → place_seen (cond b None (Some (InSession k 0))) ≡ cond b None (Some (world.In_session k 0))
 chosen true k = refl
@@ -24,7 +24,7 @@ chosen false k = refl
 -- the buffer of a session is the world's
 buffer_there : (f : Frame) (system : System) (bs : List ℕ) (s : Slots) (k : ℕ) → IsTrading s.trades.trading → IsTaken s.trades.trading.sessions k
     → AreBuffers system f s bs
-    → place_seen (buffer_spot bs s k) ≡ behind system (world.session_at (world_seen f s) k) k
+    → place_seen (buffer_slot_id bs s k) ≡ behind system (world.session_at (world_seen f s) k) k
 buffer_there f system bs s k w t a =
     let ss = s.trades.trading.sessions in
     let q = session_at s.trades.trading k in
@@ -33,9 +33,9 @@ buffer_there f system bs s k w t a =
     ∙ sym (ap (λ o. behind system (world.joined o) k) (session_there (λ z. session_seen f.names (memory_of s z.server) z) ss k t))
 
 -- the place of a slot's bytes is the world's
-pub place_there : (f : Frame) (system : System) (bs : List ℕ) (s : Slots) (st : Store) (t : Content) (p : Spot) → IsTrading s.trades.trading
+pub place_there : (f : Frame) (system : System) (bs : List ℕ) (s : Slots) (st : Store) (t : Content) (p : SlotId) → IsTrading s.trades.trading
     → ((k : ℕ) → t ≡ Link k → IsTaken s.trades.trading.sessions k) → AreBuffers system f s bs
-    → place_seen (place_in bs s t p) ≡ bytes_spot system (world_seen f s) (Some (seen st t)) (spot_seen p)
+    → place_seen (place_in bs s t p) ≡ bytes_slot_id system (world_seen f s) (Some (seen st t)) (slot_id_seen p)
 place_there f system bs s st Empty p w l a = refl
 place_there f system bs s st (Block q n) p w l a = refl
 place_there f system bs s st (Slice k n) p w l a = refl
@@ -45,10 +45,11 @@ place_there f system bs s st (Link k) p w l a = buffer_there f system bs s k w (
 place_there f system bs s st (Waiting k) p w l a = refl
 
 -- read as the machine's world has it
-pub place_read : (f : Frame) (system : System) (bs : List ℕ) (s : Slots) (st : Store) (t : Content) (p : Spot) (o : Option Spot) → IsTrading s.trades.trading
-    → o ≡ place_in bs s t p → t ≡ content_at s p → world.slot_at (world_seen f s) (spot_seen p) ≡ Some (seen st t) → IsLinked s p
+pub place_read : (f : Frame) (system : System) (bs : List ℕ) (s : Slots) (st : Store) (t : Content) (p : SlotId) (o : Option SlotId) → IsTrading
+    s.trades.trading
+    → o ≡ place_in bs s t p → t ≡ content_at s p → world.slot_at (world_seen f s) (slot_id_seen p) ≡ Some (seen st t) → IsLinked s p
     → AreBuffers system f s bs
-    → place_seen o ≡ bytes_spot system (world_seen f s) (world.slot_at (world_seen f s) (spot_seen p)) (spot_seen p)
+    → place_seen o ≡ bytes_slot_id system (world_seen f s) (world.slot_at (world_seen f s) (slot_id_seen p)) (slot_id_seen p)
 place_read f system bs s st t p o w is e r l a =
     ap place_seen is ∙ place_there f system bs s st t p w (λ k g. l k (sym e ∙ g)) a
-    ∙ sym (ap (λ y. bytes_spot system (world_seen f s) y (spot_seen p)) r)
+    ∙ sym (ap (λ y. bytes_slot_id system (world_seen f s) y (slot_id_seen p)) r)

@@ -1,11 +1,11 @@
 -- What a call on a slot changes.
 use Rattle.std.specs.Prelude.{◌≡◌, ℕ}
 use Rattle.gq_model.specs.machine.World as world
-use Rattle.gq_ram.specs.Entries.{account_at}
-use Rattle.gq_trade.specs.declared.session.Spot.{Spot}
-use Rattle.gq_trade.specs.Seen.{spot_seen}
+use Rattle.gq_ram.specs.Account_table.{account_at}
+use Rattle.gq_trade.specs.declared.session.SlotId.{SlotId}
+use Rattle.gq_trade.specs.Seen_sessions.{slot_id_seen}
 use Rattle.gq_trade.specs.Trading.{Trading}
-use Rattle.gq_slots.specs.Slots.{Slots, Frame, IsSpot, holder, settled_in, world_seen}
+use Rattle.gq_slots.specs.Slots.{Slots, Frame, IsSlotId, holder, settled_in, world_seen}
 
 -- the tree with its quotas, and who pays, stay
 pub record SameAccounts (w v : Trading) : Type 0 where
@@ -22,15 +22,15 @@ pub record SameBeside (old new : Slots) : Type 0 where
   pub nodes : new.trades.nodes ≡ old.trades.nodes
   pub accounts : SameAccounts old.trades.trading new.trades.trading
   -- each slot stays, and is paid for by the same leaf
-  pub spots : (q : Spot) → IsSpot old q → IsSpot new q
-  pub holders : (q : Spot) → holder new q ≡ holder old q
+  pub slot_ids : (q : SlotId) → IsSlotId old q → IsSlotId new q
+  pub holders : (q : SlotId) → holder new q ≡ holder old q
 
 -- The slot holds this now, and all else of the machine's world is as before, whatever the leaves do.
-pub record PutsSlot (old new : Slots) (p : Spot) (slot : world.Slot) : Type 0 where
-  pub seen_so : (f : Frame) → world_seen f new ≡ world.with_slot (world_seen f old) (spot_seen p) slot
+pub record PutsSlot (old new : Slots) (p : SlotId) (slot : world.Slot) : Type 0 where
+  pub seen_so : (f : Frame) → world_seen f new ≡ world.with_slot (world_seen f old) (slot_id_seen p) slot
   pub rest : SameBeside old new
 
 -- The same, and the peaks of the leaf that pays are raised to what is in use then.
-pub record Settles (old new : Slots) (p : Spot) (slot : world.Slot) : Type 0 where
-  pub seen_so : (f : Frame) → world_seen f new ≡ settled_in (holder old p) (world.with_slot (world_seen f old) (spot_seen p) slot)
+pub record Settles (old new : Slots) (p : SlotId) (slot : world.Slot) : Type 0 where
+  pub seen_so : (f : Frame) → world_seen f new ≡ settled_in (holder old p) (world.with_slot (world_seen f old) (slot_id_seen p) slot)
   pub rest : SameBeside old new

@@ -2,4 +2,4 @@ pub mod Slots
 pub mod Calls
 pub mod internal
 pub mod Session_calls
-pub mod Addresses
+pub mod Slot_addresses

@@ -10,12 +10,12 @@ use Rattle.gq_trade.specs.declared.requests.Ask.{Ask}
 use Rattle.gq_trade.specs.declared.requests.Ask.TheVariants.{Open, Upgrade, Close, Call}
 use Rattle.gq_trade.specs.declared.requests.Request.{Request}
 use Rattle.gq_trade.specs.Seen_requests.{request_seen}
-use Rattle.gq_trade.specs.declared.session.Spot.{Spot}
-use Rattle.gq_trade.specs.declared.session.Spot.TheVariants.{InLeaf, InSession, InObject}
+use Rattle.gq_trade.specs.declared.session.SlotId.{SlotId}
+use Rattle.gq_trade.specs.declared.session.SlotId.TheVariants.{InLeaf, InSession, InObject}
 use Rattle.gq_trade.specs.Trading.{Trading, Accepts, Closes, object_size}
-use Rattle.gq_trade.specs.Ends.{Ends}
+use Rattle.gq_trade.specs.Leaf_ends.{Ends}
 use Rattle.gq_trade.specs.Trades.{with_trading}
-use Rattle.gq_slots.specs.Slots.{Slots, Frame, IsSpot, holder, world_seen}
+use Rattle.gq_slots.specs.Slots.{Slots, Frame, IsSlotId, holder, world_seen}
 
 -- WHAT A REQUEST CHANGES
 
@@ -64,8 +64,8 @@ pub record TakesOldest (old new : Slots) (x : ℕ) (r : Request) : Type 0 where
       ≡ accepting (world_seen f old) r.session r.ask (object_size old.trades.trading r.session) (world_seen f new).requests
   pub nodes : new.trades.nodes ≡ old.trades.nodes
   pub leaves : new.trades.trading.leaves ≡ old.trades.trading.leaves
-  pub spots : (q : Spot) → IsSpot old q → IsSpot new q
-  pub holders : (q : Spot) → holder new q ≡ holder old q
+  pub slot_ids : (q : SlotId) → IsSlotId old q → IsSlotId new q
+  pub holders : (q : SlotId) → holder new q ≡ holder old q
 
 -- SESSIONS THAT END
 
@@ -74,7 +74,7 @@ abbrev pub ending : world.World → ℕ → world.World
 ending w k = record w { sessions = slice_set w.sessions k None }
 
 -- it is no slot of the session k, and not its object
-abbrev pub IsBeside : ℕ → Spot → Type 0
+abbrev pub IsBeside : ℕ → SlotId → Type 0
 IsBeside k (InLeaf x i) = Unit {0}
 IsBeside k (InSession j i) = j ≡ k → ⊥
 IsBeside k (InObject j) = j ≡ k → ⊥
@@ -86,8 +86,8 @@ pub record EndsSession (old new : Slots) (k : ℕ) : Type 0 where
   pub seen_so : (f : Frame) → world_seen f new ≡ ending (world_seen f old) k
   pub nodes : new.trades.nodes ≡ old.trades.nodes
   pub leaves : new.trades.trading.leaves ≡ old.trades.trading.leaves
-  pub spots : (q : Spot) → IsBeside k q → IsSpot old q → IsSpot new q
-  pub holders : (q : Spot) → IsBeside k q → holder new q ≡ holder old q
+  pub slot_ids : (q : SlotId) → IsBeside k q → IsSlotId old q → IsSlotId new q
+  pub holders : (q : SlotId) → IsBeside k q → holder new q ≡ holder old q
 
 -- LEAVES THAT END
 
@@ -109,5 +109,5 @@ pub record EndsLeaf (old new : Slots) (x : ℕ) : Type 0 where
   pub ends : Ends old.trades new.trades x
   pub seen_so : (f : Frame) → world_seen f new ≡ emptied (world_seen f old) x
   pub leaves : new.trades.trading.leaves ≡ old.trades.trading.leaves
-  pub spots : (q : Spot) → IsSpot old q → IsSpot new q
-  pub holders : (q : Spot) → holder new q ≡ holder old q
+  pub slot_ids : (q : SlotId) → IsSlotId old q → IsSlotId new q
+  pub holders : (q : SlotId) → holder new q ≡ holder old q

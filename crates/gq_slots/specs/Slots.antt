@@ -2,7 +2,7 @@
 use Rattle.std.specs.Prelude.{◌≡◌, ℕ, suc, ◌+◌, ◌<◌, ◌≤◌, ◌==◌, if◌then◌else◌, List, [], ◌∷◌, length, map, get_or, replicate, slice_get, Option, Some, None}
 use Rattle.gq_tariff.specs.Prices.{classes, size_for}
 use Rattle.gq_model.specs.machine.Amounts.{Resource, Ram, Caps}
-use Rattle.gq_model.specs.machine.Prices.{heap as class_prices}
+use Rattle.gq_model.specs.machine.Resource_prices.{heap as class_prices}
 use Rattle.gq_model.specs.machine.World as world
 use Rattle.gq_model.specs.machine.Sums.{held, places, with_peaks}
 use Rattle.gq_store.specs.Store.{Store}
@@ -17,9 +17,9 @@ use Rattle.gq_contents.specs.declared.content.Content.{Content}
 use Rattle.gq_contents.specs.declared.content.Content.TheVariants.{Empty, Block, Slice, Space, Pool, Link, Waiting}
 use Rattle.gq_contents.specs.Contents.{entry_size, seen}
 use Rattle.gq_contents.specs.Paid.{raised_by}
-use Rattle.gq_trade.specs.declared.session.Spot.{Spot}
-use Rattle.gq_trade.specs.declared.session.Spot.TheVariants.{InLeaf, InSession, InObject}
-use Rattle.gq_trade.specs.Seen.{sessions_seen, spot_seen}
+use Rattle.gq_trade.specs.declared.session.SlotId.{SlotId}
+use Rattle.gq_trade.specs.declared.session.SlotId.TheVariants.{InLeaf, InSession, InObject}
+use Rattle.gq_trade.specs.Seen_sessions.{sessions_seen, slot_id_seen}
 use Rattle.gq_trade.specs.declared.session.Session.{Session}
 use Rattle.gq_trade.specs.Trading.{Trading, session_at, session_in, server_of, store_of, account_no, its_account}
 use Rattle.gq_trade.specs.Trades.{Trades}
@@ -40,30 +40,30 @@ memory_of s x = store_of s.trades.trading x
 -- WHERE A SLOT STANDS
 
 -- there is such a slot
-abbrev pub IsSpot : Slots → Spot → Type 0
-IsSpot s (InLeaf x i) = (x < length s.own) × (i < 64)
-IsSpot s (InSession k i) = IsTaken s.trades.trading.sessions k × (i < 8)
-IsSpot s (InObject k) = IsTaken s.trades.trading.sessions k
+abbrev pub IsSlotId : Slots → SlotId → Type 0
+IsSlotId s (InLeaf x i) = (x < length s.own) × (i < 64)
+IsSlotId s (InSession k i) = IsTaken s.trades.trading.sessions k × (i < 8)
+IsSlotId s (InObject k) = IsTaken s.trades.trading.sessions k
 
 -- it is a leaf's own slot or one of a session, and no session's object
-abbrev pub IsSlot : Spot → Type 0
+abbrev pub IsSlot : SlotId → Type 0
 IsSlot (InLeaf x i) = Unit {0}
 IsSlot (InSession k i) = Unit {0}
 IsSlot (InObject k) = ⊥
 
 -- the leaf that pays for what is there: a session's slots and its object are its server's
-abbrev pub holder : Slots → Spot → ℕ
+abbrev pub holder : Slots → SlotId → ℕ
 holder s (InLeaf x i) = x
 holder s (InSession k i) = server_of s.trades.trading k
 holder s (InObject k) = server_of s.trades.trading k
 
-abbrev pub content_at : Slots → Spot → Content
+abbrev pub content_at : Slots → SlotId → Content
 content_at s (InLeaf x i) = get_or (get_or s.own x []) i Empty
 content_at s (InSession k i) = get_or (session_at s.trades.trading k).slots i Empty
 content_at s (InObject k) = (session_at s.trades.trading k).object
 
 -- the slot of the abstract machine that it stands for
-abbrev pub slot_of : Slots → Spot → world.Slot
+abbrev pub slot_of : Slots → SlotId → world.Slot
 slot_of s p = seen (memory_of s (holder s p)) (content_at s p)
 
 -- it holds no memory
@@ -81,9 +81,9 @@ abbrev pub IsPaidBy : Slots → ℕ → Type 0
 IsPaidBy s x = s.trades.trading.memory.payer ≡ account_no s.trades.trading x
 
 -- something can be made in a slot: it is there and empty, and whose memory it is pays now
-pub record CanMake (s : Slots) (p : Spot) : Type 0 where
+pub record CanMake (s : Slots) (p : SlotId) : Type 0 where
   pub slot : IsSlot p
-  pub there : IsSpot s p
+  pub there : IsSlotId s p
   pub paid : IsPaidBy s (holder s p)
   pub empty : content_at s p ≡ Empty
 
@@ -141,7 +141,7 @@ ArePaidFor s = (f : Frame) (x : ℕ) (leaf : world.Leaf) → slice_get (world_se
 
 -- each slot reads in the machine's world as what is in it
 abbrev pub AreRead : Slots → Type 0
-AreRead s = (f : Frame) (p : Spot) → IsSpot s p → world.slot_at (world_seen f s) (spot_seen p) ≡ Some (slot_of s p)
+AreRead s = (f : Frame) (p : SlotId) → IsSlotId s p → world.slot_at (world_seen f s) (slot_id_seen p) ≡ Some (slot_of s p)
 
 -- each leaf has 64 slots, and each session 8
 pub record AreLong (s : Slots) : Type 0 where
@@ -196,7 +196,7 @@ AreRises s = (r : Resource) (f : Frame) (x : ℕ) (h : Heap) (leaf : world.Leaf)
 
 -- an entry of a pool is a place of a class: it has at most 2048 bytes
 abbrev pub AreSmallEntries : Slots → Type 0
-AreSmallEntries s = (p : Spot) → IsSpot s p → entry_size (content_at s p) ≤ 2048
+AreSmallEntries s = (p : SlotId) → IsSlotId s p → entry_size (content_at s p) ≤ 2048
 
 -- AT FIRST
 

@@ -1,3 +1,3 @@
-pub mod Holds
+pub mod Slots_invariant
 pub mod Put
 pub mod Paying

@@ -6,15 +6,15 @@
 //!
 //! // Accounts for the nodes of a plan, as `gq_trade` has them.
 //! let mut slots = Slots::new(rt.alloc(), 65536, None, plan, 24)?;
-//! let spot = Spot::InLeaf(0, 3);
+//! let slot_id = Spot::InLeaf(0, 3);
 //! slots.pay_by(0);
-//! slots.make_slice(spot, 100)?;
-//! slots.store(spot, 7, 42);
-//! assert_eq!(rt; slots.load(spot, 7), 42);
-//! slots.free(spot);
+//! slots.make_slice(slot_id, 100)?;
+//! slots.store(slot_id, 7, 42);
+//! assert_eq!(rt; slots.load(slot_id, 7), 42);
+//! slots.free(slot_id);
 //! ```
 //!
-//! `sessions` and `leaves` have what requests, their servers and the ends of leaves do to all slots.
+//! `sessions` and `ending_leaves` have what requests, their servers and the ends of leaves do to all slots.
 //!
 //! ```rust
 //! use gq_trade::Spot;
@@ -32,11 +32,11 @@
 //! [`Addresses`] says where the bytes of a slot stand: behind a link they are those of the session's buffer.
 #![tactic(auto)]
 
-pub mod addresses;
-pub mod leaves;
-mod places;
+pub mod ending_leaves;
 pub mod sessions;
+pub mod slot_addresses;
+mod slot_contents;
 pub mod slots;
 
-pub use addresses::Addresses;
+pub use slot_addresses::Addresses;
 pub use slots::Slots;

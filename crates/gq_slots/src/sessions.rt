@@ -3,15 +3,15 @@ ghost use Rattle.std.specs.Prelude.{◌≡◌, ℕ, ◌<◌, ◌↔◌, [], leng
 ghost use Rattle.std.specs.Prelude.{IfOk, IfNone, IfSome, OnOk, OnErr, IsErrOf};
 ghost use Rattle.gq_contents.specs.declared.content.Content.TheVariants as content;
 ghost use Rattle.gq_model.specs.machine.World as world;
-ghost use Rattle.gq_trade.specs.Seen.{spot_seen};
+ghost use Rattle.gq_trade.specs.Seen_sessions.{slot_id_seen};
 ghost use Rattle.gq_model.specs.machine.Requests.{new_session};
 ghost use Rattle.gq_trade.specs.Numbers.{IsTaken, free_number};
-ghost use Rattle.gq_ram.specs.Entries.{available, available_caps};
+ghost use Rattle.gq_ram.specs.Account_table.{available, available_caps};
 ghost use Rattle.gq_trade.specs.declared.requests.Ask.TheVariants as ask;
 ghost use Rattle.gq_trade.specs.Queues.{oldest_to};
 ghost use Rattle.gq_trade.specs.Trading.{IsOfOldest, LacksBytes, LacksCaps, asked, client_of, fresh, its_account, session_at};
 ghost use Rattle.gq_trade.specs.Trading.{AreOfOthers, bytes_then, caps_then, upgraded, with_ask};
-ghost use Rattle.gq_trade.specs.declared.session.Spot.TheVariants.{InObject, InSession};
+ghost use Rattle.gq_trade.specs.declared.session.SlotId.TheVariants.{InObject, InSession};
 ghost use Rattle.gq_trade.specs.Waiting.{IsIdle};
 ghost use Rattle.gq_ram.specs.Giving.{IsAfforded};
 ghost use Rattle.gq_trade.specs.Trades.{CanAskServer, IsLive};
@@ -22,7 +22,7 @@ use crate::slots::Slots;
 use gq_ram::AccountFault;
 use gq_store::GrowFault;
 use gq_tariff::Amount;
-use gq_trade::{Request, Spot};
+use gq_trade::{Request, SlotId};
 
 /// Asks for a session: it takes the lowest free number, the donation goes from its client to its server, through every init on the way, and its
 /// request to open is the last. The client's slot is not touched.
@@ -32,7 +32,7 @@ use gq_trade::{Request, Spot};
 pub fn ask(
     slots: &mut Slots,
     client: usize,
-    spot: Spot,
+    slot_id: SlotId,
     server: usize,
     service: usize,
     donation: Amount,
@@ -41,9 +41,9 @@ pub fn ask(
     requires service { service < length slots.old.trades.trading.objects }
     requires counted { slots.old.trades.trading.memory.ledger.price ≡ 0 → donation.caps ≡ 0 }
     ensures number { IfOk result (λ k. k ≡ free_number slots.old.trades.trading.sessions) }
-    ensures asked { OnOk result (slots.new ≡ with_trades slots.old (asked slots.old.trades.trading (fresh client spot server service donation))) }
+    ensures asked { OnOk result (slots.new ≡ with_trades slots.old (asked slots.old.trades.trading (fresh client slot_id server service donation))) }
     ensures world { OnOk result ((f : Frame) → world_seen f slots.new
-        ≡ opening (world_seen f slots.old) (new_session client (spot_seen spot) server (get_or f.names service []) donation)) }
+        ≡ opening (world_seen f slots.old) (new_session client (slot_id_seen slot_id) server (get_or f.names service []) donation)) }
     ensures unchanged { OnErr result (slots.new ≡ slots.old) }
     ensures afforded { IsAfforded result (available (its_account slots.old.trades.trading client))
         (available_caps (its_account slots.old.trades.trading client)) donation }
@@ -51,7 +51,7 @@ pub fn ask(
     let _own = &slots.own;
     slots.trades.laws();
     slots.trades.memory().accounts().laws();
-    let asked = slots.trades.ask(client, spot, server, service, donation);
+    let asked = slots.trades.ask(client, slot_id, server, service, donation);
     slots.trades.memory().accounts().laws();
     asked
 }

@@ -11,28 +11,28 @@ ghost use Rattle.gq_heap.specs.declared.heap.Heap.{Heap};
 ghost use Rattle.gq_heap.specs.Heap.{peak_of, rise};
 ghost use Rattle.gq_contents.specs.declared.content.Content.TheVariants as content;
 ghost use Rattle.gq_contents.specs.Contents.{added, bytes_in, entry_count, entry_in, entry_size, put_in, removed, seen, size_of, with_entry};
-ghost use Rattle.gq_trade.specs.Seen.{spot_seen};
+ghost use Rattle.gq_trade.specs.Seen_sessions.{slot_id_seen};
 ghost use Rattle.gq_trade.specs.Numbers.{IsTaken};
 ghost use Rattle.gq_trade.specs.Trading.{account_no, server_of, with_memory};
-ghost use Rattle.gq_trade.specs.declared.session.Spot.TheVariants.{InLeaf, InObject, InSession};
-ghost use Rattle.gq_trade.specs.Plans.{IsFirst, IsPlan};
+ghost use Rattle.gq_trade.specs.declared.session.SlotId.TheVariants.{InLeaf, InObject, InSession};
+ghost use Rattle.gq_trade.specs.Trades_plan.{IsFirst, IsPlan};
 ghost use Rattle.gq_trade.specs.Trades.{IsLive, IsTrades, with_trading};
 ghost use Rattle.gq_contents.specs.Paid.{IsPaidWhereLeft, IsRaisedWhereLeft};
 ghost use Rattle.gq_slots.specs.Slots.{AreLong, AreNew, ArePaidFor, AreRead, AreRises, AreSmallEntries, AreSound, Frame, IsHeapOf, IsMark, IsPaidBy};
-ghost use Rattle.gq_slots.specs.Slots.{CanMake, IsSlot, IsSpot, holder, memory_of, slot_of, content_at, world_seen};
+ghost use Rattle.gq_slots.specs.Slots.{CanMake, IsSlot, IsSlotId, holder, memory_of, slot_of, content_at, world_seen};
 ghost use Rattle.gq_slots.specs.Calls.{PutsSlot, Settles};
 
-use crate::places::{clear, fill, replace};
+use crate::slot_contents::{clear, fill, replace};
 use gq_contents::Content;
 use gq_heap::Heap;
 use gq_store::GrowFault;
 use gq_tariff::Class;
-use gq_trade::{Plan, Spot, Trades};
+use gq_trade::{Plan, SlotId, Trades};
 use std::alloc::{AllocError, Global};
 use std::marker::Model;
 
 /// All slots of a scenario: the 64 of each leaf, the 8 of each session, and the sessions' objects. What is in a leaf's slot, and in those of the sessions
-/// to it, lies in memory that the leaf pays for. No call but `new` takes host memory.
+/// to it, lies in memory that the leaf pays for. No call but `new` allocates host memory.
 ///
 /// The modules of this crate on sessions and on the ends of leaves change the fields, too: each has to prove that what holds of all `Slots` still does.
 #[derive(Drop)]
@@ -47,7 +47,7 @@ pub struct Slots {
 
 impl Model for Slots {
     ghost use Rattle.gq_slots.specs.Slots.{Slots};
-    ghost use Rattle.gq_slots.specs.internal.Holds.{IsSlots};
+    ghost use Rattle.gq_slots.specs.internal.Slots_invariant.{IsSlots};
 
     ghost Value = { Slots };
 
@@ -107,15 +107,15 @@ impl Slots {
 
     /// The leaf that pays for what is in a slot: the leaf whose own it is, or the server of its session.
     #[inline(always)]
-    pub fn holder(&self, spot: Spot) -> usize
-        requires { IsSpot self.now spot }
-        ensures is { result ≡ holder self.now spot }
+    pub fn holder(&self, slot_id: SlotId) -> usize
+        requires { IsSlotId self.now slot_id }
+        ensures is { result ≡ holder self.now slot_id }
         ensures there { result < length self.now.own }
     {
         let _own = &self.own;
-        match spot {
-            Spot::InLeaf(leaf, _) => leaf,
-            Spot::InSession(session, _) | Spot::InObject(session) => self.server(session),
+        match slot_id {
+            SlotId::InLeaf(leaf, _) => leaf,
+            SlotId::InSession(session, _) | SlotId::InObject(session) => self.server(session),
         }
     }
 
@@ -133,26 +133,26 @@ impl Slots {
 
     /// What is in a slot. In the machine's world it is what `seen` says of it.
     #[inline(always)]
-    pub fn content(&self, spot: Spot) -> Content
-        requires { IsSpot self.now spot }
-        ensures is { result ≡ content_at self.now spot }
-        ensures reads { (f : Frame) → world.slot_at (world_seen f self.now) (spot_seen spot)
-            ≡ Some (seen (memory_of self.now (holder self.now spot)) result) }
+    pub fn content(&self, slot_id: SlotId) -> Content
+        requires { IsSlotId self.now slot_id }
+        ensures is { result ≡ content_at self.now slot_id }
+        ensures reads { (f : Frame) → world.slot_at (world_seen f self.now) (slot_id_seen slot_id)
+            ≡ Some (seen (memory_of self.now (holder self.now slot_id)) result) }
     {
         let _own = &self.own;
-        self.found(spot)
+        self.found(slot_id)
     }
 
     // What is in a slot.
     #[inline(always)]
-    fn found(&self, spot: Spot) -> Content
-        requires { IsSpot self.now spot }
-        ensures { result ≡ content_at self.now spot }
+    fn found(&self, slot_id: SlotId) -> Content
+        requires { IsSlotId self.now slot_id }
+        ensures { result ≡ content_at self.now slot_id }
     {
-        match spot {
-            Spot::InLeaf(leaf, slot) => self.own[leaf][usize::from(slot)],
-            Spot::InSession(session, slot) => self.trades.slot(session, usize::from(slot)),
-            Spot::InObject(session) => self.trades.session(session).object,
+        match slot_id {
+            SlotId::InLeaf(leaf, slot) => self.own[leaf][usize::from(slot)],
+            SlotId::InSession(session, slot) => self.trades.slot(session, usize::from(slot)),
+            SlotId::InObject(session) => self.trades.session(session).object,
         }
     }
 
@@ -174,56 +174,56 @@ impl Slots {
 
     /// The byte at an index of a block, a slice or a space.
     #[inline(always)]
-    pub fn load(&self, spot: Spot, index: u32) -> u8
-        requires there { IsSpot self.now spot }
-        requires paid { IsPaidBy self.now (holder self.now spot) }
-        requires inside { index < size_of (content_at self.now spot) }
-        ensures { result ≡ slice_index (bytes_in (slot_of self.now spot)) index }
+    pub fn load(&self, slot_id: SlotId, index: u32) -> u8
+        requires there { IsSlotId self.now slot_id }
+        requires paid { IsPaidBy self.now (holder self.now slot_id) }
+        requires inside { index < size_of (content_at self.now slot_id) }
+        ensures { result ≡ slice_index (bytes_in (slot_of self.now slot_id)) index }
     {
         let _own = &self.own;
-        let holder = self.holder(spot);
-        let content = self.content(spot);
+        let holder = self.holder(slot_id);
+        let content = self.content(slot_id);
         content.load(&self.trades, &self.heaps[holder], index)
     }
 
     /// The number in the four bytes from an index on, the lowest first.
     #[inline(always)]
-    pub fn load4(&self, spot: Spot, index: u32) -> u32
-        requires there { IsSpot self.now spot }
-        requires paid { IsPaidBy self.now (holder self.now spot) }
-        requires inside { index + 4 ≤ size_of (content_at self.now spot) }
-        ensures { result ≡ little (slice_range (bytes_in (slot_of self.now spot)) index (index + 4)) }
+    pub fn load4(&self, slot_id: SlotId, index: u32) -> u32
+        requires there { IsSlotId self.now slot_id }
+        requires paid { IsPaidBy self.now (holder self.now slot_id) }
+        requires inside { index + 4 ≤ size_of (content_at self.now slot_id) }
+        ensures { result ≡ little (slice_range (bytes_in (slot_of self.now slot_id)) index (index + 4)) }
     {
         let _own = &self.own;
-        let holder = self.holder(spot);
-        let content = self.content(spot);
+        let holder = self.holder(slot_id);
+        let content = self.content(slot_id);
         content.load4(&self.trades, &self.heaps[holder], index)
     }
 
     /// Sets the byte at an index of a block, a slice or a space.
     #[inline(always)]
-    pub fn store(&mut self, spot: Spot, index: u32, value: u8)
-        requires there { IsSpot self.old spot }
-        requires paid { IsPaidBy self.old (holder self.old spot) }
-        requires inside { index < size_of (content_at self.old spot) }
-        ensures { PutsSlot self.old self.new spot (put_in index (value ∷ []) (slot_of self.old spot)) }
+    pub fn store(&mut self, slot_id: SlotId, index: u32, value: u8)
+        requires there { IsSlotId self.old slot_id }
+        requires paid { IsPaidBy self.old (holder self.old slot_id) }
+        requires inside { index < size_of (content_at self.old slot_id) }
+        ensures { PutsSlot self.old self.new slot_id (put_in index (value ∷ []) (slot_of self.old slot_id)) }
     {
-        let holder = self.holder(spot);
-        let content = self.content(spot);
+        let holder = self.holder(slot_id);
+        let content = self.content(slot_id);
         self.trades.laws();
         content.store(&mut self.trades, &self.heaps[holder], index, value);
     }
 
     /// Writes a number to the four bytes from an index on, the lowest first.
     #[inline(always)]
-    pub fn store4(&mut self, spot: Spot, index: u32, value: u32)
-        requires there { IsSpot self.old spot }
-        requires paid { IsPaidBy self.old (holder self.old spot) }
-        requires inside { index + 4 ≤ size_of (content_at self.old spot) }
-        ensures { PutsSlot self.old self.new spot (put_in index (spelled 4 value) (slot_of self.old spot)) }
+    pub fn store4(&mut self, slot_id: SlotId, index: u32, value: u32)
+        requires there { IsSlotId self.old slot_id }
+        requires paid { IsPaidBy self.old (holder self.old slot_id) }
+        requires inside { index + 4 ≤ size_of (content_at self.old slot_id) }
+        ensures { PutsSlot self.old self.new slot_id (put_in index (spelled 4 value) (slot_of self.old slot_id)) }
     {
-        let holder = self.holder(spot);
-        let content = self.content(spot);
+        let holder = self.holder(slot_id);
+        let content = self.content(slot_id);
         self.trades.laws();
         content.store4(&mut self.trades, &self.heaps[holder], index, value);
     }
@@ -232,51 +232,51 @@ impl Slots {
     ///
     /// Refused as `Exceeded` where the bytes of its pages can't be paid, else as `CapsExceeded` where there is no capability left; then nothing
     /// changes.
-    pub fn make_slice(&mut self, spot: Spot, size: u32) -> Result<(), GrowFault>
-        requires can { CanMake self.old spot }
+    pub fn make_slice(&mut self, slot_id: SlotId, size: u32) -> Result<(), GrowFault>
+        requires can { CanMake self.old slot_id }
         requires size { size ≤ 67108864 }
-        ensures made { OnOk result (Settles self.old self.new spot (world.Bytes form.Slice size (replicate size 0))) }
+        ensures made { OnOk result (Settles self.old self.new slot_id (world.Bytes form.Slice size (replicate size 0))) }
         ensures unchanged { OnErr result (self.new ≡ self.old) }
-        ensures refused { IsPaidWhereLeft (memory_of self.old (holder self.old spot)) (up (size + 32)) result }
+        ensures refused { IsPaidWhereLeft (memory_of self.old (holder self.old slot_id)) (up (size + 32)) result }
     {
-        let holder = self.holder(spot);
+        let holder = self.holder(slot_id);
         let _heap = &self.heaps[holder];
         self.trades.laws();
         let made = Content::make_slice(&mut self.trades, size)?;
-        fill(&mut self.trades, &mut self.own, spot, made);
+        fill(&mut self.trades, &mut self.own, slot_id, made);
         Ok(())
     }
 
     /// Makes a space of `size` bytes in whole pages in an empty slot, which read 0. Refused as a slice is.
-    pub fn make_space(&mut self, spot: Spot, size: u32) -> Result<(), GrowFault>
-        requires can { CanMake self.old spot }
+    pub fn make_space(&mut self, slot_id: SlotId, size: u32) -> Result<(), GrowFault>
+        requires can { CanMake self.old slot_id }
         requires size { (1 ≤ size) × (size ≤ 67108864) }
-        ensures made { OnOk result (Settles self.old self.new spot (world.Bytes form.Space size (replicate (up size) 0))) }
+        ensures made { OnOk result (Settles self.old self.new slot_id (world.Bytes form.Space size (replicate (up size) 0))) }
         ensures unchanged { OnErr result (self.new ≡ self.old) }
-        ensures refused { IsPaidWhereLeft (memory_of self.old (holder self.old spot)) (up size) result }
+        ensures refused { IsPaidWhereLeft (memory_of self.old (holder self.old slot_id)) (up size) result }
     {
-        let holder = self.holder(spot);
+        let holder = self.holder(slot_id);
         let _heap = &self.heaps[holder];
         self.trades.laws();
         let made = Content::make_space(&mut self.trades, size)?;
-        fill(&mut self.trades, &mut self.own, spot, made);
+        fill(&mut self.trades, &mut self.own, slot_id, made);
         Ok(())
     }
 
     /// Makes a pool of `count` entries of `size` bytes in an empty slot, each absent. Refused as a slice is, by the bytes of the pool's table.
-    pub fn make_pool(&mut self, spot: Spot, size: u32, count: u32) -> Result<(), GrowFault>
-        requires can { CanMake self.old spot }
+    pub fn make_pool(&mut self, slot_id: SlotId, size: u32, count: u32) -> Result<(), GrowFault>
+        requires can { CanMake self.old slot_id }
         requires size { (1 ≤ size) × (size ≤ 2048) }
         requires count { (1 ≤ count) × (count ≤ 1024) }
-        ensures made { OnOk result (Settles self.old self.new spot (world.Pool size (replicate count None))) }
+        ensures made { OnOk result (Settles self.old self.new slot_id (world.Pool size (replicate count None))) }
         ensures unchanged { OnErr result (self.new ≡ self.old) }
-        ensures refused { IsPaidWhereLeft (memory_of self.old (holder self.old spot)) (up (4 * count)) result }
+        ensures refused { IsPaidWhereLeft (memory_of self.old (holder self.old slot_id)) (up (4 * count)) result }
     {
-        let holder = self.holder(spot);
+        let holder = self.holder(slot_id);
         let _heap = &self.heaps[holder];
         self.trades.laws();
         let made = Content::make_pool(&mut self.trades, size, count)?;
-        fill(&mut self.trades, &mut self.own, spot, made);
+        fill(&mut self.trades, &mut self.own, slot_id, made);
         Ok(())
     }
 
@@ -284,82 +284,82 @@ impl Slots {
     ///
     /// Refused as `Exceeded` where the price of the leaf's heap must rise by more than can be paid, else as `CapsExceeded` where it must rise and there
     /// is no capability left; then nothing changes.
-    pub fn make_block(&mut self, spot: Spot, size: u32) -> Result<(), GrowFault>
-        requires can { CanMake self.old spot }
+    pub fn make_block(&mut self, slot_id: SlotId, size: u32) -> Result<(), GrowFault>
+        requires can { CanMake self.old slot_id }
         requires size { (1 ≤ size) × (size ≤ 67108864) }
-        ensures made { OnOk result (Settles self.old self.new spot (world.Bytes form.Block size (replicate size 0))) }
+        ensures made { OnOk result (Settles self.old self.new slot_id (world.Bytes form.Block size (replicate size 0))) }
         ensures unchanged { OnErr result (self.new ≡ self.old) }
-        ensures refused { (h : Heap) → IsHeapOf self.old (holder self.old spot) h
-            → IsRaisedWhereLeft (memory_of self.old (holder self.old spot)) (rise h size) result }
+        ensures refused { (h : Heap) → IsHeapOf self.old (holder self.old slot_id) h
+            → IsRaisedWhereLeft (memory_of self.old (holder self.old slot_id)) (rise h size) result }
     {
-        let holder = self.holder(spot);
-        let _empty = self.content(spot);
+        let holder = self.holder(slot_id);
+        let _empty = self.content(slot_id);
         self.trades.laws();
         let made = Content::make_block(&mut self.trades, &mut self.heaps[holder], size)?;
-        fill(&mut self.trades, &mut self.own, spot, made);
+        fill(&mut self.trades, &mut self.own, slot_id, made);
         Ok(())
     }
 
     /// Adds an entry of a pool, whose bytes read 0, and says whether it did: not where it was there.
     ///
     /// Refused as a block of the entry's size is, where the entry is absent; then nothing changes.
-    pub fn take(&mut self, spot: Spot, index: u32) -> Result<bool, GrowFault>
-        requires there { IsSpot self.old spot }
-        requires paid { IsPaidBy self.old (holder self.old spot) }
-        requires inside { index < entry_count (content_at self.old spot) }
-        ensures taken { OnOk result (Settles self.old self.new spot (with_entry index added (slot_of self.old spot))) }
-        ensures added { IfOk result (λ b. IsTrue b ↔ (entry_in index (slot_of self.old spot) ≡ None)) }
+    pub fn take(&mut self, slot_id: SlotId, index: u32) -> Result<bool, GrowFault>
+        requires there { IsSlotId self.old slot_id }
+        requires paid { IsPaidBy self.old (holder self.old slot_id) }
+        requires inside { index < entry_count (content_at self.old slot_id) }
+        ensures taken { OnOk result (Settles self.old self.new slot_id (with_entry index added (slot_of self.old slot_id))) }
+        ensures added { IfOk result (λ b. IsTrue b ↔ (entry_in index (slot_of self.old slot_id) ≡ None)) }
         ensures unchanged { OnErr result (self.new ≡ self.old) }
-        ensures exceeded { (h : Heap) → IsHeapOf self.old (holder self.old spot) h → (IsErrOf result GrowFault.Exceeded
-            ↔ ((entry_in index (slot_of self.old spot) ≡ None)
-            × ((memory_of self.old (holder self.old spot)).left < rise h (entry_size (content_at self.old spot))))) }
-        ensures caps_exceeded { (h : Heap) → IsHeapOf self.old (holder self.old spot) h → (IsErrOf result GrowFault.CapsExceeded
-            ↔ ((entry_in index (slot_of self.old spot) ≡ None) × (0 < rise h (entry_size (content_at self.old spot)))
-            × (rise h (entry_size (content_at self.old spot)) ≤ (memory_of self.old (holder self.old spot)).left)
-            × ((memory_of self.old (holder self.old spot)).caps ≡ Some 0))) }
+        ensures exceeded { (h : Heap) → IsHeapOf self.old (holder self.old slot_id) h → (IsErrOf result GrowFault.Exceeded
+            ↔ ((entry_in index (slot_of self.old slot_id) ≡ None)
+            × ((memory_of self.old (holder self.old slot_id)).left < rise h (entry_size (content_at self.old slot_id))))) }
+        ensures caps_exceeded { (h : Heap) → IsHeapOf self.old (holder self.old slot_id) h → (IsErrOf result GrowFault.CapsExceeded
+            ↔ ((entry_in index (slot_of self.old slot_id) ≡ None) × (0 < rise h (entry_size (content_at self.old slot_id)))
+            × (rise h (entry_size (content_at self.old slot_id)) ≤ (memory_of self.old (holder self.old slot_id)).left)
+            × ((memory_of self.old (holder self.old slot_id)).caps ≡ Some 0))) }
     {
-        let holder = self.holder(spot);
-        let content = self.content(spot);
+        let holder = self.holder(slot_id);
+        let content = self.content(slot_id);
         self.trades.laws();
         content.take(&mut self.trades, &mut self.heaps[holder], index)
     }
 
     /// Removes an entry of a pool, and says whether it did: not where it was absent.
-    pub fn give(&mut self, spot: Spot, index: u32) -> bool
-        requires there { IsSpot self.old spot }
-        requires paid { IsPaidBy self.old (holder self.old spot) }
-        requires inside { index < entry_count (content_at self.old spot) }
-        ensures given { PutsSlot self.old self.new spot (with_entry index removed (slot_of self.old spot)) }
-        ensures absent { (result ≡ false) ↔ (entry_in index (slot_of self.old spot) ≡ None) }
+    pub fn give(&mut self, slot_id: SlotId, index: u32) -> bool
+        requires there { IsSlotId self.old slot_id }
+        requires paid { IsPaidBy self.old (holder self.old slot_id) }
+        requires inside { index < entry_count (content_at self.old slot_id) }
+        ensures given { PutsSlot self.old self.new slot_id (with_entry index removed (slot_of self.old slot_id)) }
+        ensures absent { (result ≡ false) ↔ (entry_in index (slot_of self.old slot_id) ≡ None) }
     {
-        let holder = self.holder(spot);
-        let content = self.content(spot);
+        let holder = self.holder(slot_id);
+        let content = self.content(slot_id);
         self.trades.laws();
         content.give(&mut self.trades, &mut self.heaps[holder], index)
     }
 
     /// The byte of an entry of a pool, 0 where the entry is absent.
-    pub fn peek(&self, spot: Spot, index: u32, offset: u32) -> u8
-        requires there { IsSpot self.now spot }
-        requires paid { IsPaidBy self.now (holder self.now spot) }
-        requires inside { (index < entry_count (content_at self.now spot)) × (offset < entry_size (content_at self.now spot)) }
-        ensures { result ≡ entry_byte (entry_in index (slot_of self.now spot)) offset }
+    pub fn peek(&self, slot_id: SlotId, index: u32, offset: u32) -> u8
+        requires there { IsSlotId self.now slot_id }
+        requires paid { IsPaidBy self.now (holder self.now slot_id) }
+        requires inside { (index < entry_count (content_at self.now slot_id)) × (offset < entry_size (content_at self.now slot_id)) }
+        ensures { result ≡ entry_byte (entry_in index (slot_of self.now slot_id)) offset }
     {
         let _own = &self.own;
-        let holder = self.holder(spot);
-        let content = self.content(spot);
+        let holder = self.holder(slot_id);
+        let content = self.content(slot_id);
         content.peek(&self.trades, &self.heaps[holder], index, offset)
     }
 
     /// Sets the byte of an entry of a pool; where the entry is absent nothing is done.
-    pub fn poke(&mut self, spot: Spot, index: u32, offset: u32, value: u8)
-        requires there { IsSpot self.old spot }
-        requires paid { IsPaidBy self.old (holder self.old spot) }
-        requires inside { (index < entry_count (content_at self.old spot)) × (offset < entry_size (content_at self.old spot)) }
-        ensures { PutsSlot self.old self.new spot (with_entry index (λ n. entry_with offset value) (slot_of self.old spot)) }
+    pub fn poke(&mut self, slot_id: SlotId, index: u32, offset: u32, value: u8)
+        requires there { IsSlotId self.old slot_id }
+        requires paid { IsPaidBy self.old (holder self.old slot_id) }
+        requires inside { (index < entry_count (content_at self.old slot_id)) × (offset < entry_size (content_at self.old slot_id)) }
+        ensures { PutsSlot self.old self.new slot_id (with_entry index (λ n. entry_with offset value) (slot_of self.old slot_id)) }
     {
-        let holder = self.holder(spot);
-        let content = self.content(spot);
+        let holder = self.holder(slot_id);
+        let content = self.content(slot_id);
         self.trades.laws();
         content.poke(&mut self.trades, &self.heaps[holder], index, offset, value);
     }
@@ -367,7 +367,7 @@ impl Slots {
     // What is in a leaf's own slot. The three calls below that look there are not `inline(always)`: the compiler would then take what they call for rare.
     #[inline(always)]
     fn own_content(&self, leaf: usize, slot: u8) -> Content
-        requires { IsSpot self.now (InLeaf leaf slot) }
+        requires { IsSlotId self.now (InLeaf leaf slot) }
         ensures { result ≡ content_at self.now (InLeaf leaf slot) }
     {
         self.own[leaf][usize::from(slot)]
@@ -376,7 +376,7 @@ impl Slots {
     /// The byte of an entry of a pool in a leaf's own slot, 0 where the entry is absent, as `peek` reads it; but whether there is one is tested here. `None`
     /// where that slot holds no pool, or the pool has no such entry, or its entries have no such byte.
     pub fn peek_own(&self, leaf: usize, slot: u8, index: u32, offset: u32) -> Option<u8>
-        requires there { IsSpot self.now (InLeaf leaf slot) }
+        requires there { IsSlotId self.now (InLeaf leaf slot) }
         requires paid { IsPaidBy self.now leaf }
         ensures inside { IfSome result (λ b. (index < entry_count (content_at self.now (InLeaf leaf slot)))
             × (offset < entry_size (content_at self.now (InLeaf leaf slot)))) }
@@ -395,10 +395,10 @@ impl Slots {
         Some(content.peek(&self.trades, &self.heaps[leaf], index, offset))
     }
 
-    /// Sets the byte of an entry of a pool in a leaf's own slot, as `poke` does, where the pool has that byte, and tells whether it has. Where it has not,
+    /// Sets the byte of an entry of a pool in a leaf's own slot, as `poke` does, where the pool has that byte, and returns whether it has. Where it has not,
     /// nothing changes.
     pub fn poke_own(&mut self, leaf: usize, slot: u8, index: u32, offset: u32, value: u8) -> bool
-        requires there { IsSpot self.old (InLeaf leaf slot) }
+        requires there { IsSlotId self.old (InLeaf leaf slot) }
         requires paid { IsPaidBy self.old leaf }
         ensures inside { result ≡ true → (index < entry_count (content_at self.old (InLeaf leaf slot)))
             × (offset < entry_size (content_at self.old (InLeaf leaf slot))) }
@@ -423,7 +423,7 @@ impl Slots {
     /// Removes an entry of a pool in a leaf's own slot, as `give` does, and says whether it did: not where it was absent. `None` where that slot holds no
     /// pool, or the pool has no such entry; then nothing changes.
     pub fn give_own(&mut self, leaf: usize, slot: u8, index: u32) -> Option<bool>
-        requires there { IsSpot self.old (InLeaf leaf slot) }
+        requires there { IsSlotId self.old (InLeaf leaf slot) }
         requires paid { IsPaidBy self.old leaf }
         ensures inside { IfSome result (λ b. index < entry_count (content_at self.old (InLeaf leaf slot))) }
         ensures given { IfSome result (λ b. PutsSlot self.old self.new (InLeaf leaf slot) (with_entry index removed (slot_of self.old (InLeaf leaf slot)))) }
@@ -443,33 +443,33 @@ impl Slots {
     }
 
     /// Makes a slot empty, and the memory free that was in it. Pages of the heap's classes stay the heap's, and paid.
-    pub fn free(&mut self, spot: Spot)
-        requires slot { IsSlot spot }
-        requires there { IsSpot self.old spot }
-        requires paid { IsPaidBy self.old (holder self.old spot) }
-        ensures { PutsSlot self.old self.new spot world.Empty }
+    pub fn free(&mut self, slot_id: SlotId)
+        requires slot { IsSlot slot_id }
+        requires there { IsSlotId self.old slot_id }
+        requires paid { IsPaidBy self.old (holder self.old slot_id) }
+        ensures { PutsSlot self.old self.new slot_id world.Empty }
     {
-        let holder = self.holder(spot);
-        let content = self.content(spot);
+        let holder = self.holder(slot_id);
+        let content = self.content(slot_id);
         self.trades.laws();
         content.free(&mut self.trades, &mut self.heaps[holder]);
-        clear(&mut self.trades, &mut self.own, spot);
+        clear(&mut self.trades, &mut self.own, slot_id);
     }
 
     /// Puts what holds no memory into a slot in the place of what holds none: a link, a mark that the slot waits, or nothing. It costs nothing, whoever
     /// pays.
-    pub fn mark(&mut self, spot: Spot, contents: Content)
-        requires slot { IsSlot spot }
-        requires there { IsSpot self.old spot }
-        requires free { IsMark (content_at self.old spot) }
+    pub fn mark(&mut self, slot_id: SlotId, contents: Content)
+        requires slot { IsSlot slot_id }
+        requires there { IsSlotId self.old slot_id }
+        requires free { IsMark (content_at self.old slot_id) }
         requires mark { IsMark contents }
-        ensures { PutsSlot self.old self.new spot (seen (memory_of self.old (holder self.old spot)) contents) }
+        ensures { PutsSlot self.old self.new slot_id (seen (memory_of self.old (holder self.old slot_id)) contents) }
     {
-        let holder = self.holder(spot);
-        let _content = self.content(spot);
+        let holder = self.holder(slot_id);
+        let _content = self.content(slot_id);
         let _heap = &self.heaps[holder];
         self.trades.laws();
-        replace(&mut self.trades, &mut self.own, spot, contents);
+        replace(&mut self.trades, &mut self.own, slot_id, contents);
     }
 
     /// The greatest number of places of a class that a leaf's heap has had in use at one time.

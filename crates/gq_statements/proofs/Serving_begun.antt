@@ -8,27 +8,27 @@ use Rattle.std.proofs.lemmas.Bool.Decides.{eqb_tells, nat_tests}
 use Rattle.gq_tariff.specs.Prices.{up}
 use Rattle.gq_model.specs.declared.program.Form.TheVariants as form
 use Rattle.gq_model.specs.machine.Amounts.{Ram, Caps}
-use Rattle.gq_model.specs.machine.Prices.{price_memory}
+use Rattle.gq_model.specs.machine.Resource_prices.{price_memory}
 use Rattle.gq_model.specs.machine.Scenario.{System, Component}
 use Rattle.gq_model.specs.machine.Sums.{are_paid, bank_price, donated, from_leaf, handed, is_paid, paid, to_leaf}
 use Rattle.gq_model.specs.machine.World as world
 use Rattle.gq_trade.specs.Numbers.{IsTaken}
-use Rattle.gq_ram.specs.Entries.{available_caps}
+use Rattle.gq_ram.specs.Account_table.{available_caps}
 use Rattle.gq_trade.specs.declared.requests.Ask.{Ask}
 use Rattle.gq_trade.specs.declared.requests.Ask.TheVariants.{Open, Upgrade, Close, Call}
 use Rattle.gq_contents.specs.declared.content.Content.TheVariants.{Empty}
 use Rattle.gq_contents.specs.Contents.{seen}
 use Rattle.gq_trade.specs.declared.session.Session.{Session}
-use Rattle.gq_trade.specs.Seen.{session_seen}
+use Rattle.gq_trade.specs.Seen_sessions.{session_seen}
 use Rattle.gq_trade.specs.Trading.{LacksBytes, LacksCaps, account_of, its_account, object_size, server_of, session_at}
 use Rattle.gq_slots.specs.Slots.{Frame, Slots, memory_of, world_seen}
 use Rattle.gq_slots.specs.Session_calls.{accepting, begun_at}
-use Rattle.gq_slots.proofs.Worlds.{session_there}
-use Rattle.gq_laws.proofs.paying.Prices.{IsNoDearer, paid_all, same_price, still_paid}
+use Rattle.gq_slots.proofs.Slot_change_worlds.{session_there}
+use Rattle.gq_laws.proofs.quota_payment.Written_world_prices.{IsNoDearer, paid_all, same_price, still_paid}
 use Rattle.gq_statements.specs.Systems.{AreLawful, IsOf}
-use Rattle.gq_statements.proofs.Balanced.{balances}
-use Rattle.gq_statements.proofs.Paid.{all_paid, found_below, phase_seen}
-use Rattle.gq_statements.proofs.Sums.{held_begun, leaves_begun, lent_begun, received_begun, sum_changed}
+use Rattle.gq_statements.proofs.Leaf_quota_balance.{balances}
+use Rattle.gq_statements.proofs.Lawful_worlds_paid.{all_paid, found_below, phase_seen}
+use Rattle.gq_statements.proofs.Session_change_sums.{held_begun, leaves_begun, lent_begun, received_begun, sum_changed}
 use Rattle.gq_statements.specs.internal.Beginning.{can_pay, has_some}
 
 -- WHO CAN PAY

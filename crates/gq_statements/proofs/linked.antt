@@ -1,4 +1,4 @@
-pub mod Stored
+pub mod Stored_world_links
 pub mod Standing_sessions
 pub mod Waiting_requests
 pub mod Ended_leaves

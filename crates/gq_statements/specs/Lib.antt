@@ -1,7 +1,7 @@
-pub mod Statements
+pub mod Slot_statements
 pub mod internal
 pub mod Among
 pub mod Systems
 pub mod Linked
-pub mod Requests
+pub mod Client_requests
 pub mod Serving

@@ -12,10 +12,10 @@ use Rattle.gq_trade.specs.declared.requests.Request.{Request}
 use Rattle.gq_contents.specs.declared.content.Content.{Content}
 use Rattle.gq_contents.specs.declared.content.Content.TheVariants as content
 use Rattle.gq_trade.specs.declared.session.Session.{Session}
-use Rattle.gq_trade.specs.declared.session.Spot.{Spot}
-use Rattle.gq_trade.specs.declared.session.Spot.TheVariants.{InObject}
+use Rattle.gq_trade.specs.declared.session.SlotId.{SlotId}
+use Rattle.gq_trade.specs.declared.session.SlotId.TheVariants.{InObject}
 use Rattle.gq_trade.specs.Trading.{AreOfOthers, client_of, server_of, session_at}
-use Rattle.gq_slots.specs.Slots.{Frame, IsMark, IsSlot, IsSpot, Slots, holder, content_at}
+use Rattle.gq_slots.specs.Slots.{Frame, IsMark, IsSlot, IsSlotId, Slots, holder, content_at}
 
 -- SESSIONS AND THEIR SLOTS
 
@@ -24,9 +24,9 @@ abbrev pub Names : Content → ℕ → Type 0
 Names t k = (t ≡ content.Link k) ⊎ (t ≡ content.Waiting k)
 
 -- the session k is there, and this is the slot of its client in which it stands
-pub record IsSlotOf (s : Slots) (p : Spot) (k : ℕ) : Type 0 where
+pub record IsSlotOf (s : Slots) (p : SlotId) (k : ℕ) : Type 0 where
   pub there : IsTaken s.trades.trading.sessions k
-  pub spot : (session_at s.trades.trading k).spot ≡ p
+  pub slot_id : (session_at s.trades.trading k).slot_id ≡ p
   pub client : client_of s.trades.trading k ≡ holder s p
   pub slot : IsSlot p
 
@@ -45,20 +45,20 @@ pub record IsAtRest (f : Frame) (s : Slots) (k : ℕ) : Type 0 where
 abbrev pub ShowsSession : Frame → Slots → ℕ → Content → Type 0
 ShowsSession f s k t = (IsAtRest f s k × (t ≡ content.Link k)) ⊎ ((IsAtRest f s k → ⊥) × (t ≡ content.Waiting k))
 
--- a session stands in a slot of its client, which tells how it stands
+-- a session stands in a slot of its client, which reports how it stands
 pub record IsInSlot (f : Frame) (s : Slots) (k : ℕ) : Type 0 where
-  pub there : IsSpot s (session_at s.trades.trading k).spot
-  pub slot : IsSlot (session_at s.trades.trading k).spot
-  pub holder_is : holder s (session_at s.trades.trading k).spot ≡ client_of s.trades.trading k
-  pub tells : ShowsSession f s k (content_at s (session_at s.trades.trading k).spot)
-  pub mark : IsMark (content_at s (session_at s.trades.trading k).spot)
+  pub there : IsSlotId s (session_at s.trades.trading k).slot_id
+  pub slot : IsSlot (session_at s.trades.trading k).slot_id
+  pub holder_is : holder s (session_at s.trades.trading k).slot_id ≡ client_of s.trades.trading k
+  pub reports : ShowsSession f s k (content_at s (session_at s.trades.trading k).slot_id)
+  pub mark : IsMark (content_at s (session_at s.trades.trading k).slot_id)
 
 -- REQUESTS
 
 -- the client of a session waits for a reply: it is blocked, and the session's slot waits
 pub record IsAwaited (f : Frame) (s : Slots) (k : ℕ) : Type 0 where
   pub there : IsTaken s.trades.trading.sessions k
-  pub waits : content_at s (session_at s.trades.trading k).spot ≡ content.Waiting k
+  pub waits : content_at s (session_at s.trades.trading k).slot_id ≡ content.Waiting k
   pub blocked : (f.leaf (client_of s.trades.trading k)).phase ≡ Blocked
 
 -- a request to open is of a session that is not accepted and has no object, every other one of an accepted session

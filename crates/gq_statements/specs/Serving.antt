@@ -13,18 +13,18 @@ use Rattle.gq_model.specs.declared.fault.Wrong.{Wrong}
 use Rattle.gq_trade.specs.Numbers.{IsTaken}
 use Rattle.gq_contents.specs.declared.content.Content.TheVariants.{Link, Waiting}
 use Rattle.gq_contents.specs.declared.content.Content.{Content}
-use Rattle.gq_trade.specs.Ends.{HasNoSessions}
-use Rattle.gq_trade.specs.declared.session.Spot.TheVariants.{InLeaf}
+use Rattle.gq_trade.specs.Leaf_ends.{HasNoSessions}
+use Rattle.gq_trade.specs.declared.session.SlotId.TheVariants.{InLeaf}
 use Rattle.gq_trade.specs.declared.requests.Request.{Request}
 use Rattle.gq_trade.specs.Seen_requests.{request_seen}
 use Rattle.gq_statements.specs.Systems.{IsOf}
 use Rattle.gq_trade.specs.Queues.{IsOldest}
 use Rattle.gq_trade.specs.Trading.{client_of, object_size, server_of, session_at}
 use Rattle.gq_trade.specs.declared.requests.Ask.TheVariants.{Upgrade}
-use Rattle.gq_slots.specs.Slots.{Frame, IsSlot, IsSpot, Slots, holder, content_at, world_seen}
+use Rattle.gq_slots.specs.Slots.{Frame, IsSlot, IsSlotId, Slots, holder, content_at, world_seen}
 use Rattle.gq_slots.specs.Calls.{PutsSlot}
 use Rattle.gq_slots.specs.Session_calls.{EndsSession}
-use Rattle.gq_slots.specs.Addresses.{slot_for}
+use Rattle.gq_slots.specs.Slot_addresses.{slot_for}
 
 -- REPLIES
 
@@ -32,7 +32,7 @@ use Rattle.gq_slots.specs.Addresses.{slot_for}
 pub record IsAwaited (s : Slots) (k : ℕ) : Type 0 where
   pub there : IsTaken s.trades.trading.sessions k
   pub slot : IsSlot (slot_for s k)
-  pub spot : IsSpot s (slot_for s k)
+  pub slot_id : IsSlotId s (slot_for s k)
   pub waits : content_at s (slot_for s k) ≡ Waiting k
   pub client : holder s (slot_for s k) ≡ client_of s.trades.trading k
 
@@ -77,7 +77,7 @@ place (Upgrading level) = 1 + level
 place (Calling level) = 5 + level
 place (Closing level) = 9 + level
 
--- these tell which sections the program of a component has, by their places
+-- these report which sections the program of a component has, by their places
 abbrev pub AreSections : List Bool → Component → Type 0
 AreSections bs c = (section : Section) → IsSection section → get_or bs (place section) false ≡ is_some (section_in section c.node.program.sections)
 

@@ -6,8 +6,8 @@ use Rattle.gq_model.specs.declared.phase.Phase.{Phase}
 use Rattle.gq_model.specs.declared.phase.Phase.TheVariants as phase
 use Rattle.gq_ram.specs.Ledgers.{IsBalanced}
 use Rattle.gq_trade.specs.Trading.{IsTrading, node_of}
-use Rattle.gq_trade.specs.declared.node.Stage.{Stage}
-use Rattle.gq_trade.specs.declared.node.Stage.TheVariants.{Pending, Live, Ended}
+use Rattle.gq_trade.specs.declared.trade_node.Stage.{Stage}
+use Rattle.gq_trade.specs.declared.trade_node.Stage.TheVariants.{Pending, Live, Ended}
 use Rattle.gq_trade.specs.Balances.{node_at}
 use Rattle.gq_trade.specs.Trades.{IsTrades}
 use Rattle.gq_slots.specs.Slots.{ArePaidFor, AreRead, AreRises, AreSmallEntries, Frame, Slots, memory_of}

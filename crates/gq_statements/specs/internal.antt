@@ -1,5 +1,5 @@
 pub mod Found
-pub mod Made
-pub mod Leads
+pub mod Made_memory
+pub mod Named_slots
 pub mod Beginning
-pub mod Tests
+pub mod Content_tests

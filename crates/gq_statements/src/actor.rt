@@ -2,12 +2,12 @@
 ghost use Rattle.std.specs.Prelude.{◌≡◌, ◌<◌, length, IfSome, IsTrue};
 ghost use Rattle.gq_model.specs.machine.World as world;
 ghost use Rattle.gq_model.specs.texts.Operands.{is_slot_or_object};
-ghost use Rattle.gq_slots.specs.Slots.{IsSpot, Slots, holder};
-ghost use Rattle.gq_slots.specs.Addresses.{place_seen};
-ghost use Rattle.gq_statements.specs.Statements.{IsCurrent, current_seen};
+ghost use Rattle.gq_slots.specs.Slots.{IsSlotId, Slots, holder};
+ghost use Rattle.gq_slots.specs.Slot_addresses.{place_seen};
+ghost use Rattle.gq_statements.specs.Slot_statements.{IsCurrent, current_seen};
 
-use gq_model::program::{Place, Section};
-use gq_trade::Spot;
+use gq_model::program::{OperandSlot, Section};
+use gq_trade::SlotId;
 
 /// The session of the current request of a leaf, and the section that it does for it.
 #[derive(Clone, Copy)]
@@ -26,16 +26,19 @@ pub struct Actor {
 impl Actor {
     /// Where the slot stands that a statement names: one of the leaf's own, or of the current session. `None` where no session is current and one of
     /// its slots is named.
-    pub fn spot(self, place: Place) -> Option<Spot>
-        ensures is { place_seen result ≡ world.spot_of self.leaf (current_seen self.current) place }
+    pub fn slot_id(self, place: OperandSlot) -> Option<SlotId>
+        ensures is { place_seen result ≡ world.slot_id_of self.leaf (current_seen self.current) place }
         ensures there { (s : Slots) → self.leaf < length s.own → IsTrue (is_slot_or_object place) → IsCurrent s self.leaf self.current
-            → IfSome result (λ p. IsSpot s p × (holder s p ≡ self.leaf)) }
+            → IfSome result (λ p. IsSlotId s p × (holder s p ≡ self.leaf)) }
     {
         match (place, self.current) {
-            (Place::Own(slot), _) => Some(Spot::InLeaf(self.leaf, slot)),
-            (Place::Shared(slot), Some(current)) => Some(Spot::InSession(current.session, slot)),
-            (Place::Object, Some(current)) => Some(Spot::InObject(current.session)),
-            (Place::Shared(_) | Place::Object, None) => None,
+            (OperandSlot::Own(slot), _) => Some(SlotId::InLeaf(self.leaf, slot)),
+            (OperandSlot::Shared(slot), Some(current)) => Some(SlotId::InSession(
+                current.session,
+                slot,
+            )),
+            (OperandSlot::Object, Some(current)) => Some(SlotId::InObject(current.session)),
+            (OperandSlot::Shared(_) | OperandSlot::Object, None) => None,
         }
     }
 }

@@ -21,10 +21,10 @@
 //! }
 //! ```
 //!
-//! `serving_requests` and `replies` are what a server does with the requests of its clients, and `endings` is how a leaf ends.
+//! `serving_requests` and `client_replies` are what a server does with the requests of its clients, and `leaf_end` is how a leaf ends.
 //!
 //! ```rust
-//! use gq_statements::replies::reply;
+//! use gq_statements::client_replies::reply;
 //! use gq_statements::serving_requests::accept;
 //!
 //! // The oldest request to the leaf 1 is taken, and replied to once its section is at its end.
@@ -33,25 +33,26 @@
 //! }
 //! ```
 //!
-//! `laws`, `linked` and `requests` say who is paid for: in the machine's world of lawful slots every leaf is, and with what is refused there for want of quota
-//! it would not be. Each is the contract of a call that does nothing.
+//! `paid_laws`, `linked` and `request_laws` say who is paid for: in the machine's world of lawful slots every leaf is, and with what is refused there for want
+//! of quota it would not be. Each is the contract of a call that does nothing.
 //!
-//! Modules: statements on memory (`actor`), requests of a client (`asking`), the server's part (`serving_requests`, `replies`), ends of leaves (`endings`).
+//! Modules: statements on memory (`actor`), requests of a client (`client_requests`), the server's part (`serving_requests`, `client_replies`), ends of leaves
+//! (`leaf_end`).
 #![tactic(auto)]
 
 pub mod actor;
-mod asking;
-mod bytes;
-pub mod endings;
-pub mod laws;
+mod byte_statements;
+pub mod client_replies;
+mod client_requests;
+pub mod leaf_end;
 pub mod linked;
 mod making;
-mod pools;
-pub mod replies;
-pub mod requests;
+pub mod paid_laws;
+mod pool_statements;
+pub mod request_laws;
 pub mod serving_requests;
 
 pub use actor::{Actor, Current};
-pub use asking::{call, close, link, open, upgrade};
-pub use bytes::{load_own, store_own};
-pub use pools::{give_own, peek_own, poke_own};
+pub use byte_statements::{load_own, store_own};
+pub use client_requests::{call, close, link, open, upgrade};
+pub use pool_statements::{give_own, peek_own, poke_own};

@@ -1,18 +1,18 @@
-// What slots tell whose world is linked.
+// What slots report whose world is linked.
 ghost use Rattle.std.specs.Prelude.{◌≡◌, ℕ, ◌<◌, ◌≤◌, List, length, Some};
 ghost use Rattle.gq_model.specs.declared.phase.Phase.TheVariants.{Blocked, Running};
 ghost use Rattle.gq_model.specs.machine.Scenario.{System};
 ghost use Rattle.gq_model.specs.machine.World as world;
-ghost use Rattle.gq_laws.specs.Links.{IsLinkedWorld};
+ghost use Rattle.gq_laws.specs.Session_links.{IsLinkedWorld};
 ghost use Rattle.gq_trade.specs.Numbers.{IsTaken, free_number};
 ghost use Rattle.gq_trade.specs.declared.requests.Request.{Request};
 ghost use Rattle.gq_trade.specs.Queues.{oldest_to};
 ghost use Rattle.gq_contents.specs.declared.content.Content.TheVariants as content;
-ghost use Rattle.gq_trade.specs.declared.session.Spot.{Spot};
-ghost use Rattle.gq_trade.specs.declared.session.Spot.TheVariants.{InLeaf};
-ghost use Rattle.gq_trade.specs.Ends.{HasNoSessions};
+ghost use Rattle.gq_trade.specs.declared.session.SlotId.{SlotId};
+ghost use Rattle.gq_trade.specs.declared.session.SlotId.TheVariants.{InLeaf};
+ghost use Rattle.gq_trade.specs.Leaf_ends.{HasNoSessions};
 ghost use Rattle.gq_trade.specs.Waiting.{IsIdle};
-ghost use Rattle.gq_slots.specs.Slots.{AreLong, AreSound, Frame, IsSpot, Slots, content_at, world_seen};
+ghost use Rattle.gq_slots.specs.Slots.{AreLong, AreSound, Frame, IsSlotId, Slots, content_at, world_seen};
 ghost use Rattle.gq_statements.specs.Systems.{AreLawful};
 ghost use Rattle.gq_statements.specs.Linked.{IsAsked, IsAwaited, IsHandled, IsInSlot, IsSlotOf, Names, ProvidesNothing};
 
@@ -24,7 +24,7 @@ ghost use Rattle.gq_statements.specs.Linked.{IsAsked, IsAwaited, IsHandled, IsIn
 /// `sessions`: a session stands in a slot of its client. In it is a link to the session where the session is accepted and no request of it waits or is at
 /// current at its server; else a mark that the slot waits.
 pub fn linked_sessions()
-    ensures links { (system : System) (f : Frame) (s : Slots) (p : Spot) (k : ℕ) → AreLawful s → IsLinkedWorld system (world_seen f s) → IsSpot s p
+    ensures links { (system : System) (f : Frame) (s : Slots) (p : SlotId) (k : ℕ) → AreLawful s → IsLinkedWorld system (world_seen f s) → IsSlotId s p
         → Names (content_at s p) k → IsSlotOf s p k }
     ensures sessions { (system : System) (f : Frame) (s : Slots) (k : ℕ) → AreLawful s → IsLinkedWorld system (world_seen f s) → AreLong s
         → IsTaken s.trades.trading.sessions k → IsInSlot f s k }
@@ -41,7 +41,7 @@ pub fn linked_sessions()
 pub fn linked_requests()
     ensures idle { (system : System) (f : Frame) (s : Slots) (x : ℕ) → AreLawful s → IsLinkedWorld system (world_seen f s)
         → ((f.leaf x).phase ≡ Blocked → ⊥) → IsIdle s.trades.trading x }
-    ensures awaited { (system : System) (f : Frame) (s : Slots) (p : Spot) (k : ℕ) → AreLawful s → IsLinkedWorld system (world_seen f s) → IsSpot s p
+    ensures awaited { (system : System) (f : Frame) (s : Slots) (p : SlotId) (k : ℕ) → AreLawful s → IsLinkedWorld system (world_seen f s) → IsSlotId s p
         → content_at s p ≡ content.Waiting k → IsAwaited f s k }
     ensures oldest { (system : System) (f : Frame) (s : Slots) (x : ℕ) (r : Request) (rest : List Request) → AreLawful s
         → IsLinkedWorld system (world_seen f s) → AreSound s.trades.trading → oldest_to x s.trades.trading.requests ≡ Some (r, rest)

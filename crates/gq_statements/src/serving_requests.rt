@@ -7,20 +7,20 @@ ghost use Rattle.gq_trade.specs.declared.requests.Ask.TheVariants as asks;
 ghost use Rattle.gq_slots.specs.Slots.{Frame, IsPaidBy, memory_of, world_seen};
 ghost use Rattle.gq_slots.specs.Session_calls.{TakesOldest};
 ghost use Rattle.gq_statements.specs.Serving.{AreSections, Begins, IsNextRequest, IsSection, KnowsService, found, place, taken};
-ghost use Rattle.gq_statements.specs.Statements.{IsPaying};
+ghost use Rattle.gq_statements.specs.Slot_statements.{IsPaying};
 ghost use Rattle.gq_statements.specs.internal.Beginning.{can_pay, has_some, section_of};
 ghost use Rattle.gq_trade.specs.Stores.{store_of};
 ghost use Rattle.gq_model.specs.declared.fault.Wrong.TheVariants as wrong;
 
-use crate::laws::lawful;
+use crate::paid_laws::lawful;
 use gq_model::fault::Wrong;
 use gq_model::program::Section;
 use gq_slots::{Slots, sessions};
 use gq_tariff::round_up;
 use gq_trade::{Ask, Memory, Request};
 
-/// What a leaf that serves knows of its program and its service: which sections it has, each at its place in `Section::ALL`; how many bytes the object
-/// of a session has; and whether capabilities are counted.
+/// What a leaf that serves knows of its program and its service: which sections it has, each at its place in `Section::ALL`. How many bytes the object of a
+/// session has, and whether capabilities are counted.
 #[derive(Clone, Copy)]
 pub struct Provider<'a> {
     pub sections: &'a [bool; 13],

@@ -62,9 +62,9 @@ impl ChunkNo {
 
 /// Chunks of whole pages of 4096 bytes. A chunk costs its bytes and, where capabilities are counted, one capability.
 ///
-/// The account that pays is the store's own. Whoever keeps something in a store (a heap, a sliced heap, a pool) takes the store by `&mut` for
-/// each call and holds no part of it, so that several of them can lie in one store. A system of several accounts implements the trait on the type
-/// that owns all of them and has the account at hand as a field; `same_rest` then says that all but the chunks of that account stays.
+/// The account that pays is the store's own. Whoever keeps something in a store (a heap, a sliced heap, a pool) takes the store by `&mut` for each call and
+/// holds no part of it. So several of them can lie in one store. A system of several accounts implements the trait on the type that owns all of them and has
+/// the account at hand as a field. Then `same_rest` says that all but the chunks of that account stays.
 pub trait ByteStore {
     /// The chunks, and what can still be paid.
     ghost state: { Self → Store };

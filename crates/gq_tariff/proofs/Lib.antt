@@ -1,1 +1,1 @@
-pub mod Quantities
+pub mod Saturated_quantities

@@ -1,3 +1,3 @@
-pub mod Tests
+pub mod Byte_tests
 pub mod Prices
 pub mod Quantities

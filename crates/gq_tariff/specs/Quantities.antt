@@ -1,6 +1,6 @@
 -- Quantities: digits, then perhaps one of K, M and G.
 use Rattle.std.specs.Prelude.{ℕ, ◌+◌, ◌-◌, ◌*◌, ◌^◌, nat_le, ◌==◌, ◌≡◌, false, if◌then◌else◌, List, [], ◌∷◌, Result, Ok, Err}
-use Rattle.gq_tariff.specs.Tests.{is_digit}
+use Rattle.gq_tariff.specs.Byte_tests.{is_digit}
 use Rattle.gq_tariff.specs.declared.quantity.QuantityFault.{QuantityFault}
 use Rattle.gq_tariff.specs.declared.quantity.QuantityFault.TheVariants.{Empty, BadCharacter, TooLarge}
 

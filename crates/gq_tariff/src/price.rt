@@ -22,7 +22,7 @@ pub enum Held {
 /// The bytes of a page.
 pub const PAGE: u64 = 4096;
 
-/// The bytes of bookkeeping at the front of a slice.
+/// The bytes of bookkeeping at the start of a slice.
 pub const SLICE_HEADER: u64 = 32;
 
 /// The greatest block that is a place of the heap, in bytes.
@@ -50,8 +50,8 @@ pub fn price_slice(n: u64) -> u64
     round_up(n + SLICE_HEADER)
 }
 
-/// The price of a block of `n` bytes, in bytes: whole pages, or 0 for a block of at most 2048 bytes, which is a place
-/// of the heap and is paid for with its class.
+/// The price of a block of `n` bytes, in bytes: whole pages, or 0 for a block of at most 2048 bytes. Such a block is a place of the heap, and is paid for with
+/// its class.
 pub fn price_block(n: u64) -> u64
     requires { n ≤ 2 ^ 40 }
     ensures { result ≡ price_bytes (Held.Block n) }

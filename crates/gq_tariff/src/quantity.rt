@@ -36,7 +36,7 @@ pub fn read_quantity(text: &[u8]) -> Result<u64, QuantityFault>
     }
 }
 
-// The number that the digits at the front write, `u64::MAX` in place of a greater one, and the text after them.
+// The number that the digits at the start write, `u64::MAX` in place of a greater one, and the text after them.
 fn leading_number(text: &[u8]) -> (u64, &[u8])
     ensures same { at_most_40_bits (quantity_on result.0 result.1.now) ≡ at_most_40_bits (quantity_on 0 text.now) }
     ensures no_digit { StartsWithNoDigit result.1.now }

@@ -1,1 +1,1 @@
-pub mod Starts
+pub mod Line_start_table

@@ -14,7 +14,7 @@ pub struct ContentLine {
     pub text: String,
 }
 
-/// The contents of the string that begins at the front of a text. Nothing where no string stands there.
+/// The contents of the string that begins at the start of a text. Nothing where no string stands there.
 pub(crate) fn contents(alloc: Global, text: &str) -> Result<Option<String>, AllocError> {
     if !starts_string(text) {
         return Ok(None);

@@ -17,15 +17,15 @@
 #![tactic(auto)]
 
 mod contents;
-mod keys;
-mod lines;
-mod places;
-mod reader;
+mod document_tree;
+mod dotted_keys;
+mod line_columns;
+mod source_locations;
 mod stop;
-mod tree;
+mod toml_reader;
 
 pub use contents::ContentLine;
-pub use lines::{Lines, Position};
-pub use places::Places;
+pub use document_tree::Step;
+pub use line_columns::{LineStarts, Position};
+pub use source_locations::SourceMap;
 pub use stop::{NotToml, not_toml};
-pub use tree::Step;

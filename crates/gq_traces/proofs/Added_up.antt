@@ -7,23 +7,23 @@ use Rattle.std.proofs.lemmas.List.Sums.{sum_by-cons}
 use Rattle.gq_tariff.specs.Prices.{classes}
 use Rattle.gq_model.specs.declared.phase.Phase.{Phase}
 use Rattle.gq_model.specs.declared.phase.Phase.TheVariants.{Pending, Running, Blocked, Serving, Handling, Exited}
-use Rattle.gq_model.specs.declared.program.Place.{Place}
-use Rattle.gq_model.specs.declared.program.Place.TheVariants.{Own, Shared, Object}
+use Rattle.gq_model.specs.declared.program.OperandSlot.{OperandSlot}
+use Rattle.gq_model.specs.declared.program.OperandSlot.TheVariants.{Own, Shared, Object}
 use Rattle.gq_model.specs.machine.Amounts.{Resource, Ram, Caps, part}
-use Rattle.gq_model.specs.machine.Prices.{chunks, heap_of}
+use Rattle.gq_model.specs.machine.Resource_prices.{chunks, heap_of}
 use Rattle.gq_model.specs.machine.Scenario.{Component, Scenario, System, components, system}
 use Rattle.gq_model.specs.machine.Sums.{are_paid, bank_price, donated, handed, held, is_paid, lent, paid, quota, received, slot_price, to_leaf}
 use Rattle.gq_model.specs.machine.World.{Slot, Empty, Bytes, Pool, Link, Waiting, In_object, Leaf, Session, World, joined, session_at, session_object, slot_at}
 use Rattle.gq_model.specs.Promises.{EachOf}
-use Rattle.gq_laws.specs.Links.{Belongs, IsLinkedWorld, Leads, Naming, Waits, links, named, naming, naming_in}
+use Rattle.gq_laws.specs.Session_links.{Belongs, IsLinkedWorld, Leads, Naming, Waits, links, named, naming, naming_in}
 use Rattle.gq_laws.specs.internal.Lending.{given_by, slot_given}
-use Rattle.gq_laws.proofs.holding.Donations.{lent_slots}
-use Rattle.gq_laws.proofs.paying.Prices.{paid_one}
-use Rattle.gq_traces.specs.State.{Item, Role, Given, Held, Lent, Received, amount_by, is_live, item, leaf_items, live_items, lent_items, place_items}
-use Rattle.gq_traces.specs.State.{places_items}
-use Rattle.gq_traces.specs.State.{received_items, session_items, sessions_items, slot_items, slots_items}
+use Rattle.gq_laws.proofs.held_resources.Lent_by_named_sessions.{lent_slots}
+use Rattle.gq_laws.proofs.quota_payment.Written_world_prices.{paid_one}
+use Rattle.gq_traces.specs.Account_state.{Item, Role, Given, Held, Lent, Received, amount_by, is_live, item, leaf_items, live_items, lent_items, place_items}
+use Rattle.gq_traces.specs.Account_state.{places_items}
+use Rattle.gq_traces.specs.Account_state.{received_items, session_items, sessions_items, slot_items, slots_items}
 use Rattle.gq_traces.specs.Made_of.{sum_of}
-use Rattle.gq_traces.specs.internal.Adding.{LeafAdds, LeavesAdd}
+use Rattle.gq_traces.specs.internal.Item_sums.{LeafAdds, LeavesAdd}
 
 pub sum_both : (role : Role) (r : Resource) (xs ys : List Item) → sum_of role r (xs ++ ys) ≡ sum_of role r xs + sum_of role r ys
 sum_both role r [] ys = omega arith
@@ -35,7 +35,7 @@ part_by f Caps = omega arith
 
 -- SLOTS
 
-none_added : (r : Resource) (o : Option Session) (system : System) (w : World) (place : Place) (k : ℕ)
+none_added : (r : Resource) (o : Option Session) (system : System) (w : World) (place : OperandSlot) (k : ℕ)
     → (sum_of Held r (lent_items system w place k o) ≡ 0) × (sum_of Lent r (lent_items system w place k o) ≡ given_by r o)
     × (sum_of Given r (lent_items system w place k o) ≡ 0) × (sum_of Received r (lent_items system w place k o) ≡ 0)
 none_added r None system w place k = (refl, refl, refl, refl)
@@ -48,7 +48,7 @@ record Adds (r : Resource) (items : List Item) (held_sum lent_sum : ℕ) : Type 
   gives : sum_of Given r items ≡ 0
   takes : sum_of Received r items ≡ 0
 
-slot_adds : (r : Resource) (system : System) (w : World) (place : Place) (slot : Slot)
+slot_adds : (r : Resource) (system : System) (w : World) (place : OperandSlot) (slot : Slot)
     → Adds r (slot_items system w place slot) (slot_price r slot) (slot_given r w slot)
 slot_adds r system w place Empty = record { holds = refl; lends = refl; gives = refl; takes = refl }
 slot_adds r system w place (Bytes form n bytes) = record {
@@ -75,7 +75,7 @@ adds_both r xs ys a b c d g h = record {
 adds_as : (r : Resource) (xs : List Item) (a b c d : ℕ) → a ≡ c → b ≡ d → Adds r xs a b → Adds r xs c d
 adds_as r xs a b c d e f h = record { holds = h.holds ∙ e; lends = h.lends ∙ f; gives = h.gives; takes = h.takes }
 
-slots_add : (r : Resource) (system : System) (w : World) (place : ℕ → Place) (i : ℕ) (slots : List Slot)
+slots_add : (r : Resource) (system : System) (w : World) (place : ℕ → OperandSlot) (i : ℕ) (slots : List Slot)
     → Adds r (slots_items system w place i slots) (sum_by (slot_price r) slots) (sum_by (slot_given r w) slots)
 slots_add r system w place i [] = record { holds = refl; lends = refl; gives = refl; takes = refl }
 slots_add r system w place i (slot ∷ rest) =

@@ -1,13 +1,13 @@
--- Steps that a leaf takes alone, of which nothing is told.
+-- Steps that a leaf takes alone, of which nothing is reported.
 use Rattle.std.proofs.Common.{◌≡◌, ◌∙◌, ℕ, zero, suc, ◌+◌, ◌<◌, Bool, true, false, List, [], ◌∷◌, ◌++◌, length, Some, Ok, refl, ap, sym, subst, arith}
 use Rattle.std.proofs.Math.Logic.{∥∥₁_elim}
 use Rattle.std.specs.Prelude.{slice_get, slice_set}
-use Rattle.gq_bytecode.specs.Alones.{State}
+use Rattle.gq_bytecode.specs.Alones.{LocalState}
 use Rattle.gq_bytecode.specs.Nexts.{Active, leaf_with}
-use Rattle.gq_laws.proofs.gathering.Standing.{stands_next}
-use Rattle.gq_laws.proofs.linking.Worlds.{set_here}
+use Rattle.gq_laws.proofs.upheld_worlds.Standing_world_invariant.{stands_next}
+use Rattle.gq_laws.proofs.session_links.Written_world_links.{set_here}
 use Rattle.gq_laws.specs.Stands.{Stands}
-use Rattle.gq_model.proofs.Small.{some_same}
+use Rattle.gq_model.proofs.Small_facts.{some_same}
 use Rattle.gq_model.specs.declared.phase.Phase.{Phase}
 use Rattle.gq_model.specs.declared.phase.Phase.TheVariants as phase
 use Rattle.gq_model.specs.machine.Amounts.{Ram, Caps}
@@ -18,23 +18,23 @@ use Rattle.gq_model.specs.machine.Sums.{held}
 use Rattle.gq_model.specs.machine.World as model
 use Rattle.gq_model.specs.machine.World.{Leaf, with_leaf}
 use Rattle.gq_model.specs.machine.Run.{label_at}
-use Rattle.gq_world.specs.Worlds.{World}
+use Rattle.gq_world.specs.World_between_turns.{World}
 use Rattle.gq_traces.specs.Trace.{Traced, after_turn, after_turns, changes, turn_text, turns_text}
 use Rattle.gq_traces.specs.declared.follow.Followed.{Followed}
-use Rattle.gq_traces.specs.declared.noted.Notes.{Notes}
+use Rattle.gq_traces.specs.declared.noted.PrintedState.{PrintedState}
 use Rattle.gq_traces.specs.declared.noted.Use.{Use}
-use Rattle.gq_traces.specs.declared.numbered.Numbered.{Numbered as Entries}
+use Rattle.gq_traces.specs.declared.numbered_program.NumberedProgram.{NumberedProgram as Entries}
 use Rattle.gq_traces.specs.declared.trace.Tracing.{Tracing}
 use Rattle.gq_traces.specs.declared.tracker.Ahead as places
-use Rattle.gq_traces.specs.internal.Alone.{StepsAlone}
+use Rattle.gq_traces.specs.internal.Alone_positions.{StepsAlone}
 use Rattle.gq_traces.specs.internal.Flat.{AllStand, AreAheads, ArePrograms, programs_of}
 use Rattle.gq_traces.specs.internal.Follows.{Follows, IsFollowed}
 use Rattle.gq_traces.specs.internal.Noted.{AreNoted, IsUse}
-use Rattle.gq_traces.specs.internal.Telling.{CanTrace, GoesOn, IsOn, IsSilent, PassesBy, budgets_of, takes_own}
+use Rattle.gq_traces.specs.internal.Printed_steps.{CanTrace, GoesOn, IsOn, IsSilent, PassesBy, budgets_of, takes_own}
 use Rattle.gq_traces.proofs.Own_turns.{due_there, own_goes_by, own_stand}
 use Rattle.gq_traces.proofs.Still_noted.{step_left}
-use Rattle.gq_traces.proofs.Turns_told.{silent_text, taken_on}
-use Rattle.gq_traces.proofs.Unchanged.{amount_self, phase_self}
+use Rattle.gq_traces.proofs.Printed_turns.{silent_text, taken_on}
+use Rattle.gq_traces.proofs.Unchanged_accounts_step.{amount_self, phase_self}
 
 set_long : {A : Type 0} (items : List A) (i : ℕ) (a : A) → length (slice_set items i a) ≡ length items
 set_long [] i a = refl
@@ -52,7 +52,7 @@ active_own phase.Exited h = absurd h
 -- WHAT THE LEAF HOLDS AND DOES
 
 module _ (s : Scenario) (x : ℕ) where
-  module _ (w : model.World) (leaf : Leaf) (st : State) (there : slice_get w.leaves x ≡ Some leaf) where
+  module _ (w : model.World) (leaf : Leaf) (st : LocalState) (there : slice_get w.leaves x ≡ Some leaf) where
     pub use_then : (u : Use) → IsUse s w x u → IsUse s (with_leaf w x (leaf_with leaf st)) x u
     use_then u h =
         let same : h.leaf ≡ leaf = some_same (sym h.there ∙ there) in
@@ -82,7 +82,8 @@ module _ (s : Scenario) (x : ℕ) (less : x < length (components s)) (programs :
   abbrev at : model.World → World
   at w = record { scenario = s; world = w; stopped = stopped }
 
-  module _ (w : model.World) (leaf : Leaf) (st : State) (old mid : List places.Ahead) (there : slice_get w.leaves x ≡ Some leaf) (active : Active leaf.phase)
+  module _ (w : model.World) (leaf : Leaf) (st : LocalState) (old mid : List places.Ahead) (there : slice_get w.leaves x ≡ Some leaf)
+      (active : Active leaf.phase)
       (goes : next (system s) w x ≡ Ok (with_leaf w x (leaf_with leaf st), Quiet)) (passes : PassesBy programs old mid x leaf.operands)
       (count : length w.leaves ≡ length (components s)) where
     abbrev then : model.World
@@ -115,14 +116,14 @@ module _ (s : Scenario) (x : ℕ) (less : x < length (components s)) (programs :
 
     -- WHAT IS TOLD
 
-    module _ (stands : ∥ Stands s w ∥₁) (notes : Notes) (noted : AreNoted s w notes) where
+    module _ (stands : ∥ Stands s w ∥₁) (notes : PrintedState) (noted : AreNoted s w notes) where
       left : AreNoted s then notes × (changes s (budgets_of s) (label_at (slice_get (components s) x)) w then Quiet ≡ [])
       left =
           step_left (at w) (at then) x Quiet (record { scenario = s; world = w }) (record { scenario = s; world = then }) u u stands refl goes refl refl u_is
           (use_then s x w leaf st there u u_is) (phase_self u.phase) (amount_self u.used) notes noted (label_at (slice_get (components s) x))
 
-      none_told : (turns : ℕ) (t : Traced) → IsOn programs old (at w) turns t → [] ≡ turn_text false s (budgets_of s) x t
-      none_told turns t on =
+      none_reported : (turns : ℕ) (t : Traced) → IsOn programs old (at w) turns t → [] ≡ turn_text false s (budgets_of s) x t
+      none_reported turns t on =
           let d = due_there (at w) x u u_is own less count programs old are t.aheads on.aheads in
           silent_text false s (budgets_of s) x programs old (at w) turns t on d.0 d.1 (at then) Quiet goes refl left.1
 
@@ -152,21 +153,21 @@ module _ (s : Scenario) (x : ℕ) (less : x < length (components s)) (programs :
             (more.on (turns + 1) (after_turn (system s) x t) (on turns t is)));
       }
 
-  -- of which nothing is told
-  record Untold (n : ℕ) (w v : model.World) (old new : List places.Ahead) (notes : Notes) : Type 0 where
+  -- of which nothing is reported
+  record Unprinted (n : ℕ) (w v : model.World) (old new : List places.Ahead) (notes : PrintedState) : Type 0 where
     noted : AreNoted s v notes
     none : (turns : ℕ) (t : Traced) → IsOn programs old (at w) turns t → [] ≡ turns_text false s (budgets_of s) x n t
 
-  untold : (n : ℕ) (w v : model.World) (old new : List places.Ahead) (notes : Notes) → StepsAlone (system s) programs x n w v old new
-      → length w.leaves ≡ length (components s) → ∥ Stands s w ∥₁ → AreNoted s w notes → Untold n w v old new notes
-  untold zero w v old new notes h count stands noted =
-      subst (λ (z : model.World). Untold 0 w z old new notes) h.0
-      (subst (λ l. Untold 0 w w old l notes) h.1 (record { noted = noted; none = λ turns t on. refl }))
-  untold (suc n) w v old new notes h count stands noted =
+  unreported : (n : ℕ) (w v : model.World) (old new : List places.Ahead) (notes : PrintedState) → StepsAlone (system s) programs x n w v old new
+      → length w.leaves ≡ length (components s) → ∥ Stands s w ∥₁ → AreNoted s w notes → Unprinted n w v old new notes
+  unreported zero w v old new notes h count stands noted =
+      subst (λ (z : model.World). Unprinted 0 w z old new notes) h.0
+      (subst (λ l. Unprinted 0 w w old l notes) h.1 (record { noted = noted; none = λ turns t on. refl }))
+  unreported (suc n) w v old new notes h count stands noted =
       let then = with_leaf w x (leaf_with h.0 h.1) in
-      let none = none_told w h.0 h.1 old h.2 h.3 h.4 h.5 h.6 count stands notes noted in
+      let none = none_reported w h.0 h.1 old h.2 h.3 h.4 h.5 h.6 count stands notes noted in
       let on = on_then w h.0 h.1 old h.2 h.3 h.4 h.5 h.6 count in
-      let more = untold n then v h.2 new notes h.7 (count_then w h.0 h.1 old h.2 h.3 h.4 h.5 h.6 count)
+      let more = unreported n then v h.2 new notes h.7 (count_then w h.0 h.1 old h.2 h.3 h.4 h.5 h.6 count)
       (stands_then w h.0 h.1 old h.2 h.3 h.4 h.5 h.6 count stands notes noted) (left w h.0 h.1 old h.2 h.3 h.4 h.5 h.6 count stands notes noted).0 in
       record {
         noted = more.noted;
@@ -198,7 +199,7 @@ steps_as s P Q A B C D x n w v p a c h =
     subst (λ R. StepsAlone (system s) R x n w v B D) p
     (subst (λ l. StepsAlone (system s) P x n w v l D) a (subst (λ l. StepsAlone (system s) P x n w v A l) c h))
 
--- turns of which nothing is told, of a trace on the way
+-- turns of which nothing is reported, of a trace on the way
 pub silent : (old new : World) (before after : Tracing) (x n : ℕ) → new.scenario ≡ old.scenario → x < length (components old.scenario)
     → ∥ Stands old.scenario old.world ∥₁ → length old.world.leaves ≡ length (components old.scenario) → CanTrace old before
     → after.programs ≡ before.programs → after.notes ≡ before.notes
@@ -207,7 +208,7 @@ pub silent : (old new : World) (before after : Tracing) (x n : ℕ) → new.scen
 silent old new before after x n same less stands count can programs notes steps =
     let s = old.scenario in
     let g = gone s x less before.programs.items can.programs old.stopped n old.world new.world before.aheads.items after.aheads.items steps count in
-    let h = untold s x less before.programs.items can.programs old.stopped n old.world new.world before.aheads.items after.aheads.items before.notes steps
+    let h = unreported s x less before.programs.items can.programs old.stopped n old.world new.world before.aheads.items after.aheads.items before.notes steps
     count stands can.noted in
     let items = ap (λ p. p.items) programs in
     record {
@@ -240,7 +241,7 @@ no_silent all w t x can =
       on = λ turns v on. (let same : turns ≡ turns + 0 = omega arith in subst (λ k. IsOn t.programs.items t.aheads.items w k v) same on);
     }
 
--- turns that are taken untold
+-- turns that are taken unreported
 pub followed : (old new : World) (before after : Followed) (x n : ℕ) → new.scenario ≡ old.scenario → new.stopped ≡ old.stopped
     → x < length (components old.scenario) → length old.world.leaves ≡ length (components old.scenario) → IsFollowed before old
     → after.programs ≡ before.programs

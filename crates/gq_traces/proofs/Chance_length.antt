@@ -12,9 +12,9 @@ use Rattle.gq_model.specs.texts.Turns.{greatest_turns, turned}
 use Rattle.gq_laws.specs.Names.{NamesDiffer}
 use Rattle.gq_views.specs.Listing.{joined}
 use Rattle.gq_traces.specs.Schedule.{Taken, able, as_acts, choice, choices, chosen, drawn, greatest_choices, no_turns, schedule_lines, schedule_text, some_can}
-use Rattle.gq_traces.specs.Schedule.{told_turns, turn_line, where_some, while_can}
-use Rattle.gq_traces.proofs.Schedule_laws.{AreNames, all_chosen, told_back}
-use Rattle.gq_traces.proofs.Scheduled.{while_few}
+use Rattle.gq_traces.specs.Schedule.{reported_turns, turn_line, where_some, while_can}
+use Rattle.gq_traces.proofs.Schedule_laws.{AreNames, all_chosen, reported_back}
+use Rattle.gq_traces.proofs.Scheduled_turn_runs.{while_few}
 use Rattle.gq_traces.proofs.Text_length.{cut_short, joined_both, line_short}
 use Rattle.gq_traces.proofs.Turned_back.{AreTurns}
 
@@ -33,7 +33,7 @@ more_short k [] h = tt
 more_short zero (t ∷ ts) h = absurd h
 more_short (suc k) (t ∷ ts) h = (h.0, more_short k ts h.1)
 
-one_short : (k x n : ℕ) (ts : List (ℕ × ℕ)) → n ≤ 16 → AreShort k ts → AreShort (suc k) (told_turns x n ++ ts)
+one_short : (k x n : ℕ) (ts : List (ℕ × ℕ)) → n ≤ 16 → AreShort k ts → AreShort (suc k) (reported_turns x n ++ ts)
 one_short k x zero ts few h = more_short k ts h
 one_short k x (suc n) ts few h = (few, h)
 
@@ -56,7 +56,7 @@ module _ (system : System) where
         omega (arith, h, less, drawn)
 
     choice_short : (k : ℕ) (more : Taken) → AreShort k more.turns → (found : List ℕ)
-        → AreShort (suc k) (where_some found (no_turns (suc n) w) (record more { turns = told_turns (choice g leaves).leaf taken.0 ++ more.turns })).turns
+        → AreShort (suc k) (where_some found (no_turns (suc n) w) (record more { turns = reported_turns (choice g leaves).leaf taken.0 ++ more.turns })).turns
     choice_short k more h [] = tt
     choice_short k more h (x ∷ rest) = one_short k (choice g leaves).leaf taken.0 more.turns few h
 
@@ -86,11 +86,11 @@ chosen_short : (seed : ℕ) (s : Scenario) → AreShort greatest_choices (chosen
 unfolding chosen
 chosen_short seed s = choices_short (system s) greatest_choices greatest_turns (start (system s)) (pcg32_of_seed (pcg32_seed 16 seed))
 
-pub chosen_told : (seed : ℕ) (s : Scenario) → NamesDiffer s → AreNames s
+pub chosen_printed : (seed : ℕ) (s : Scenario) → NamesDiffer s → AreNames s
     → turned s (schedule_text (Some seed) s) ≡ Ok (as_acts (chosen seed s).turns)
 unfolding greatest_choices
-chosen_told seed s differ names =
+chosen_printed seed s differ names =
     let t = chosen seed s in
     let text = lines_short (components s) greatest_choices t.turns (some_can (system s) t.world 0 (components s)) (greatest_turns - t.left) (omega arith)
     (all_chosen seed s differ names).turns (chosen_short seed s) in
-    told_back (Some seed) s differ names (omega (arith, text))
+    reported_back (Some seed) s differ names (omega (arith, text))

@@ -1,7 +1,7 @@
 -- The first of some numbers at which a function is greatest.
 use Rattle.std.proofs.Common.{◌≡◌, ◌<◌, ◌≤◌, ◌⊎◌, ℕ, zero, suc, inl, inr, nat_lt, Bool, true, false, cond, refl, ap, arith}
 use Rattle.std.proofs.lemmas.Bool.Decides.{eqb_tells, nat_tests}
-use Rattle.gq_traces.specs.Peaks.{first_greatest, peak_at, peak_over}
+use Rattle.gq_traces.specs.Account_peaks.{first_greatest, peak_at, peak_over}
 use Rattle.gq_traces.specs.declared.peaks.Peak.{Peak}
 use Rattle.gq_traces.specs.internal.Peaking.{higher}
 

@@ -7,7 +7,7 @@ use Rattle.gq_model.specs.declared.act.Act.TheVariants.{Turns, Sets}
 use Rattle.gq_model.specs.machine.Run.{Acts}
 use Rattle.gq_model.specs.machine.Scenario.{System}
 use Rattle.gq_model.specs.texts.Turns.{turns_given}
-use Rattle.gq_model.proofs.Small.{none_some, some_same}
+use Rattle.gq_model.proofs.Small_facts.{none_some, some_same}
 use Rattle.gq_traces.specs.First_turns.{AreFirst, first_moves, first_of, first_turns, some_turns, turns_in}
 use Rattle.gq_traces.specs.Trace.{Traced, after_act, after_all}
 use Rattle.gq_laws.specs.Progress.{Move, Turn_of, Setting_of, each_move, moves_of}

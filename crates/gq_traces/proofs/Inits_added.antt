@@ -4,7 +4,7 @@ use Rattle.std.proofs.Common.{Option}
 use Rattle.std.proofs.Common.{Some, None, refl, ap, sym, subst, arith, add-one}
 use Rattle.std.specs.Prelude.{◌&&◌, if◌then◌else◌, codes, slice_get, slice_index}
 use Rattle.std.proofs.lemmas.Bool.Decides.{nat_tests}
-use Rattle.gq_model.proofs.Small.{equal_self, none_some, some_same}
+use Rattle.gq_model.proofs.Small_facts.{equal_self, none_some, some_same}
 use Rattle.gq_model.specs.declared.phase.Phase.{Phase}
 use Rattle.gq_model.specs.declared.phase.Phase.TheVariants.{Pending, Running, Blocked, Serving, Handling, Exited}
 use Rattle.gq_model.specs.machine.Accounts.{Account, account_at, amount_in, accounts, handed_to, init_account, init_quota, leaf_account, leaf_count}
@@ -14,16 +14,16 @@ use Rattle.gq_model.specs.machine.Scenario.{Component, Nodes, End, Leaf_node, In
 use Rattle.gq_model.specs.machine.World.{Leaf, World}
 use Rattle.gq_model.specs.Promises.{EachOf}
 use Rattle.gq_laws.specs.Stands.{Stands}
-use Rattle.gq_laws.specs.internal.Fitting.{AllFit}
-use Rattle.gq_laws.proofs.paying.Places.{Placed, all_placed}
-use Rattle.gq_laws.proofs.paying.Totals.{IsCounted}
+use Rattle.gq_laws.specs.internal.Init_quanta.{AllFit}
+use Rattle.gq_laws.proofs.quota_payment.Leaf_component_positions.{Placed, all_placed}
+use Rattle.gq_laws.proofs.quota_payment.Quota_total.{IsCounted}
 use Rattle.gq_resolve.specs.NodeTables.{NodeRow, init_node, leaf_node, node_rows, rows_of}
-use Rattle.gq_resolve.proofs.Rows.{length-rows_of}
+use Rattle.gq_resolve.proofs.Node_table_rows.{length-rows_of}
 use Rattle.gq_scenario.specs.Sizes.{node_count}
-use Rattle.gq_world.proofs.Accounts.{leaf_there}
-use Rattle.gq_traces.specs.State.{Given, Handed, child_items, handed_items, has_quantum, is_at, item, lives}
+use Rattle.gq_world.proofs.World_account_lines.{leaf_there}
+use Rattle.gq_traces.specs.Account_state.{Given, Handed, child_items, handed_items, has_quantum, is_at, item, lives}
 use Rattle.gq_traces.specs.Made_of.{sum_of}
-use Rattle.gq_traces.specs.internal.Adding.{InitAdds, InitsAdd}
+use Rattle.gq_traces.specs.internal.Item_sums.{InitAdds, InitsAdd}
 use Rattle.gq_traces.proofs.Added_up.{sum_both}
 
 module _ (r : Resource) (w : World) where
@@ -129,7 +129,7 @@ pub part_in : (version : ℕ) (r : Resource) → IsCounted version r → (f : Re
 part_in version Ram h f = refl
 part_in version Caps h f = ap (λ b. cond b (f Caps) 0) h
 
-module _ (r : Resource) (s : Scenario) (w : World) (counted : IsCounted s.version r) (told : List ℕ)
+module _ (r : Resource) (s : Scenario) (w : World) (counted : IsCounted s.version r) (reported : List ℕ)
     (there : (x : ℕ) (c : Component) → slice_get (components s) x ≡ Some c → (leaf : Leaf) × (slice_get w.leaves x ≡ Some leaf)) (all : List NodeRow) where
   -- the k-th node, if it is an init, has with what it hands on what it is given
   abbrev Fits : ℕ → NodeRow → Account → Type 0
@@ -159,15 +159,15 @@ module _ (r : Resource) (s : Scenario) (w : World) (counted : IsCounted s.versio
 
   pairs : (whole : Nodes) (label : List ℕ) (parent m x : ℕ) (nodes : Nodes) → parent < m → Placed (components s) whole x nodes → AllFit r w x nodes
       → ((k : ℕ) → m ≤ k → k < m + node_count nodes → hands r w k all ≡ hands r w k (rows_of label parent m x nodes))
-      → Pairs m (rows_of label parent m x nodes) (node_accounts s.version (system s) w told x label nodes)
+      → Pairs m (rows_of label parent m x nodes) (node_accounts s.version (system s) w reported x label nodes)
   pairs whole label parent m x End less p h same = tt
   pairs whole label parent m x (Leaf_node node rest) less p h same =
       let c = p.0.0 in
       let leaf = there x c p.0.1 in
       let row = leaf_node (below label node.name) parent x node.quantum in
-      let account = leaf_account s.version w x c leaf.0 (slice_index told x) in
-      let here : account_at s.version w x (slice_get (components s) x) (slice_get w.leaves x) (slice_index told x) ≡ account ∷ [] =
-      (λ i. account_at s.version w x (p.0.1 i) (leaf.1 i) (slice_index told x)) in
+      let account = leaf_account s.version w x c leaf.0 (slice_index reported x) in
+      let here : account_at s.version w x (slice_get (components s) x) (slice_get w.leaves x) (slice_index reported x) ≡ account ∷ [] =
+      (λ i. account_at s.version w x (p.0.1 i) (leaf.1 i) (slice_index reported x)) in
       let later = rows_of label parent (m + 1) (x + 1) rest in
       let placed = subst (λ y. Placed (components s) whole y rest) (sym (add-one x)) p.1 in
       let fit = subst (λ y. AllFit r w y rest) (sym (add-one x)) h in
@@ -175,9 +175,9 @@ module _ (r : Resource) (s : Scenario) (w : World) (counted : IsCounted s.versio
       (λ k low high. (let all_of = same k (omega (arith, low)) (omega (arith, high)) in
       let one = hands_next r w k row later in
       let none = of_other r w k row parent refl (λ e. omega (arith, less, low, e)) in omega (arith, all_of, one, none))) in
-      let next_so = subst (λ y. Pairs (m + 1) later (node_accounts s.version (system s) w told y label rest)) (add-one x) next in
+      let next_so = subst (λ y. Pairs (m + 1) later (node_accounts s.version (system s) w reported y label rest)) (add-one x) next in
       let none : Fits m row account = λ e. absurd (none_some (sym e)) in
-      subst (λ (l : List Account). Pairs m (row ∷ later) (l ++ node_accounts s.version (system s) w told (suc x) label rest)) (sym here) (none, next_so)
+      subst (λ (l : List Account). Pairs m (row ∷ later) (l ++ node_accounts s.version (system s) w reported (suc x) label rest)) (sym here) (none, next_so)
   pairs whole label parent m x (Init_node node children rest) less p h same =
       let name = below label node.name in
       let row = init_node name (Some parent) node.quantum in
@@ -206,9 +206,9 @@ module _ (r : Resource) (s : Scenario) (w : World) (counted : IsCounted s.versio
       omega (arith, all_of, split, none))) in
       let long : m + 1 + node_count children ≡ m + 1 + length inner = let n = length-rows_of name m (m + 1) x children in omega (arith, n) in (
         own,
-        pairs_both (m + 1) inner later (node_accounts s.version (system s) w told x name children)
-            (node_accounts s.version (system s) w told (x + leaf_count children) label rest) under
-            (subst (λ n. Pairs n later (node_accounts s.version (system s) w told (x + leaf_count children) label rest)) long after),
+        pairs_both (m + 1) inner later (node_accounts s.version (system s) w reported x name children)
+            (node_accounts s.version (system s) w reported (x + leaf_count children) label rest) under
+            (subst (λ n. Pairs n later (node_accounts s.version (system s) w reported (x + leaf_count children) label rest)) long after),
       )
 
   pair_at : (k i : ℕ) (rows : List NodeRow) (vs : List Account) (row : NodeRow) (a : Account) → Pairs k rows vs → slice_get rows i ≡ Some row
@@ -226,28 +226,28 @@ module _ (s : Scenario) (w : World) (stands : Stands s w) where
   abbrev rows : List NodeRow
   rows = node_rows s
 
-  adds_by : (r : Resource) → IsCounted s.version r → (told : List ℕ) (n : ℕ) (node : NodeRow) (a : Account) → slice_get rows n ≡ Some node
-      → slice_get (accounts s w told) n ≡ Some a → node.leaf ≡ None → InitAdds s w n node a r
-  adds_by r counted told n node a e f none =
+  adds_by : (r : Resource) → IsCounted s.version r → (reported : List ℕ) (n : ℕ) (node : NodeRow) (a : Account) → slice_get rows n ≡ Some node
+      → slice_get (accounts s w reported) n ≡ Some a → node.leaf ≡ None → InitAdds s w n node a r
+  adds_by r counted reported n node a e f none =
       let there = leaf_there s w stands.whole.count in
       let fit = stands.fits r in
       let below_root = rows_of (codes "init") 0 1 0 s.nodes in
       let root = init_node (codes "init") None s.total in
       let first : (k : ℕ) → hands r w k rows ≡ hands r w k below_root = λ k. (let next = hands_next r w k root below_root in omega (arith, next)) in
-      let all : Pairs r s w counted told there rows 0 rows (accounts s w told) = (
-        (λ e. init_fits r s w counted told there rows 0 0 (codes "init") s.total s.nodes fit.0
+      let all : Pairs r s w counted reported there rows 0 rows (accounts s w reported) = (
+        (λ e. init_fits r s w counted reported there rows 0 0 (codes "init") s.total s.nodes fit.0
             (first 0 ∙ direct r w (codes "init") 0 1 0 s.nodes (omega arith))),
-        pairs r s w counted told there rows s.nodes (codes "init") 0 1 0 s.nodes (omega arith) (all_placed s) fit.1 (λ k low high. first k),
+        pairs r s w counted reported there rows s.nodes (codes "init") 0 1 0 s.nodes (omega arith) (all_placed s) fit.1 (λ k low high. first k),
       ) in
-      let adds = pair_at r s w counted told there rows 0 n rows (accounts s w told) node a all e f none in
+      let adds = pair_at r s w counted reported there rows 0 n rows (accounts s w reported) node a all e f none in
       let none_given = given_none r w n rows in
       let same : 0 + n ≡ n = omega arith in
       let at = ap (λ k. hands r w k rows) same in omega (arith, adds, none_given, at)
 
-  each_by : (b : Bool) → (counts_caps s.version) ≡ b → (told : List ℕ) (n : ℕ) (node : NodeRow) (a : Account) → slice_get rows n ≡ Some node
-      → slice_get (accounts s w told) n ≡ Some a → node.leaf ≡ None → EachOf (cond b (Ram ∷ Caps ∷ []) (Ram ∷ [])) (InitAdds s w n node a)
-  each_by true v told n node a e f none = (adds_by Ram tt told n node a e f none, (adds_by Caps v told n node a e f none, tt))
-  each_by false v told n node a e f none = (adds_by Ram tt told n node a e f none, tt)
+  each_by : (b : Bool) → (counts_caps s.version) ≡ b → (reported : List ℕ) (n : ℕ) (node : NodeRow) (a : Account) → slice_get rows n ≡ Some node
+      → slice_get (accounts s w reported) n ≡ Some a → node.leaf ≡ None → EachOf (cond b (Ram ∷ Caps ∷ []) (Ram ∷ [])) (InitAdds s w n node a)
+  each_by true v reported n node a e f none = (adds_by Ram tt reported n node a e f none, (adds_by Caps v reported n node a e f none, tt))
+  each_by false v reported n node a e f none = (adds_by Ram tt reported n node a e f none, tt)
 
   pub inits_add_up : InitsAdd s w
-  inits_add_up told n node a e f none = each_by (counts_caps s.version) refl told n node a e f none
+  inits_add_up reported n node a e f none = each_by (counts_caps s.version) refl reported n node a e f none

@@ -7,13 +7,13 @@ use Rattle.gq_model.specs.machine.Amounts.{Ram, Caps, counts_caps}
 use Rattle.gq_model.specs.machine.Scenario.{Component, Nodes, End, Leaf_node, Init_node, Scenario, below, components, system}
 use Rattle.gq_model.specs.machine.Sums.{quota}
 use Rattle.gq_model.specs.machine.World.{Leaf, World}
-use Rattle.gq_model.proofs.Small.{none_some, some_same}
+use Rattle.gq_model.proofs.Small_facts.{none_some, some_same}
 use Rattle.gq_resolve.specs.NodeTables.{NodeRow, leaf_node, node_rows, rows_of}
-use Rattle.gq_resolve.proofs.Rows.{length-leaf_places, length-rows_of}
+use Rattle.gq_resolve.proofs.Node_table_rows.{length-leaf_places, length-rows_of}
 use Rattle.gq_scenario.specs.Sizes.{leaf_places, node_count}
-use Rattle.gq_world.specs.Lines.{accounts_by}
-use Rattle.gq_world.proofs.Accounts.{AccountAt, Tells, account_at_node}
-use Rattle.gq_traces.specs.Peaks.{quota_in, quota_of}
+use Rattle.gq_world.specs.Account_lines.{accounts_by}
+use Rattle.gq_world.proofs.World_account_lines.{AccountAt, Reports, account_at_node}
+use Rattle.gq_traces.specs.Account_peaks.{quota_in, quota_of}
 use Rattle.gq_traces.proofs.Leaves_standing.{from_some}
 use Rattle.gq_traces.proofs.One_else.{in_both}
 
@@ -117,7 +117,7 @@ module _ (s : Scenario) (w : World) (count : length w.leaves ≡ length (compone
       by : (a : AccountAt s w [] (node_rows s) (accounts_by s w []) p) → a.row.leaf ≡ Some x
           → (c : Component) × (leaf : Leaf) × (slice_get (components s) x ≡ Some c) × (slice_get w.leaves x ≡ Some leaf)
           × (a.account ≡ leaf_account s.version w x c leaf (slice_index [] x))
-      by a own = subst (λ (o : Option ℕ). Tells s w [] o a.account) own a.is.tells
+      by a own = subst (λ (o : Option ℕ). Reports s w [] o a.account) own a.is.reports
 
   pub ram_is : (q : ℕ) → IfSome (slice_get (accounts s w []) p) (λ a. q ≡ a.quota.ram) → q ≡ quota_in (system s) Ram x w
   ram_is q h =

@@ -4,10 +4,10 @@ use Rattle.std.specs.Prelude.{IfSome, slice_get, slice_set}
 use Rattle.gq_model.specs.declared.program.Section.TheVariants.{Main}
 use Rattle.gq_model.specs.machine.Program.{Program, Statements}
 use Rattle.gq_model.specs.machine.Scenario.{Component}
-use Rattle.gq_model.proofs.Small.{none_some, some_same}
-use Rattle.gq_traces.specs.Places.{Ahead, Ends, ahead, body_in, numbered, start_aheads}
-use Rattle.gq_traces.specs.declared.numbered.Numbered.{Numbered as Entries}
-use Rattle.gq_traces.specs.declared.numbered.Part.{Part}
+use Rattle.gq_model.proofs.Small_facts.{none_some, some_same}
+use Rattle.gq_traces.specs.Step_positions.{Ahead, Ends, ahead, body_in, numbered, start_aheads}
+use Rattle.gq_traces.specs.declared.numbered_program.NumberedProgram.{NumberedProgram as Entries}
+use Rattle.gq_traces.specs.declared.numbered_program.NumberedSection.{NumberedSection}
 use Rattle.gq_traces.specs.declared.tracker.Ahead as places
 use Rattle.gq_traces.specs.internal.Flat.{AllStand, AreAheads, AreEntered, ArePrograms, IsAhead, IsPart, IsProgramOf, IsRead, Stands}
 
@@ -46,25 +46,25 @@ stand_at (e ∷ all) (b ∷ stands) zero es a h less is at =
     subst (λ z. Stands es.entries.items z) (sym at) (subst (λ (z : Entries). Stands z.entries.items b) (sym is) h.0)
 stand_at (e ∷ all) (b ∷ stands) (suc x) es a h less is at = stand_at all stands x es a h.1 (omega (arith, less)) is at
 
--- by what is told of it
-pub record Told_at (es : Entries) (a : places.Ahead) (ts : List Ahead) (x : ℕ) : Type 0 where
+-- by what is reported of it
+pub record Printed_at (es : Entries) (a : places.Ahead) (ts : List Ahead) (x : ℕ) : Type 0 where
   pub ahead : Ahead
   pub there : slice_get ts x ≡ Some ahead
   pub is : IsAhead es.entries.items a ahead
 
-pub told_at : (all : List Entries) (stands : List places.Ahead) (ts : List Ahead) (x : ℕ) (es : Entries) (a : places.Ahead) → AreAheads all stands ts → x <
+pub reported_at : (all : List Entries) (stands : List places.Ahead) (ts : List Ahead) (x : ℕ) (es : Entries) (a : places.Ahead) → AreAheads all stands ts → x <
     length all
-    → es ≡ get_or all x es → a ≡ get_or stands x a → Told_at es a ts x
-told_at [] stands ts x es a h less is at = absurd (omega (arith, less))
-told_at (e ∷ all) [] ts x es a h less is at = absurd h
-told_at (e ∷ all) (b ∷ stands) [] x es a h less is at = absurd h
-told_at (e ∷ all) (b ∷ stands) (t ∷ ts) zero es a h less is at = record {
+    → es ≡ get_or all x es → a ≡ get_or stands x a → Printed_at es a ts x
+reported_at [] stands ts x es a h less is at = absurd (omega (arith, less))
+reported_at (e ∷ all) [] ts x es a h less is at = absurd h
+reported_at (e ∷ all) (b ∷ stands) [] x es a h less is at = absurd h
+reported_at (e ∷ all) (b ∷ stands) (t ∷ ts) zero es a h less is at = record {
   ahead = t;
   there = refl;
   is = subst (λ z. IsAhead es.entries.items z t) (sym at) (subst (λ (z : Entries). IsAhead z.entries.items b t) (sym is) h.0);
 }
-told_at (e ∷ all) (b ∷ stands) (t ∷ ts) (suc x) es a h less is at =
-    let g = told_at all stands ts x es a h.1 (omega (arith, less)) is at in record { ahead = g.ahead; there = g.there; is = g.is }
+reported_at (e ∷ all) (b ∷ stands) (t ∷ ts) (suc x) es a h less is at =
+    let g = reported_at all stands ts x es a h.1 (omega (arith, less)) is at in record { ahead = g.ahead; there = g.there; is = g.is }
 
 -- it stands elsewhere
 pub stands_now : (all : List Entries) (stands : List places.Ahead) (ts : List Ahead) (x : ℕ) (es : Entries) (a : places.Ahead) (t : Ahead) → AreAheads all
@@ -93,7 +93,7 @@ stand_list (e ∷ all) (a ∷ stands) h = let rest = stand_list all stands h.1 i
 
 -- AT THE START OF A SECTION
 
-pub at_start : (es : Entries) (body : Statements) (p : Part) (a : places.Ahead) → IsPart es body p → a.next ≡ p.first → a.loops.items ≡ []
+pub at_start : (es : Entries) (body : Statements) (p : NumberedSection) (a : places.Ahead) → IsPart es body p → a.next ≡ p.first → a.loops.items ≡ []
     → IsAhead es.entries.items a (ahead body)
 at_start es body p a h next loops = record {
   reads = subst (λ n. IsRead es.entries.items n (numbered 1 body Ends)) (sym next) h.reads;
@@ -146,13 +146,13 @@ there_is [] x less = absurd (omega (arith, less))
 there_is (a ∷ xs) zero less = (a, refl)
 there_is (a ∷ xs) (suc x) less = there_is xs x (omega (arith, less))
 
-pub told_there : (all : List Entries) (stands : List places.Ahead) (ts : List Ahead) (x : ℕ) → AreAheads all stands ts → x < length all
+pub printed_there : (all : List Entries) (stands : List places.Ahead) (ts : List Ahead) (x : ℕ) → AreAheads all stands ts → x < length all
     → (t : Ahead) × (slice_get ts x ≡ Some t)
-told_there [] stands ts x h less = absurd (omega (arith, less))
-told_there (e ∷ all) [] ts x h less = absurd h
-told_there (e ∷ all) (a ∷ stands) [] x h less = absurd h
-told_there (e ∷ all) (a ∷ stands) (t ∷ ts) zero h less = (t, refl)
-told_there (e ∷ all) (a ∷ stands) (t ∷ ts) (suc x) h less = told_there all stands ts x h.1 (omega (arith, less))
+printed_there [] stands ts x h less = absurd (omega (arith, less))
+printed_there (e ∷ all) [] ts x h less = absurd h
+printed_there (e ∷ all) (a ∷ stands) [] x h less = absurd h
+printed_there (e ∷ all) (a ∷ stands) (t ∷ ts) zero h less = (t, refl)
+printed_there (e ∷ all) (a ∷ stands) (t ∷ ts) (suc x) h less = printed_there all stands ts x h.1 (omega (arith, less))
 
 pub from_some : {A : Type 0} (o : Option A) (P : A → Type 0) (a : A) → o ≡ Some a → IfSome o P → P a
 from_some None P a e h = absurd (none_some e)
@@ -174,7 +174,7 @@ module _ (all : List Entries) (stands : List places.Ahead) (x : ℕ) (within : x
 
   pub ahead_here : (ts : List Ahead) (t : Ahead) → AreAheads all stands ts → slice_get ts x ≡ Some t → IsAhead es.entries.items a t
   ahead_here ts t h there =
-      let g = told_at all stands ts x es a h within is_there stands_there in
+      let g = reported_at all stands ts x es a h within is_there stands_there in
       subst (IsAhead es.entries.items a) (some_same (sym g.there ∙ there)) g.is
 
   pub stands_then : (ts : List Ahead) (b : places.Ahead) (t : Ahead) → AreAheads all stands ts → IsAhead es.entries.items b t

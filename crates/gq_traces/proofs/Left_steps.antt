@@ -10,22 +10,24 @@ use Rattle.gq_model.specs.machine.Program.{Statements, Done, Do, If, Loop, ◌th
 use Rattle.gq_model.specs.machine.Scenario.{Component, System}
 use Rattle.gq_model.specs.machine.Step.{accept, accept_oldest, accepted_as, active_again, all_released, body_ended, exited, instruct, main_ended}
 use Rattle.gq_model.specs.machine.Step.{chosen, oldest, perform, section_ended, section_for, serving, step_in, unblocked}
-use Rattle.gq_model.specs.machine.World.{Ask, Ask_call, Ask_close, Ask_open, Ask_upgrade, Current, Leaf, Request, Round, Session, Slot, Spot, World, session_at}
+use Rattle.gq_model.specs.machine.World.{Ask, Ask_call, Ask_close, Ask_open, Ask_upgrade, Current, Leaf, Request, Round, Session, Slot, SlotId, World}
+use Rattle.gq_model.specs.machine.World.{session_at}
 use Rattle.gq_model.specs.machine.World.{with_leaf, with_slot}
-use Rattle.gq_model.proofs.Small.{none_some, some_same}
-use Rattle.gq_laws.proofs.turning.Endings.{Ends as Ended, fails, gives, need_found, when_ends}
-use Rattle.gq_laws.proofs.turning.Instructs.{accept_by, plain_instruct_by, section_by, slot_by}
-use Rattle.gq_laws.proofs.turning.Outcomes.{begun, section_taken}
+use Rattle.gq_model.proofs.Small_facts.{none_some, some_same}
+use Rattle.gq_laws.proofs.step_shapes.Step_end_shapes.{Ends as Ended, fails, gives, need_found, when_ends}
+use Rattle.gq_laws.proofs.step_shapes.Step_change_shapes.{accept_by, plain_instruct_by, section_by, slot_by}
+use Rattle.gq_laws.proofs.step_shapes.Step_end_worlds.{begun, section_taken}
 use Rattle.gq_machine.specs.Readers.{level_in, level_then, requested}
 use Rattle.gq_views.specs.Listing.{instruction_text}
-use Rattle.gq_traces.specs.Left.{left_in, left_loop, left_to, unnumbered, unnumbered_loop, without_numbers}
-use Rattle.gq_traces.specs.Places.{Ahead, Chooses, Does, Ends, Entered, Numbered, Place, Repeats, after_round, ahead, at_request, body_in, entered}
-use Rattle.gq_traces.specs.Places.{first_request, numbered, past, place_in, request_place, stepped}
+use Rattle.gq_traces.specs.Remaining_text.{left_in, left_loop, left_to, unnumbered, unnumbered_loop, without_numbers}
+use Rattle.gq_traces.specs.Step_positions.{Ahead, Chooses, Does, Ends, Entered, NumberedStatements, StepPosition, Repeats, after_round, ahead, at_request}
+use Rattle.gq_traces.specs.Step_positions.{body_in, entered}
+use Rattle.gq_traces.specs.Step_positions.{first_request, numbered, past, place_in, request_place, stepped}
 
 -- STATEMENTS
 
 -- wherever numbers begin
-pub same_left : (j k : ℕ) (s : Statements) (a b : Numbered) → unnumbered a ≡ unnumbered b → unnumbered (numbered j s a) ≡ unnumbered (numbered k s b)
+pub same_left : (j k : ℕ) (s : Statements) (a b : NumberedStatements) → unnumbered a ≡ unnumbered b → unnumbered (numbered j s a) ≡ unnumbered (numbered k s b)
 same_left j k Done a b e = e
 same_left j k (Do i rest) a b e = ap (Does 0 (instruction_text i)) (same_left (suc j) (suc k) rest a b e)
 same_left j k (If arm other rest) a b e =
@@ -40,7 +42,7 @@ same_left j k (Loop n body rest) a b e =
     (λ i. Repeats 0 n (one i) (two i))
 
 -- statements and others behind them
-then_left : (j k m : ℕ) (s t : Statements) (a b : Numbered) → unnumbered a ≡ unnumbered b
+then_left : (j k m : ℕ) (s t : Statements) (a b : NumberedStatements) → unnumbered a ≡ unnumbered b
     → unnumbered (numbered j (s then t) a) ≡ unnumbered (numbered k s (numbered m t b))
 then_left j k m Done t a b e = same_left j m t a b e
 then_left j k m (Do i rest) t a b e = ap (Does 0 (instruction_text i)) (then_left (suc j) (suc k) m rest t a b e)
@@ -57,7 +59,7 @@ then_left j k m (Loop n body rest) t a b e =
     (λ i. Repeats 0 n (one i) (two i))
 
 -- this is left
-abbrev with_left : Numbered → List Entered → Ahead
+abbrev with_left : NumberedStatements → List Entered → Ahead
 with_left todo loops = record { todo = todo; loops = loops }
 
 -- LISTS
@@ -85,7 +87,7 @@ module _ (left : List Ahead) where
   same_leaf w x old leaf there same h =
       map_set left_to w.leaves x leaf ∙ (ap (slice_set (map left_to w.leaves) x) same ∙ (set_there w.leaves x old there ∙ h))
 
-  same_slot : (w : World) (spot : Spot) (slot : Slot) → Left left w → Left left (with_slot w spot slot)
+  same_slot : (w : World) (slot_id : SlotId) (slot : Slot) → Left left w → Left left (with_slot w slot_id slot)
   same_slot = slot_by (Left left) (λ w x leaf slots e h. same_leaf w x leaf _ e refl h) (λ w sessions h. h)
 
   same_settled : (system : System) (x : ℕ) (w : World) → Left left w → Ended (Left left) (settled system x w)
@@ -191,7 +193,8 @@ perform_ends d (Loop count body rest) =
     gives _ _ (stands d _ _ (λ i. with_left (one i) (entered 0 count (one i) (two i) ∷ map left_loop d.leaf.loops)))
 
 -- past a statement without its number
-past_unnumbered : (ops : List ℕ) (n : Numbered) (es : List Entered) → without_numbers (past ops n es) ≡ past ops (unnumbered n) (map unnumbered_loop es)
+past_unnumbered : (ops : List ℕ) (n : NumberedStatements) (es : List Entered) → without_numbers (past ops n es) ≡ past ops (unnumbered n)
+    (map unnumbered_loop es)
 past_unnumbered ops Ends [] = refl
 past_unnumbered ops Ends (e ∷ es) = by (nat_lt (suc e.round) e.count)
   where
@@ -217,12 +220,12 @@ module _ (system : System) (w : World) (x : ℕ) (c : Component) (leaf : Leaf) (
       subst (λ b. Ended (Left (slice_set (left_in w) x b)) (perform doing leaf.todo))
       (ap (λ (l : Ahead). past leaf.operands l.todo l.loops) (sym same) ∙ sym (past_unnumbered leaf.operands a.todo a.loops)) (perform_ends doing leaf.todo)
 
-  takes : (o : Option (Request × List Request)) (p : Place) → request_place w (first_request o) ≡ Some p
+  takes : (o : Option (Request × List Request)) (p : StepPosition) → request_place w (first_request o) ≡ Some p
       → Ended (Left (slice_set (left_in w) x (without_numbers (at_request c w (first_request o))))) (accept_oldest doing o)
   takes None p e = absurd (none_some e)
   takes (Some r) p e = accept_ends doing r.0 r.1
 
-  pub step_left : (phase : Phase) (p : Place) → place_in w x c leaf a phase ≡ Some p → Ended (Goes phase) (step_in doing phase)
+  pub step_left : (phase : Phase) (p : StepPosition) → place_in w x c leaf a phase ≡ Some p → Ended (Goes phase) (step_in doing phase)
   step_left Pending p e = absurd (none_some e)
   step_left Running p e = acts
   step_left Blocked p e = absurd (none_some e)

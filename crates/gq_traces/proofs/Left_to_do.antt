@@ -2,20 +2,20 @@
 use Rattle.std.proofs.Common.{◌≡◌, ◌∙◌, ℕ, zero, suc, List, [], ◌∷◌, map, Option, Some, None, Ok, Err, option_map, refl, ap, ap₂, sym}
 use Rattle.std.specs.Prelude.{slice_get, slice_set}
 use Rattle.std.proofs.lemmas.Option.{slice_get-map}
-use Rattle.gq_model.proofs.Small.{some_same}
+use Rattle.gq_model.proofs.Small_facts.{some_same}
 use Rattle.gq_model.specs.declared.act.Act.{Act}
 use Rattle.gq_model.specs.declared.act.Act.TheVariants.{Turns, Sets}
 use Rattle.gq_model.specs.machine.Run.{Acts}
-use Rattle.gq_laws.proofs.setting.Settings.{of_setting}
+use Rattle.gq_laws.proofs.input_settings.Setting_keeps_invariants.{of_setting}
 use Rattle.gq_model.specs.machine.Doing.{Stepped}
 use Rattle.gq_model.specs.machine.Scenario.{Component, System}
 use Rattle.gq_model.specs.machine.Step.{next, step_of}
 use Rattle.gq_model.specs.machine.World.{Leaf, start_leaf, start_leaves}
-use Rattle.gq_traces.specs.Left.{GoesWith, left_in, left_to, without_numbers}
-use Rattle.gq_traces.specs.Places.{start_aheads}
+use Rattle.gq_traces.specs.Remaining_text.{GoesWith, left_in, left_to, without_numbers}
+use Rattle.gq_traces.specs.Step_positions.{start_aheads}
 use Rattle.gq_traces.specs.Trace.{Due, Traced, after_act, after_all, after_due, after_setting, after_step, after_turn, after_turns, due, start_traced}
 use Rattle.gq_traces.proofs.Left_steps.{map_set, step_left}
-use Rattle.gq_traces.proofs.Told_run.{IsDue, is_due}
+use Rattle.gq_traces.proofs.Printed_run.{IsDue, is_due}
 
 -- THE START
 

@@ -26,8 +26,8 @@ module _ (name none one two : List ℕ) (begun : none ≡ []) (named : one ≡ n
     pub three_short : length name ≤ 16 → length digits ≤ 7 → length three ≤ 24
     three_short short few =
         let long = ap length counted ∙ length-append two digits in
-        let front = two_short short in
-        omega (arith, long, front, few)
+        let prefix = two_short short in
+        omega (arith, long, prefix, few)
 
     pub line_is : (four : List ℕ) → four ≡ three ++ 10 ∷ [] → four ≡ (name ++ 32 ∷ digits) ++ 10 ∷ []
     line_is four ended =

@@ -5,7 +5,7 @@ use Rattle.std.specs.Prelude.{Result, Err, codes, nat_lt, slice_get}
 use Rattle.std.proofs.lemmas.Bool.Decides.{nat_tests}
 use Rattle.std.proofs.lemmas.Bool.{and_parts}
 use Rattle.toml.specs.Data.{Data, Members, no_members, member, get_member}
-use Rattle.gq_model.proofs.Small.{none_some, or_first_none, some_none, some_same, text_is}
+use Rattle.gq_model.proofs.Small_facts.{none_some, or_first_none, some_none, some_same, text_is}
 use Rattle.gq_model.specs.machine.Accounts.{Account, account_at, accounts, leaf_count, node_accounts}
 use Rattle.gq_model.specs.machine.Lists.{or_first}
 use Rattle.gq_model.specs.machine.Program.{text_eq}
@@ -17,18 +17,18 @@ use Rattle.gq_model.specs.texts.Letters.{is_name}
 use Rattle.gq_scenario.specs.Document.{described, document_fault, first_of, init_of, interface_of, interfaces_of, is_init, keys_of, leaf_of, list_at, name_at}
 use Rattle.gq_scenario.specs.Document.{node_fault, node_onto, nodes_by, or_empty, interfaces_fault, routes_fault, table_of, value_of, walk_fault}
 use Rattle.gq_scenario.specs.Document.{counts_fault, has_too_many, name_twice, names_of}
-use Rattle.gq_scenario.specs.Keys.{DocumentFault, TooMany, is_name_text, members_of, passes, table_fault, text_of}
-use Rattle.gq_scenario.specs.Tables.{are_named_tables, init_keys, leaf_keys, top_keys, version_of}
-use Rattle.gq_scenario.specs.Reading.{ReadFault, Bad_document, described_or, document_in, read_from}
-use Rattle.gq_reader.proofs.Documents.{walked}
+use Rattle.gq_scenario.specs.Table_keys.{DocumentFault, TooMany, is_name_text, members_of, passes, table_fault, text_of}
+use Rattle.gq_scenario.specs.Document_tables.{are_named_tables, init_keys, leaf_keys, top_keys, version_of}
+use Rattle.gq_scenario.specs.Top_table.{ReadFault, Bad_document, described_or, document_in, read_from}
+use Rattle.gq_reader.proofs.Faultless_document_parts.{walked}
 use Rattle.gq_scenario.specs.Sizes.{leaves_in}
-use Rattle.gq_scenario.proofs.Preorder.{components-count, components-leaves_in}
-use Rattle.gq_reader.proofs.Kept.{fits_or_none, kept, one_there}
+use Rattle.gq_scenario.proofs.Preorder_leaves.{components-count, components-leaves_in}
+use Rattle.gq_reader.proofs.Table_rules_kept.{fits_or_none, kept, one_there}
 use Rattle.gq_laws.specs.Shapes.{Each}
 use Rattle.gq_load.specs.Load.{Fault, Unread, loaded, loaded_from, loaded_or, scenario_fault}
 use Rattle.gq_load.proofs.Sound_programs.{each_append}
 use Rattle.gq_load.proofs.Sound_texts.{not_ok, same_scenario}
-use Rattle.gq_traces.proofs.Named.{HasNames}
+use Rattle.gq_traces.proofs.Leaf_table_names.{HasNames}
 use Rattle.gq_traces.proofs.Printed_instructions.{name_printed}
 use Rattle.gq_traces.proofs.Printed_numbers.{IsPrinted, both}
 use Rattle.gq_traces.proofs.Step_lines.{AreLabelled, HasTexts}

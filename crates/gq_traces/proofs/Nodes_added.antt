@@ -2,7 +2,7 @@
 use Rattle.std.proofs.Common.{◌≡◌, ◌∙◌, ◌==◌, ℕ, zero, suc, ◌+◌, Bool, true, false, cond, List, [], ◌∷◌, ◌++◌, Option, Some, None, Ok, Err, refl, ap, sym}
 use Rattle.std.proofs.Common.{subst, add-one, append-nil, arith}
 use Rattle.std.specs.Prelude.{Result, codes, slice_get, slice_index}
-use Rattle.gq_model.proofs.Small.{none_some, some_same}
+use Rattle.gq_model.proofs.Small_facts.{none_some, some_same}
 use Rattle.gq_model.specs.machine.Accounts.{Account, LeafAccount, account_at, account_line, accounts, amount_in, leaf_account, leaf_count, node_accounts}
 use Rattle.gq_model.specs.machine.Amounts.{Resource, Ram, Caps, counts_caps}
 use Rattle.gq_model.specs.machine.Run.{Acts, run}
@@ -13,20 +13,20 @@ use Rattle.gq_model.specs.rules.Accept.{budgets, step_budgets}
 use Rattle.gq_model.specs.texts.Turns.{Turned, turned}
 use Rattle.gq_model.specs.Promises.{EachOf}
 use Rattle.gq_laws.specs.Shapes.{Each}
-use Rattle.gq_laws.proofs.paying.Places.{Placed, all_placed}
-use Rattle.gq_laws.proofs.paying.Totals.{IsCounted}
+use Rattle.gq_laws.proofs.quota_payment.Leaf_component_positions.{Placed, all_placed}
+use Rattle.gq_laws.proofs.quota_payment.Quota_total.{IsCounted}
 use Rattle.gq_load.specs.Load.{Fault, loaded}
 use Rattle.gq_resolve.specs.NodeTables.{NodeRow, leaf_node, node_rows, rows_of}
 use Rattle.gq_scenario.specs.Sizes.{node_count}
 use Rattle.gq_world.specs.Whole.{Written, with_scenario}
 use Rattle.gq_traces.specs.Made_of.{AddsUp, LeafAddsUp, Shown, ShowsSums, after, all_shown, shown_below, shown_leaf}
 use Rattle.gq_traces.specs.Made_of.{shown_node, shown_nodes, shown_text, sum_of}
-use Rattle.gq_traces.specs.State.{Lent, init_items, items_text, leaf_items, leaf_text, node_text, nodes_text, state_text}
+use Rattle.gq_traces.specs.Account_state.{Lent, init_items, items_text, leaf_items, leaf_text, node_text, nodes_text, state_text}
 use Rattle.gq_traces.specs.Trace.{Traced}
 use Rattle.gq_traces.specs.First_turns.{some_turns}
-use Rattle.gq_traces.specs.Written.{state_from, state_written, with_turns}
+use Rattle.gq_traces.specs.Traces_written.{state_from, state_written, with_turns}
 use Rattle.gq_traces.proofs.First_taken.{are_first}
-use Rattle.gq_traces.specs.internal.Adding.{InitAdds, InitsAdd, LeafAdds, LeavesAdd}
+use Rattle.gq_traces.specs.internal.Item_sums.{InitAdds, InitsAdd, LeafAdds, LeavesAdd}
 use Rattle.gq_traces.proofs.Inits_added.{part_in}
 
 -- THE TEXT
@@ -94,35 +94,36 @@ module _ (s : Scenario) (w : World) where
   of_at (b ∷ rows) (c ∷ vs) zero row a h e f = subst (λ q. IsOf row.leaf q) (some_same f) (subst (λ (q : NodeRow). IsOf q.leaf c) (some_same e) h.0)
   of_at (b ∷ rows) (c ∷ vs) (suc i) row a h e f = of_at rows vs i row a h.1 e f
 
-  module _ (told : List ℕ) (there : (x : ℕ) (c : Component) → slice_get (components s) x ≡ Some c → (leaf : Leaf) × (slice_get w.leaves x ≡ Some leaf)) where
+  module _ (reported : List ℕ) (there : (x : ℕ) (c : Component) → slice_get (components s) x ≡ Some c → (leaf : Leaf) ×
+      (slice_get w.leaves x ≡ Some leaf)) where
     are_of : (whole : Nodes) (label : List ℕ) (parent m x : ℕ) (nodes : Nodes) → Placed (components s) whole x nodes
-        → AreOf (rows_of label parent m x nodes) (node_accounts s.version (system s) w told x label nodes)
+        → AreOf (rows_of label parent m x nodes) (node_accounts s.version (system s) w reported x label nodes)
     are_of whole label parent m x End p = tt
     are_of whole label parent m x (Leaf_node node rest) p =
         let c = p.0.0 in
         let leaf = there x c p.0.1 in
-        let account = leaf_account s.version w x c leaf.0 (slice_index told x) in
-        let here : account_at s.version w x (slice_get (components s) x) (slice_get w.leaves x) (slice_index told x) ≡ account ∷ [] =
-        (λ i. account_at s.version w x (p.0.1 i) (leaf.1 i) (slice_index told x)) in
+        let account = leaf_account s.version w x c leaf.0 (slice_index reported x) in
+        let here : account_at s.version w x (slice_get (components s) x) (slice_get w.leaves x) (slice_index reported x) ≡ account ∷ [] =
+        (λ i. account_at s.version w x (p.0.1 i) (leaf.1 i) (slice_index reported x)) in
         let row = leaf_node (below label node.name) parent x node.quantum in
         let later = rows_of label parent (m + 1) (x + 1) rest in
         let placed = subst (λ y. Placed (components s) whole y rest) (sym (add-one x)) p.1 in
         let next = are_of whole label parent (m + 1) (x + 1) rest placed in
-        let next_so = subst (λ y. AreOf later (node_accounts s.version (system s) w told y label rest)) (add-one x) next in
+        let next_so = subst (λ y. AreOf later (node_accounts s.version (system s) w reported y label rest)) (add-one x) next in
         let its : IsLeafOf x account =
-        record { component = c; leaf = leaf.0; named = p.0.1; stands = leaf.1; budget = slice_index told x; is = refl } in
-        subst (λ (l : List Account). AreOf (row ∷ later) (l ++ node_accounts s.version (system s) w told (suc x) label rest)) (sym here) (its, next_so)
+        record { component = c; leaf = leaf.0; named = p.0.1; stands = leaf.1; budget = slice_index reported x; is = refl } in
+        subst (λ (l : List Account). AreOf (row ∷ later) (l ++ node_accounts s.version (system s) w reported (suc x) label rest)) (sym here) (its, next_so)
     are_of whole label parent m x (Init_node node children rest) p =
         let name = below label node.name in
         let under = are_of children name m (m + 1) x children p.0 in
         let next = are_of whole label parent (m + 1 + node_count children) (x + leaf_count children) rest p.1 in (
           refl,
           both_of (rows_of name m (m + 1) x children) (rows_of label parent (m + 1 + node_count children) (x + leaf_count children) rest)
-              (node_accounts s.version (system s) w told x name children)
-              (node_accounts s.version (system s) w told (x + leaf_count children) label rest) under next,
+              (node_accounts s.version (system s) w reported x name children)
+              (node_accounts s.version (system s) w reported (x + leaf_count children) label rest) under next,
         )
 
-    all_of_nodes : AreOf (node_rows s) (accounts s w told)
+    all_of_nodes : AreOf (node_rows s) (accounts s w reported)
     all_of_nodes = (refl, are_of s.nodes (codes "init") 0 1 0 s.nodes (all_placed s))
 
 -- SUMS

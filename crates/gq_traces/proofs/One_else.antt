@@ -6,11 +6,11 @@ use Rattle.std.proofs.lemmas.List.{map-append}
 use Rattle.gq_model.specs.machine.Accounts.{Account, account_at, account_line, accounts, init_account, leaf_account, leaf_count, node_accounts}
 use Rattle.gq_model.specs.machine.Scenario.{Component, InitNode, LeafNode, Nodes, End, Leaf_node, Init_node, Scenario, System, below, system}
 use Rattle.gq_model.specs.machine.World.{Leaf, World}
-use Rattle.gq_model.proofs.Small.{none_some, some_same}
+use Rattle.gq_model.proofs.Small_facts.{none_some, some_same}
 use Rattle.gq_scenario.specs.Sizes.{leaf_places, node_count}
 use Rattle.gq_traces.specs.Trace.{Standing, account_change, account_changes, standing_of}
-use Rattle.gq_traces.proofs.Staying.{LeavesAll}
-use Rattle.gq_traces.proofs.Unchanged.{else_stands, init_same, no_account_changes, nodes_same, standing_self}
+use Rattle.gq_traces.proofs.Same_phase_step.{LeavesAll}
+use Rattle.gq_traces.proofs.Unchanged_accounts_step.{else_stands, init_same, no_account_changes, nodes_same, standing_self}
 
 -- the same at all places but this one
 abbrev pub OneElse : List Standing → List Standing → ℕ → Type 0
@@ -244,7 +244,7 @@ accounts_but s w x new h budgets p at each =
     subst (OneElse (map standing_of (accounts s w budgets)) (map standing_of (accounts s new budgets))) next
     (init_same s.version w x new h 0 (codes "init") s.total s.nodes, f.one)
 
--- then one line alone is told
+-- then one line alone is reported
 pub one_change : (version : ℕ) (olds : List Standing) (all : List Account) (k : ℕ) → OneElse olds (map standing_of all) k → (b : Standing) (a : Account)
     → slice_get olds k ≡ Some b → slice_get all k ≡ Some a → account_changes version olds all ≡ account_change version b a
 one_change version [] all k h b a at there = absurd (none_some at)

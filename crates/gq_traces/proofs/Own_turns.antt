@@ -6,24 +6,24 @@ use Rattle.gq_model.specs.declared.phase.Phase.TheVariants.{Pending, Running, Bl
 use Rattle.gq_model.specs.declared.program.Section.{Section}
 use Rattle.gq_model.specs.machine.Scenario.{Scenario, components}
 use Rattle.gq_model.specs.machine.World.{Leaf}
-use Rattle.gq_model.proofs.Small.{some_same}
-use Rattle.gq_world.specs.Worlds.{World}
-use Rattle.gq_traces.specs.Places.{Ahead, next_place, past, place_in, section_at, stepped}
+use Rattle.gq_model.proofs.Small_facts.{some_same}
+use Rattle.gq_world.specs.World_between_turns.{World}
+use Rattle.gq_traces.specs.Step_positions.{Ahead, next_place, past, place_in, section_at, stepped}
 use Rattle.gq_traces.specs.Trace.{Due, due_by}
 use Rattle.gq_traces.specs.declared.noted.Use.{Use}
-use Rattle.gq_traces.specs.declared.numbered.Numbered.{Numbered as Entries}
+use Rattle.gq_traces.specs.declared.numbered_program.NumberedProgram.{NumberedProgram as Entries}
 use Rattle.gq_traces.specs.declared.tracker.Ahead as places
 use Rattle.gq_traces.specs.declared.tracker.Due as stated
 use Rattle.gq_traces.specs.internal.Flat.{AllStand, AreAheads, ArePrograms, programs_of}
 use Rattle.gq_traces.specs.internal.Noted.{IsUse}
-use Rattle.gq_traces.specs.internal.Telling.{GoesOn, IsDue, IsTop, PassesBy, PlaceTold, TellsDue, due_of, takes_own}
-use Rattle.gq_traces.proofs.Dues.{Parts, due_is, parts}
+use Rattle.gq_traces.specs.internal.Printed_steps.{GoesOn, IsDue, IsTop, PassesBy, PlacePrinted, PrintsDue, due_of, takes_own}
+use Rattle.gq_traces.proofs.Leaf_next_step.{Parts, due_is, parts}
 use Rattle.gq_traces.proofs.Leaves_standing.{all_stand, programs_long, stand_list}
 
--- what is told of a place, and where a leaf stands, by lists of other names
-pub place_as : (P Q : List Entries) (A B : List places.Ahead) (x : ℕ) (section : Section) (due : stated.Due) → P ≡ Q → A ≡ B → PlaceTold P A x section due
-    → PlaceTold Q B x section due
-place_as P Q A B x section due p a told = subst (λ R. PlaceTold R B x section due) p (subst (λ C. PlaceTold P C x section due) a told)
+-- what is reported of a place, and where a leaf stands, by lists of other names
+pub place_as : (P Q : List Entries) (A B : List places.Ahead) (x : ℕ) (section : Section) (due : stated.Due) → P ≡ Q → A ≡ B → PlacePrinted P A x section due
+    → PlacePrinted Q B x section due
+place_as P Q A B x section due p a reported = subst (λ R. PlacePrinted R B x section due) p (subst (λ C. PlacePrinted P C x section due) a reported)
 
 pub passes_as : (P Q : List Entries) (A B C : List places.Ahead) (x : ℕ) (top : Option ℕ) → P ≡ Q → A ≡ B
     → ((operands : List ℕ) → IsTop top operands → PassesBy P A C x operands) → (operands : List ℕ) → IsTop top operands → PassesBy Q B C x operands
@@ -75,14 +75,14 @@ module _ (w : World) (x : ℕ) (u : Use) (is : IsUse w.scenario w.world x u) (ow
     pub due_there : (d : Due) × (due_of w.scenario w.world x ts ≡ Some d)
     due_there = (own_step, step_there)
 
-  -- it is told, by its section
-  pub own_due : (due : stated.Due) (section : Section) → PlaceTold programs stands x section due
+  -- it is reported, by its section
+  pub own_due : (due : stated.Due) (section : Section) → PlacePrinted programs stands x section due
       → ((l : Leaf) → slice_get w.world.leaves x ≡ Some l → section ≡ section_at l.current)
-      → TellsDue programs stands w.scenario w.world x (Some due)
-  own_due due section told at ts aheads =
+      → PrintsDue programs stands w.scenario w.world x (Some due)
+  own_due due section reported at ts aheads =
       let q = p ts aheads in
       subst (IsDue (Some due)) (sym (step_there ts aheads))
-      (told (components w.scenario) q.component ts q.ahead are q.component_is aheads q.ahead_is
+      (reported (components w.scenario) q.component ts q.ahead are q.component_is aheads q.ahead_is
       ∙ ap (λ s. next_place q.component s q.ahead.todo q.ahead.loops) (at q.leaf q.leaf_is))
 
   -- where the leaf stands then

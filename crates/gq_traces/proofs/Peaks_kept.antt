@@ -4,10 +4,10 @@ use Rattle.std.proofs.Common.{refl, ap, sym, subst, arith}
 use Rattle.std.specs.Prelude.{slice_get, slice_set, true}
 use Rattle.std.proofs.lemmas.Bool.Decides.{eqb_tells}
 use Rattle.std.proofs.lemmas.Option.{slice_get_within}
-use Rattle.gq_bytecode.specs.Alones.{State}
+use Rattle.gq_bytecode.specs.Alones.{LocalState}
 use Rattle.gq_bytecode.specs.Nexts.{GoesAlone, leaf_with}
-use Rattle.gq_laws.proofs.linking.Worlds.{set_else, set_here}
-use Rattle.gq_model.proofs.Small.{none_some, some_same}
+use Rattle.gq_laws.proofs.session_links.Written_world_links.{set_else, set_here}
+use Rattle.gq_model.proofs.Small_facts.{none_some, some_same}
 use Rattle.gq_model.specs.declared.act.Act.{Act}
 use Rattle.gq_model.specs.declared.act.Act.TheVariants.{Turns, Sets}
 use Rattle.gq_model.specs.declared.fault.Wrong.{Wrong}
@@ -19,8 +19,8 @@ use Rattle.gq_model.specs.machine.Scenario.{Scenario, System, system}
 use Rattle.gq_model.specs.machine.Step.{next}
 use Rattle.gq_model.specs.machine.World as model
 use Rattle.gq_model.specs.machine.World.{Leaf, with_leaf}
-use Rattle.gq_world.specs.Worlds.{World}
-use Rattle.gq_traces.specs.Peaks.{first_greatest, held_by, peak_at, peak_in, quota_in, used_in}
+use Rattle.gq_world.specs.World_between_turns.{World}
+use Rattle.gq_traces.specs.Account_peaks.{first_greatest, held_by, peak_at, peak_in, quota_in, used_in}
 use Rattle.gq_traces.specs.declared.noted.Use.{Use}
 use Rattle.gq_traces.specs.declared.peaks.LeafPeaks.{LeafPeaks}
 use Rattle.gq_traces.specs.declared.peaks.Peak.{Peak}
@@ -31,21 +31,21 @@ use Rattle.gq_traces.proofs.First_greatest.{no_higher, over_more, stays}
 use Rattle.gq_traces.specs.First_turns.{turns_in}
 use Rattle.gq_traces.proofs.Runs_on.{first_part, goes_to, item_parts, last_part, run_more, turns_sum}
 use Rattle.gq_traces.proofs.Same_use.{same_both, set_same}
-use Rattle.gq_traces.proofs.Standing.{there_is}
+use Rattle.gq_traces.proofs.Sound_world_leaves.{there_is}
 
 -- STEPS OF A LEAF ALONE
 
 -- the world after such a step
-abbrev stepped : model.World → ℕ → Leaf → State → model.World
+abbrev stepped : model.World → ℕ → Leaf → LocalState → model.World
 stepped w x leaf s = with_leaf w x (leaf_with leaf s)
 
-other_held : (r : Resource) (y : ℕ) (w : model.World) (x : ℕ) (leaf : Leaf) (s : State) (o : Option Leaf)
+other_held : (r : Resource) (y : ℕ) (w : model.World) (x : ℕ) (leaf : Leaf) (s : LocalState) (o : Option Leaf)
     → held_by r (stepped w x leaf s) y o ≡ held_by r w y o
 other_held r y w x leaf s None = refl
 other_held r y w x leaf s (Some l) = refl
 
 -- it changes nothing that a leaf holds
-alone_used : (r : Resource) (y : ℕ) (w : model.World) (x : ℕ) (leaf : Leaf) (s : State) → slice_get w.leaves x ≡ Some leaf
+alone_used : (r : Resource) (y : ℕ) (w : model.World) (x : ℕ) (leaf : Leaf) (s : LocalState) → slice_get w.leaves x ≡ Some leaf
     → used_in r y (stepped w x leaf s) ≡ used_in r y w
 alone_used r y w x leaf s there = elim (eqb_tells y x) [
   | inl e ↦ subst (λ z. used_in r z (stepped w x leaf s) ≡ used_in r z w) (sym e.1)

@@ -8,10 +8,10 @@ use Rattle.gq_load.specs.Load.{Fault, loaded}
 use Rattle.gq_world.specs.Whole.{Written, with_scenario}
 use Rattle.gq_traces.specs.First_turns.{turns_in}
 use Rattle.gq_traces.specs.Greatest.{AreGreatest, IsGreatest, ShowsPeaks, used_after}
-use Rattle.gq_traces.specs.Peaks.{peak_in, peaks_from, peaks_of, peaks_text, used_in, world_after}
+use Rattle.gq_traces.specs.Account_peaks.{peak_in, peaks_from, peaks_of, peaks_text, used_in, world_after}
 use Rattle.gq_traces.specs.internal.Peaking.{SameUse}
-use Rattle.gq_traces.specs.Written as written
-use Rattle.gq_traces.specs.Written.{peaks_written, with_turns}
+use Rattle.gq_traces.specs.Traces_written as written
+use Rattle.gq_traces.specs.Traces_written.{peaks_written, with_turns}
 use Rattle.gq_traces.proofs.First_greatest.{is_first}
 use Rattle.gq_traces.proofs.Runs_on.{all_first}
 

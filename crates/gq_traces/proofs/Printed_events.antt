@@ -19,10 +19,10 @@ use Rattle.gq_model.specs.machine.Scenario.{Component, System}
 use Rattle.gq_model.specs.machine.Step.{accept, accept_oldest, body_ended, instruct, main_ended, next, oldest, perform, replied, reply, section_ended}
 use Rattle.gq_model.specs.machine.Step.{all_empty, step_in, step_of}
 use Rattle.gq_model.specs.machine.Sums.{paid, with_peaks}
-use Rattle.gq_model.specs.machine.World.{Slot, Empty, Bytes, Pool, Link, Ask, Current, Leaf, Request, Round, Session, Spot, World, session_at, with_leaf}
+use Rattle.gq_model.specs.machine.World.{Slot, Empty, Bytes, Pool, Link, Ask, Current, Leaf, Request, Round, Session, SlotId, World, session_at, with_leaf}
 use Rattle.gq_model.specs.texts.Letters.{is_said}
 use Rattle.gq_model.specs.texts.Operands.{in_range, operands}
-use Rattle.gq_laws.proofs.turning.Outcomes.{closed, section_taken, taken}
+use Rattle.gq_laws.proofs.step_shapes.Step_end_worlds.{closed, section_taken, taken}
 use Rattle.gq_traces.proofs.Printed_instructions.{text_printed}
 use Rattle.gq_traces.proofs.Printed_numbers.{IsPrinted, number_printed}
 
@@ -76,27 +76,28 @@ absent_shows : (entry : Option (List ℕ)) (a b : Stepped) → Shows a → Shows
 absent_shows None a b h k = h
 absent_shows (Some bytes) a b h k = k
 
-fill_shows : (w : World) (spot : Spot) (o : Option Slot) (slot : Slot) (go : World → Stepped) → ((v : World) → Shows (go v)) → Shows (fill w spot o slot go)
-fill_shows w spot (Some Empty) slot go h = h _
-fill_shows w spot _ slot go h = fails _
+fill_shows : (w : World) (slot_id : SlotId) (o : Option Slot) (slot : Slot) (go : World → Stepped) → ((v : World) → Shows (go v)) → Shows
+    (fill w slot_id o slot go)
+fill_shows w slot_id (Some Empty) slot go h = h _
+fill_shows w slot_id _ slot go h = fails _
 
-bytes_in_shows : (w : World) (spot : Spot) (o : Option Slot) (go : List ℕ → (List ℕ → World) → Stepped)
-    → ((bytes : List ℕ) (put : List ℕ → World) → Shows (go bytes put)) → Shows (bytes_in w spot o go)
-bytes_in_shows w spot (Some (Bytes form n bytes)) go h = h bytes _
-bytes_in_shows w spot _ go h = fails _
+bytes_in_shows : (w : World) (slot_id : SlotId) (o : Option Slot) (go : List ℕ → (List ℕ → World) → Stepped)
+    → ((bytes : List ℕ) (put : List ℕ → World) → Shows (go bytes put)) → Shows (bytes_in w slot_id o go)
+bytes_in_shows w slot_id (Some (Bytes form n bytes)) go h = h bytes _
+bytes_in_shows w slot_id _ go h = fails _
 
-pool_in_shows : (w : World) (spot : Spot) (o : Option Slot) (go : ℕ → List (Option (List ℕ)) → (List (Option (List ℕ)) → World) → Stepped)
-    → ((n : ℕ) (entries : List (Option (List ℕ))) (put : List (Option (List ℕ)) → World) → Shows (go n entries put)) → Shows (pool_in w spot o go)
-pool_in_shows w spot (Some (Pool n entries)) go h = h n entries _
-pool_in_shows w spot _ go h = fails _
+pool_in_shows : (w : World) (slot_id : SlotId) (o : Option Slot) (go : ℕ → List (Option (List ℕ)) → (List (Option (List ℕ)) → World) → Stepped)
+    → ((n : ℕ) (entries : List (Option (List ℕ))) (put : List (Option (List ℕ)) → World) → Shows (go n entries put)) → Shows (pool_in w slot_id o go)
+pool_in_shows w slot_id (Some (Pool n entries)) go h = h n entries _
+pool_in_shows w slot_id _ go h = fails _
 
 settled_shows : (system : System) (x : ℕ) (w : World) → Shows (settled system x w)
 settled_shows system x w =
     need_shows (slice_get w.leaves x) WrongKind _
     (λ leaf. when_shows (paid system (with_leaf w x (with_peaks w x leaf))) ExceededQuota _ (quiet _))
 
-asked_shows : (d : Doing) (w : World) (spot : Spot) (k : ℕ) (ask : Ask) → Shows (asked d w spot k ask)
-asked_shows d w spot k ask = when_shows _ _ _ (quiet _)
+asked_shows : (d : Doing) (w : World) (slot_id : SlotId) (k : ℕ) (ask : Ask) → Shows (asked d w slot_id k ask)
+asked_shows d w slot_id k ask = when_shows _ _ _ (quiet _)
 
 -- STATEMENTS
 

@@ -3,8 +3,8 @@ use Rattle.std.proofs.Common.{◌≡◌, ℕ, true, List, [], ◌∷◌, ◌++�
 use Rattle.std.specs.Prelude.{codes, decimal, length, nat_le}
 use Rattle.std.proofs.lemmas.Bool.{and_parts}
 use Rattle.gq_model.specs.declared.program.Instruction.{Instruction}
-use Rattle.gq_model.specs.declared.program.Place.{Place}
-use Rattle.gq_model.specs.declared.program.Place.TheVariants.{Own, Shared, Object}
+use Rattle.gq_model.specs.declared.program.OperandSlot.{OperandSlot}
+use Rattle.gq_model.specs.declared.program.OperandSlot.TheVariants.{Own, Shared, Object}
 use Rattle.gq_model.specs.machine.Lists.{all_of, between}
 use Rattle.gq_model.specs.texts.Letters.{is_name, is_name_byte, is_said, is_said_byte}
 use Rattle.gq_model.specs.texts.Operands.{Operand, Number, Slot, Bytes, Text, Service, in_range, opcode, operands}
@@ -21,7 +21,7 @@ name_printed name h = solid_printed name (name_solid name (and_parts (between 1 
 pub text_printed : (text : List ℕ) → is_said text ≡ true → IsPrinted text
 text_printed text h = said_printed text (and_parts (nat_le (length text) 64) (all_of is_said_byte text) h).1
 
-place_printed : (place : Place) → IsPrinted (place_text place)
+place_printed : (place : OperandSlot) → IsPrinted (place_text place)
 place_printed (Own n) = both (codes "o") (decimal n) refl (number_printed n)
 place_printed (Shared n) = both (codes "s") (decimal n) refl (number_printed n)
 place_printed Object = refl

@@ -14,11 +14,12 @@ use Rattle.gq_model.specs.machine.World.{Leaf, Request, World}
 use Rattle.gq_model.specs.texts.Fault_texts.{section_word}
 use Rattle.gq_model.specs.texts.Operands.{in_range, operands}
 use Rattle.gq_laws.specs.Shapes.{Each}
-use Rattle.gq_laws.specs.internal.Left.{AllAre}
+use Rattle.gq_laws.specs.internal.Remaining_instructions.{AllAre}
 use Rattle.gq_machine.specs.Readers.{requested}
 use Rattle.gq_views.specs.Listing.{loop_text}
-use Rattle.gq_traces.specs.Places.{Ahead, Entered, Numbered, Ends, Does, Chooses, Repeats, Place, after_body, after_round, ahead, at_request, body_in, chosen}
-use Rattle.gq_traces.specs.Places.{end_place, first_request, next_place, numbered, past, place_in, request_place, section_at, start_aheads, stepped}
+use Rattle.gq_traces.specs.Step_positions.{Ahead, Entered, NumberedStatements, Ends, Does, Chooses, Repeats, StepPosition, after_body, after_round, ahead}
+use Rattle.gq_traces.specs.Step_positions.{at_request, body_in, chosen}
+use Rattle.gq_traces.specs.Step_positions.{end_place, first_request, next_place, numbered, past, place_in, request_place, section_at, start_aheads, stepped}
 use Rattle.gq_traces.proofs.Printed_instructions.{instruction_printed}
 use Rattle.gq_traces.proofs.Printed_numbers.{IsPrinted, both, number_printed}
 
@@ -27,7 +28,7 @@ IsInRange i = all_of in_range (operands i) ≡ true
 
 -- STATEMENTS
 
-abbrev pub AreTexts : Numbered → Type 0
+abbrev pub AreTexts : NumberedStatements → Type 0
 AreTexts Ends = Unit {0}
 AreTexts (Does k text rest) = IsPrinted text × AreTexts rest
 AreTexts (Chooses k arm other) = AreTexts arm × AreTexts other
@@ -40,7 +41,7 @@ pub record AreAhead (a : Ahead) : Type 0 where
   pub todo : AreTexts a.todo
   pub loops : AreEntered a.loops
 
-numbered_texts : (k : ℕ) (s : Statements) (after : Numbered) → AllAre IsInRange s → AreTexts after → AreTexts (numbered k s after)
+numbered_texts : (k : ℕ) (s : Statements) (after : NumberedStatements) → AllAre IsInRange s → AreTexts after → AreTexts (numbered k s after)
 numbered_texts k Done after h g = g
 numbered_texts k (Do i rest) after h g = (instruction_printed i h.0, numbered_texts (suc k) rest after h.1 g)
 numbered_texts k (If arm other rest) after h g =
@@ -85,12 +86,12 @@ body_texts : (loops : List Entered) → AreEntered loops → AreAhead (after_bod
 body_texts [] h = record { todo = tt; loops = tt }
 body_texts (e ∷ loops) h = round_texts (nat_lt (suc e.round) e.count) e loops h
 
-chosen_texts : (ops : List ℕ) (arm other : Numbered) → AreTexts arm → AreTexts other → AreTexts (chosen ops arm other)
+chosen_texts : (ops : List ℕ) (arm other : NumberedStatements) → AreTexts arm → AreTexts other → AreTexts (chosen ops arm other)
 chosen_texts [] arm other h g = g
 chosen_texts (zero ∷ ops) arm other h g = g
 chosen_texts (suc n ∷ ops) arm other h g = h
 
-past_texts : (ops : List ℕ) (n : Numbered) (loops : List Entered) → AreTexts n → AreEntered loops → AreAhead (past ops n loops)
+past_texts : (ops : List ℕ) (n : NumberedStatements) (loops : List Entered) → AreTexts n → AreEntered loops → AreAhead (past ops n loops)
 past_texts ops Ends loops h g = body_texts loops g
 past_texts ops (Does k text rest) loops h g = record { todo = h.1; loops = g }
 past_texts ops (Chooses k arm other) loops h g = record { todo = chosen_texts ops arm other h.0 h.1; loops = g }
@@ -124,13 +125,14 @@ end_printed : (c : Component) (section : Section) (loops : List Entered) → IsP
 end_printed c section [] = refl
 end_printed c section (e ∷ loops) = both (codes " ") (loop_text e.count) refl (loop_printed e.count)
 
-next_printed : (c : Component) (section : Section) (n : Numbered) (loops : List Entered) → AreTexts n → IsPrinted (next_place c section n loops).statement
+next_printed : (c : Component) (section : Section) (n : NumberedStatements) (loops : List Entered) → AreTexts n → IsPrinted
+    (next_place c section n loops).statement
 next_printed c section Ends loops h = end_printed c section loops
 next_printed c section (Does k text rest) loops h = both (codes " ") text refl h.0
 next_printed c section (Chooses k arm other) loops h = refl
 next_printed c section (Repeats k n body rest) loops h = both (codes " ") (loop_text n) refl (loop_printed n)
 
-abbrev pub IsPlace : Option Place → Type 0
+abbrev pub IsPlace : Option StepPosition → Type 0
 IsPlace None = Unit {0}
 IsPlace (Some p) = IsPrinted p.statement
 

@@ -8,7 +8,7 @@ use Rattle.gq_model.specs.declared.act.Act.TheVariants.{Turns}
 use Rattle.gq_model.specs.machine.Scenario.{LeafNode, Nodes, Scenario, Any_child, As_text, End, Leaf_node}
 use Rattle.gq_model.specs.texts.Text.{assembled}
 use Rattle.gq_model.specs.declared.fault.TextFault.{TextFault}
-use Rattle.gq_traces.specs.Peaks.{peaks_text}
+use Rattle.gq_traces.specs.Account_peaks.{peaks_text}
 
 abbrev or_empty : Result Program (TextFault × ℕ) → Program
 or_empty (Ok p) = p

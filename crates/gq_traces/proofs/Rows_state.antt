@@ -8,10 +8,10 @@ use Rattle.gq_model.specs.declared.act.Act.TheVariants.{Turns}
 use Rattle.gq_model.specs.machine.Scenario.{Scenario, Any_child, As_text, End, Leaf_node}
 use Rattle.gq_model.specs.texts.Text.{assembled}
 use Rattle.gq_model.specs.declared.fault.TextFault.{TextFault}
-use Rattle.gq_traces.specs.Left.{left_in}
+use Rattle.gq_traces.specs.Remaining_text.{left_in}
 use Rattle.gq_traces.specs.Made_of.{after}
-use Rattle.gq_traces.specs.Places.{Does, Ends}
-use Rattle.gq_traces.specs.State.{state_text}
+use Rattle.gq_traces.specs.Step_positions.{Does, Ends}
+use Rattle.gq_traces.specs.Account_state.{state_text}
 
 abbrev or_empty : Result Program (TextFault × ℕ) → Program
 or_empty (Ok p) = p

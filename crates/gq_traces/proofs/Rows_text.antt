@@ -3,7 +3,7 @@ use Rattle.std.proofs.Common.{◌≡◌, [], ◌∷◌, ◌++◌, refl}
 use Rattle.std.specs.Prelude.{codes, true, false}
 use Rattle.std.specs.Fmt.{digits}
 use Rattle.gq_model.specs.machine.Scenario.{Scenario}
-use Rattle.gq_model.proofs.Samples.{echo, echo_sections, echo_client, echo_turns, leaves, served, server}
+use Rattle.gq_model.proofs.Sample_scenarios.{echo, echo_sections, echo_client, echo_turns, leaves, served, server}
 use Rattle.gq_traces.specs.Trace.{trace_text}
 
 abbrev echo_row : Scenario

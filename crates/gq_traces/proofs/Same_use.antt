@@ -2,13 +2,13 @@
 use Rattle.std.proofs.Common.{◌≡◌, ◌∙◌, ℕ, inl, inr, List, Option, Some, None, refl, ap, sym, subst}
 use Rattle.std.specs.Prelude.{slice_get}
 use Rattle.std.proofs.lemmas.Bool.Decides.{eqb_tells}
-use Rattle.gq_laws.proofs.linking.Worlds.{set_else, set_here}
-use Rattle.gq_laws.proofs.setting.Settings.{of_setting}
+use Rattle.gq_laws.proofs.session_links.Written_world_links.{set_else, set_here}
+use Rattle.gq_laws.proofs.input_settings.Setting_keeps_invariants.{of_setting}
 use Rattle.gq_model.specs.machine.Amounts.{Resource}
 use Rattle.gq_model.specs.machine.Run.{set_input}
 use Rattle.gq_model.specs.machine.Scenario.{Component, System}
 use Rattle.gq_model.specs.machine.World.{Leaf, World, with_leaf}
-use Rattle.gq_traces.specs.Peaks.{held_by, quota_in, quota_of, used_in}
+use Rattle.gq_traces.specs.Account_peaks.{held_by, quota_in, quota_of, used_in}
 use Rattle.gq_traces.specs.internal.Peaking.{SameUse}
 
 pub same_self : (system : System) (w : World) → SameUse system w w

@@ -1,4 +1,4 @@
--- The turns that are scheduled are told, and where they are all of them every leaf is at rest.
+-- The turns that are scheduled are reported, and where they are all of them every leaf is at rest.
 use Rattle.std.proofs.Common.{◌≡◌, ◌∙◌, ℕ, zero, suc, ◌+◌, ◌-◌, ◌≤◌, ◌^◌, ◌⊎◌, inl, inr, Bool, true, false, List, [], ◌∷◌, length, Option, Some, None, Ok}
 use Rattle.std.proofs.Common.{refl, ap, sym, subst, arith, true≢false}
 use Rattle.std.specs.Prelude.{◌||◌, if◌then◌else◌, slice_get}
@@ -8,17 +8,17 @@ use Rattle.gq_model.specs.machine.Scenario.{Component, Scenario, System, compone
 use Rattle.gq_model.specs.machine.World.{Leaf, World, start}
 use Rattle.gq_model.specs.texts.Letters.{is_name}
 use Rattle.gq_model.specs.texts.Turns.{greatest_turns, turned}
-use Rattle.gq_model.proofs.Small.{text_is, text_self}
+use Rattle.gq_model.proofs.Small_facts.{text_is, text_self}
 use Rattle.gq_laws.specs.Names.{NamesDiffer}
 use Rattle.gq_laws.specs.Progress.{AllRest}
-use Rattle.gq_laws.specs.Reached.{IsReached}
-use Rattle.gq_laws.specs.Turns.{can_run, runs_as}
+use Rattle.gq_laws.specs.Reached_worlds.{IsReached}
+use Rattle.gq_laws.specs.Turn_effects.{can_run, runs_as}
 use Rattle.gq_traces.specs.Schedule.{as_acts, chosen, greatest_choices, name_at, schedule_text, scheduled, scheduled_by, some_can}
 use Rattle.rand_core.specs.Pcg32Seed.{pcg32_seed}
 use Rattle.rand_pcg.specs.Pcg.{pcg32_of_seed}
-use Rattle.gq_traces.proofs.Chances.{choices_taken}
+use Rattle.gq_traces.proofs.Random_turn_schedule.{choices_taken}
 use Rattle.gq_traces.proofs.Turned_back.{IsCalled, read_back}
-use Rattle.gq_traces.proofs.Scheduled.{IsTaken, rounds_taken}
+use Rattle.gq_traces.proofs.Scheduled_turn_runs.{IsTaken, rounds_taken}
 
 -- leaves have names
 abbrev pub AreNames : Scenario → Type 0
@@ -65,9 +65,9 @@ taken_by None s differ names = all_taken s differ names
 taken_by (Some seed) s differ names = all_chosen seed s differ names
 
 -- the text is read as the turns
-pub told_back : (seed : Option ℕ) (s : Scenario) → NamesDiffer s → AreNames s → length (schedule_text seed s) ≤ 2 ^ 24
+pub reported_back : (seed : Option ℕ) (s : Scenario) → NamesDiffer s → AreNames s → length (schedule_text seed s) ≤ 2 ^ 24
     → turned s (schedule_text seed s) ≡ Ok (as_acts (scheduled_by seed s).turns)
-told_back seed s differ names short =
+reported_back seed s differ names short =
     let all = taken_by seed s differ names in
     let left = all.counted in
     let t = scheduled_by seed s in

@@ -10,15 +10,15 @@ use Rattle.gq_model.specs.machine.Lists.{all_of, between}
 use Rattle.gq_model.specs.machine.Program.{Program, Statements, Done, Do, If, Loop, same_section, section_in, body_of, size}
 use Rattle.gq_model.specs.texts.Code.{IsProgram, are_sections, greatest_statements, is_body, is_section, section_number}
 use Rattle.gq_model.specs.texts.Operands.{greatest_number, in_range, operands}
-use Rattle.gq_traces.specs.Places.{Ends, Numbered, numbered}
-use Rattle.gq_traces.specs.declared.numbered.Numbered.{Numbered as Entries}
-use Rattle.gq_traces.specs.declared.numbered.Part.{Part}
+use Rattle.gq_traces.specs.Step_positions.{Ends, NumberedStatements, numbered}
+use Rattle.gq_traces.specs.declared.numbered_program.NumberedProgram.{NumberedProgram as Entries}
+use Rattle.gq_traces.specs.declared.numbered_program.NumberedSection.{NumberedSection}
 use Rattle.gq_traces.specs.internal.Flat.{AreParts, ArePartsIn, ArePrograms, IsPart, IsProgramOf, IsRead, IsWithin, Keeps, Puts, PutsSection}
 
 -- DEPTH
 
 -- statements whose blocks are n deep at most have at most n loops in one another
-pub within : (m n k : ℕ) (s : Statements) (after : Numbered) → m ≤ n → IsTrue (is_body m s) → IsWithin n after → IsWithin n (numbered k s after)
+pub within : (m n k : ℕ) (s : Statements) (after : NumberedStatements) → m ≤ n → IsTrue (is_body m s) → IsWithin n after → IsWithin n (numbered k s after)
 within m n k Done after less h a = a
 within m n k (Do i rest) after less h a =
     let p = and_parts (all_of in_range (operands i)) (is_body m rest) h in within m n (suc k) rest after less p.1 a
@@ -78,10 +78,11 @@ fits_at (t ∷ sections) (suc i) s all less e = fits_at sections i s all.1 (omeg
 
 -- PARTS
 
-part_stays : (old new : Entries) → Keeps old.entries.items new.entries.items → (body : Statements) (p : Part) → IsPart old body p → IsPart new body p
+part_stays : (old new : Entries) → Keeps old.entries.items new.entries.items → (body : Statements) (p : NumberedSection) → IsPart old body p → IsPart new body p
 part_stays old new keeps body p h = record { reads = keeps p.first _ h.reads; size = h.size; deep = h.deep }
 
-more_parts : (old new : Entries) → Keeps old.entries.items new.entries.items → (ps : List Part) (ss : List (Section × Statements)) (p : Part)
+more_parts : (old new : Entries) → Keeps old.entries.items new.entries.items → (ps : List NumberedSection) (ss : List (Section × Statements))
+    (p : NumberedSection)
     (s : Section × Statements) → ArePartsIn old ps ss → p.section ≡ s.0 → IsPart new s.1 p → ArePartsIn new (ps ++ p ∷ []) (ss ++ s ∷ [])
 more_parts old new keeps [] [] p s h is part = (is, part, tt)
 more_parts old new keeps [] (t ∷ ss) p s h is part = absurd h
@@ -99,7 +100,7 @@ section_put old begun one new section body first count entries parts left is q s
     let read = subst (λ k. IsRead one.entries.items first (numbered k body Ends)) none (q.reads Ends refl) in
     let keeps : Keeps old.entries.items new.entries.items = λ n t g.
     subst (λ (e : _). IsRead e.items n t) (sym same) (q.keeps n t (subst (λ (e : _). IsRead e.items n t) (sym entries) g)) in
-    let last : Part = record { section = section; first = first; size = count } in
+    let last : NumberedSection = record { section = section; first = first; size = count } in
     let part : IsPart new body last = record {
       reads = subst (λ (e : _). IsRead e.items first (numbered 1 body Ends)) (sym same) read;
       size = is;
@@ -128,19 +129,20 @@ this_section : (section : Section) (s : Section × Statements) (rest : List (Sec
     → section_in section (s ∷ rest) ≡ Some s.1
 this_section section s rest e = rw e refl
 
-by_part : (es : Entries) (section : Section) (p : Part) (ps : List Part) (rest : List (Section × Statements)) → ArePartsIn es (p ∷ ps) rest
+by_part : (es : Entries) (section : Section) (p : NumberedSection) (ps : List NumberedSection) (rest : List (Section × Statements)) → ArePartsIn es (p ∷ ps)
+    rest
     → (s : Section × Statements) × (more : List (Section × Statements)) × (rest ≡ s ∷ more) × (p.section ≡ s.0) × IsPart es s.1 p × ArePartsIn es ps more
 by_part es section p ps [] h = absurd h
 by_part es section p ps (s ∷ more) h = (s, more, refl, h.0, h.1, h.2)
 
-pub left_next : (es : Entries) (section : Section) (k : ℕ) (p : Part) → drop k es.parts.items ≡ p ∷ drop (k + 1) es.parts.items
+pub left_next : (es : Entries) (section : Section) (k : ℕ) (p : NumberedSection) → drop k es.parts.items ≡ p ∷ drop (k + 1) es.parts.items
     → same_section section p.section ≡ false → IsLeft es section k → IsLeft es section (k + 1)
 left_next es section k p at other h sections all =
     let l = h sections all in
     let b = by_part es section p (drop (k + 1) es.parts.items) l.0 (subst (λ ps. ArePartsIn es ps l.0) at l.1) in
     (b.1, b.5, l.2 ∙ ap (section_in section) b.2 ∙ other_section section b.0 b.1 (ap (same_section section) (sym b.3) ∙ other))
 
-pub found_part : (es : Entries) (section : Section) (k : ℕ) (p : Part) → drop k es.parts.items ≡ p ∷ drop (k + 1) es.parts.items
+pub found_part : (es : Entries) (section : Section) (k : ℕ) (p : NumberedSection) → drop k es.parts.items ≡ p ∷ drop (k + 1) es.parts.items
     → same_section section p.section ≡ true → IsLeft es section k → (sections : List (Section × Statements)) → AreParts es sections
     → IsPart es (body_of (section_in section sections)) p
 found_part es section k p at this h sections all =

@@ -1,11 +1,11 @@
--- The lines that are told of a step.
+-- The lines that are reported of a step.
 use Rattle.std.proofs.Common.{◌≡◌, ◌∙◌, ℕ, zero, suc, ◌+◌, Bool, true, false, List, [], ◌∷◌, ◌++◌, length, Option, Some, None, refl, sym, arith}
 use Rattle.std.proofs.Common.{append-nil, append_assoc}
 use Rattle.std.specs.Prelude.{◌==◌, if◌then◌else◌, decimal, codes, slice_get, map, max}
 use Rattle.gq_model.specs.declared.phase.Phase.{Phase}
 use Rattle.gq_model.specs.declared.phase.Phase.TheVariants.{Pending, Running, Blocked, Serving, Handling, Exited}
 use Rattle.gq_model.specs.machine.Accounts.{Account, LeafAccount, account_line, account_lines, accounts, entry, leaf_entries}
-use Rattle.gq_model.specs.machine.Accounts.{phase_word, told, used_entry}
+use Rattle.gq_model.specs.machine.Accounts.{phase_word, reported, used_entry}
 use Rattle.gq_model.specs.machine.Amounts.{Amount, counts_caps}
 use Rattle.gq_model.specs.machine.Doing.{Event, Idle, Quiet, Finished, Line}
 use Rattle.gq_model.specs.machine.Run.{line_of, label_at}
@@ -13,21 +13,21 @@ use Rattle.gq_model.specs.machine.Scenario.{Component, Scenario, System, system}
 use Rattle.gq_model.specs.machine.World.{World}
 use Rattle.gq_model.specs.texts.Fault_texts.{section_word}
 use Rattle.gq_traces.specs.Lines_of.{begins}
-use Rattle.gq_traces.specs.Places.{Place}
-use Rattle.gq_traces.specs.Trace.{Standing, ToldSession, account_change, account_changes, amount_text, changes, head_line, leaf_label, parties_text}
+use Rattle.gq_traces.specs.Step_positions.{StepPosition}
+use Rattle.gq_traces.specs.Trace.{Standing, PrintedSession, account_change, account_changes, amount_text, changes, head_line, leaf_label, parties_text}
 use Rattle.gq_traces.specs.Trace.{requested_text}
-use Rattle.gq_traces.specs.Trace.{same_standing, same_told, session_change, session_changes, session_line, standing_of, told_session, told_step}
-use Rattle.gq_traces.specs.declared.sessions.Requested.{Requested}
-use Rattle.gq_traces.specs.declared.sessions.Requested.TheVariants.{Nothing, Waits, AtHand}
-use Rattle.gq_traces.proofs.Lines_told.{Gives, IsLine, gives_as, gives_both, gives_line, gives_none, gives_nothing}
+use Rattle.gq_traces.specs.Trace.{same_standing, same_printed, session_change, session_changes, session_line, standing_of, printed_session, printed_step}
+use Rattle.gq_traces.specs.declared.session_lines.Requested.{Requested}
+use Rattle.gq_traces.specs.declared.session_lines.Requested.TheVariants.{Nothing, Waits, AtHand}
+use Rattle.gq_traces.proofs.Printed_lines.{Gives, IsLine, gives_as, gives_both, gives_line, gives_none, gives_nothing}
 use Rattle.gq_traces.proofs.Printed_events.{IsShown}
 use Rattle.gq_traces.proofs.Printed_numbers.{IsPrinted, both, number_printed}
 use Rattle.gq_traces.proofs.Printed_places.{section_printed}
 
 -- TEXTS
 
-told_printed : (version : ℕ) (text : List ℕ) → IsPrinted text → IsPrinted (told version text)
-told_printed version text h = by (counts_caps version)
+printed_again : (version : ℕ) (text : List ℕ) → IsPrinted text → IsPrinted (reported version text)
+printed_again version text h = by (counts_caps version)
   where
     by : (b : Bool) → IsPrinted (if b then text else [])
     by true = h
@@ -66,24 +66,24 @@ account_is version a h =
     let one = codes "account " ++ a.label in
     let two = one ++ entry (codes "quota") a.quota.ram in
     let three = two ++ used_entry (codes "used") (λ u. u.ram) a.leaf in
-    let four = three ++ told version caps in
+    let four = three ++ reported version caps in
     record {
       line = four ++ leaf_entries a.leaf;
       printed = both four (leaf_entries a.leaf)
-          (both three (told version caps)
+          (both three (reported version caps)
           (both two (used_entry (codes "used") (λ u. u.ram) a.leaf)
           (both one (entry (codes "quota") a.quota.ram) (both (codes "account ") a.label refl h) (entry_printed (codes "quota") a.quota.ram refl))
           (used_printed (codes "used") (λ u. u.ram) a.leaf refl))
-          (told_printed version caps caps_printed))
+          (printed_again version caps caps_printed))
           (leaf_printed a.leaf);
       is = refl;
     }
 
 amount_printed : (version : ℕ) (word : List ℕ) (a : Amount) → IsPrinted word → IsPrinted (amount_text version word a)
 amount_printed version word a h =
-    both (word ++ codes " " ++ decimal a.ram) (told version (entry (codes "caps") a.caps))
+    both (word ++ codes " " ++ decimal a.ram) (reported version (entry (codes "caps") a.caps))
     (both (word ++ codes " ") (decimal a.ram) (both word (codes " ") h refl) (number_printed a.ram))
-    (told_printed version (entry (codes "caps") a.caps) (entry_printed (codes "caps") a.caps refl))
+    (printed_again version (entry (codes "caps") a.caps) (entry_printed (codes "caps") a.caps refl))
 
 requested_printed : (r : Requested) → IsPrinted (requested_text r)
 requested_printed Nothing = refl
@@ -105,12 +105,12 @@ label_printed system h x = by (slice_get system.components x) refl
     by None e = refl
     by (Some c) e = h.labels x c e
 
--- what is told of a session is of a service with a printed name
-abbrev pub IsNamed : Option ToldSession → Type 0
+-- what is reported of a session is of a service with a printed name
+abbrev pub IsNamed : Option PrintedSession → Type 0
 IsNamed None = Unit {0}
 IsNamed (Some t) = IsPrinted t.service
 
-session_is : (version : ℕ) (system : System) (k : ℕ) (t : Option ToldSession) → HasTexts system → IsNamed t → IsLine (session_line version system k t)
+session_is : (version : ℕ) (system : System) (k : ℕ) (t : Option PrintedSession) → HasTexts system → IsNamed t → IsLine (session_line version system k t)
 session_is version system k None texts h = record {
   line = codes "session " ++ decimal k ++ codes " ends";
   printed = both (codes "session " ++ decimal k) (codes " ends") (both (codes "session ") (decimal k) refl (number_printed k)) refl;
@@ -136,7 +136,7 @@ session_is version system k (Some t) texts h =
       is = refl;
     }
 
-pub head_is : (n : ℕ) (label : List ℕ) (place : Place) → IsPrinted label → IsPrinted place.statement → IsLine (head_line n label place)
+pub head_is : (n : ℕ) (label : List ℕ) (place : StepPosition) → IsPrinted label → IsPrinted place.statement → IsLine (head_line n label place)
 head_is n label place h g =
     let word = section_word place.section in
     let one = codes "turn " ++ decimal n ++ codes " " in
@@ -161,17 +161,17 @@ said_is label text h g = record {
 -- A BEGINNING
 
 -- which lines begin so: lines that leaves write, and those of turns, or not; no others
-pub record Tells (front : List ℕ) (says heads : Bool) : Type 0 where
-  pub plain : IsPrinted front
-  pub some : begins front [] ≡ false
-  pub accounts : (rest : List ℕ) → begins front (codes "account " ++ rest) ≡ false
-  pub sessions : (rest : List ℕ) → begins front (codes "session " ++ rest) ≡ false
-  pub inputs : (rest : List ℕ) → begins front (codes "input " ++ rest) ≡ false
-  pub ends : (rest : List ℕ) → begins front (codes "end after " ++ rest) ≡ false
-  pub lines : (rest : List ℕ) → begins front (codes "[" ++ rest) ≡ says
-  pub turns : (rest : List ℕ) → begins front (codes "turn " ++ rest) ≡ heads
+pub record Reports (prefix : List ℕ) (says heads : Bool) : Type 0 where
+  pub plain : IsPrinted prefix
+  pub some : begins prefix [] ≡ false
+  pub accounts : (rest : List ℕ) → begins prefix (codes "account " ++ rest) ≡ false
+  pub sessions : (rest : List ℕ) → begins prefix (codes "session " ++ rest) ≡ false
+  pub inputs : (rest : List ℕ) → begins prefix (codes "input " ++ rest) ≡ false
+  pub ends : (rest : List ℕ) → begins prefix (codes "end after " ++ rest) ≡ false
+  pub lines : (rest : List ℕ) → begins prefix (codes "[" ++ rest) ≡ says
+  pub turns : (rest : List ℕ) → begins prefix (codes "turn " ++ rest) ≡ heads
 
-pub of_lines : Tells (codes "[") true false
+pub of_lines : Reports (codes "[") true false
 of_lines = record {
   plain = refl;
   some = refl;
@@ -183,7 +183,7 @@ of_lines = record {
   turns = λ rest. refl;
 }
 
-pub of_turns : Tells (codes "turn ") false true
+pub of_turns : Reports (codes "turn ") false true
 of_turns = record {
   plain = refl;
   some = refl;
@@ -213,86 +213,88 @@ abbrev pub AreLabelled : List Account → Type 0
 AreLabelled [] = Unit {0}
 AreLabelled (a ∷ rest) = IsPrinted a.label × AreLabelled rest
 
-module _ (front : List ℕ) (says heads : Bool) (tells : Tells front says heads) where
-  gives_if : (text : List ℕ) → IsLine text → (b : Bool) → begins front text ≡ b → Gives front text (kept_if b text) (count_if b 1)
-  gives_if text h true e = gives_line front tells.plain text h e
-  gives_if text h false e = gives_none front tells.plain text h e
+module _ (prefix : List ℕ) (says heads : Bool) (reports : Reports prefix says heads) where
+  gives_if : (text : List ℕ) → IsLine text → (b : Bool) → begins prefix text ≡ b → Gives prefix text (kept_if b text) (count_if b 1)
+  gives_if text h true e = gives_line prefix reports.plain text h e
+  gives_if text h false e = gives_none prefix reports.plain text h e
 
-  no_line : (b : Bool) → Gives front [] (kept_if b []) (count_if b 0)
-  no_line true = gives_nothing front
-  no_line false = gives_nothing front
+  no_line : (b : Bool) → Gives prefix [] (kept_if b []) (count_if b 0)
+  no_line true = gives_nothing prefix
+  no_line false = gives_nothing prefix
 
   event_gives : (label : List ℕ) (event : Event) → IsPrinted label → IsShown event
-      → Gives front (line_of label event) (kept_if says (line_of label event)) (count_if says (lines_shown event))
+      → Gives prefix (line_of label event) (kept_if says (line_of label event)) (count_if says (lines_shown event))
   event_gives label Idle h g = no_line says
   event_gives label Quiet h g = no_line says
   event_gives label Finished h g = no_line says
-  event_gives label (Line text) h g = gives_if (line_of label (Line text)) (said_is label text h g) says (tells.lines (label ++ codes "] " ++ text ++ 10 ∷ []))
+  event_gives label (Line text) h g = gives_if (line_of label (Line text)) (said_is label text h g) says
+      (reports.lines (label ++ codes "] " ++ text ++ 10 ∷ []))
 
-  pub head_gives : (n : ℕ) (label : List ℕ) (place : Place) → IsPrinted label → IsPrinted place.statement
-      → Gives front (head_line n label place) (kept_if heads (head_line n label place)) (count_if heads 1)
-  head_gives n label place h g = gives_if (head_line n label place) (head_is n label place h g) heads (tells.turns _)
+  pub head_gives : (n : ℕ) (label : List ℕ) (place : StepPosition) → IsPrinted label → IsPrinted place.statement
+      → Gives prefix (head_line n label place) (kept_if heads (head_line n label place)) (count_if heads 1)
+  head_gives n label place h g = gives_if (head_line n label place) (head_is n label place h g) heads (reports.turns _)
 
-  account_gives : (version : ℕ) (a : Account) → IsPrinted a.label → Gives front (account_line version a) [] 0
-  account_gives version a h = gives_none front tells.plain (account_line version a) (account_is version a h) (tells.accounts _)
+  account_gives : (version : ℕ) (a : Account) → IsPrinted a.label → Gives prefix (account_line version a) [] 0
+  account_gives version a h = gives_none prefix reports.plain (account_line version a) (account_is version a h) (reports.accounts _)
 
-  change_gives : (version : ℕ) (old : Standing) (new : Account) → IsPrinted new.label → Gives front (account_change version old new) [] 0
+  change_gives : (version : ℕ) (old : Standing) (new : Account) → IsPrinted new.label → Gives prefix (account_change version old new) [] 0
   change_gives version old new h = by (same_standing old (standing_of new))
     where
-      by : (b : Bool) → Gives front (if b then [] else account_line version new) [] 0
-      by true = gives_nothing front
+      by : (b : Bool) → Gives prefix (if b then [] else account_line version new) [] 0
+      by true = gives_nothing prefix
       by false = account_gives version new h
 
-  accounts_give : (version : ℕ) (olds : List Standing) (news : List Account) → AreLabelled news → Gives front (account_changes version olds news) [] 0
+  accounts_give : (version : ℕ) (olds : List Standing) (news : List Account) → AreLabelled news → Gives prefix (account_changes version olds news) [] 0
   accounts_give version (old ∷ olds) (new ∷ news) h =
-      gives_both front (account_change version old new) (account_changes version olds news) [] [] 0 0 (change_gives version old new h.0)
+      gives_both prefix (account_change version old new) (account_changes version olds news) [] [] 0 0 (change_gives version old new h.0)
       (accounts_give version olds news h.1)
-  accounts_give version [] news h = gives_nothing front
-  accounts_give version (old ∷ olds) [] h = gives_nothing front
+  accounts_give version [] news h = gives_nothing prefix
+  accounts_give version (old ∷ olds) [] h = gives_nothing prefix
 
-  pub all_give : (version : ℕ) (all : List Account) → AreLabelled all → Gives front (account_lines version all) [] 0
-  all_give version [] h = gives_nothing front
+  pub all_give : (version : ℕ) (all : List Account) → AreLabelled all → Gives prefix (account_lines version all) [] 0
+  all_give version [] h = gives_nothing prefix
   all_give version (a ∷ rest) h =
-      gives_both front (account_line version a) (account_lines version rest) [] [] 0 0 (account_gives version a h.0) (all_give version rest h.1)
+      gives_both prefix (account_line version a) (account_lines version rest) [] [] 0 0 (account_gives version a h.0) (all_give version rest h.1)
 
   -- sessions
-  session_gives : (version : ℕ) (system : System) (old new : World) (k : ℕ) → HasTexts system → IsNamed (told_session new k)
-      → Gives front (session_change version system old new k) [] 0
-  session_gives version system old new k texts h = by (same_told (told_session old k) (told_session new k)) (told_session new k) h
+  session_gives : (version : ℕ) (system : System) (old new : World) (k : ℕ) → HasTexts system → IsNamed (printed_session new k)
+      → Gives prefix (session_change version system old new k) [] 0
+  session_gives version system old new k texts h = by (same_printed (printed_session old k) (printed_session new k)) (printed_session new k) h
     where
-      by : (b : Bool) (t : Option ToldSession) → IsNamed t → Gives front (if b then [] else session_line version system k t) [] 0
-      by true t g = gives_nothing front
-      by false None g = gives_none front tells.plain (session_line version system k None) (session_is version system k None texts g) (tells.sessions _)
+      by : (b : Bool) (t : Option PrintedSession) → IsNamed t → Gives prefix (if b then [] else session_line version system k t) [] 0
+      by true t g = gives_nothing prefix
+      by false None g = gives_none prefix reports.plain (session_line version system k None) (session_is version system k None texts g) (reports.sessions _)
       by false (Some t) g =
-          gives_none front tells.plain (session_line version system k (Some t)) (session_is version system k (Some t) texts g) (tells.sessions _)
+          gives_none prefix reports.plain (session_line version system k (Some t)) (session_is version system k (Some t) texts g) (reports.sessions _)
 
-  sessions_give : (version : ℕ) (system : System) (old new : World) (k n : ℕ) → HasTexts system → ((k : ℕ) → IsNamed (told_session new k))
-      → Gives front (session_changes version system old new k n) [] 0
-  sessions_give version system old new k zero texts h = gives_nothing front
+  sessions_give : (version : ℕ) (system : System) (old new : World) (k n : ℕ) → HasTexts system → ((k : ℕ) → IsNamed (printed_session new k))
+      → Gives prefix (session_changes version system old new k n) [] 0
+  sessions_give version system old new k zero texts h = gives_nothing prefix
   sessions_give version system old new k (suc n) texts h =
-      gives_both front (session_change version system old new k) (session_changes version system old new (suc k) n) [] [] 0 0
+      gives_both prefix (session_change version system old new k) (session_changes version system old new (suc k) n) [] [] 0 0
       (session_gives version system old new k texts (h k)) (sessions_give version system old new (suc k) n texts h)
 
   -- what a step changes
   pub changes_give : (s : Scenario) (budgets label : List ℕ) (old new : World) (event : Event) → HasTexts (system s) → IsPrinted label → IsShown event
-      → AreLabelled (accounts s new budgets) → ((k : ℕ) → IsNamed (told_session new k))
-      → Gives front (changes s budgets label old new event) (kept_if says (line_of label event)) (count_if says (lines_shown event))
+      → AreLabelled (accounts s new budgets) → ((k : ℕ) → IsNamed (printed_session new k))
+      → Gives prefix (changes s budgets label old new event) (kept_if says (line_of label event)) (count_if says (lines_shown event))
   changes_give s budgets label old new event texts h g labelled named =
       let one = account_changes s.version (map standing_of (accounts s old budgets)) (accounts s new budgets) in
       let two = session_changes s.version (system s) old new 0 (max (length old.sessions) (length new.sessions)) in
       let kept = kept_if says (line_of label event) in
       let count = count_if says (lines_shown event) in
-      gives_as front (line_of label event ++ one ++ two) (kept ++ [] ++ []) kept (count + 0 + 0) count (append-nil (kept ++ []) ∙ append-nil kept) (omega arith)
-      (gives_both front (line_of label event ++ one) two (kept ++ []) [] (count + 0) 0
-      (gives_both front (line_of label event) one kept [] count 0 (event_gives label event h g)
+      gives_as prefix (line_of label event ++ one ++ two) (kept ++ [] ++ []) kept (count + 0 + 0) count (append-nil (kept ++ []) ∙ append-nil kept)
+      (omega arith)
+      (gives_both prefix (line_of label event ++ one) two (kept ++ []) [] (count + 0) 0
+      (gives_both prefix (line_of label event) one kept [] count 0 (event_gives label event h g)
       (accounts_give s.version (map standing_of (accounts s old budgets)) (accounts s new budgets) labelled))
       (sessions_give s.version (system s) old new 0 (max (length old.sessions) (length new.sessions)) texts named))
 
--- a step is told with its head or not: the head's line does not begin so
-pub told_gives : (front : List ℕ) (all : Bool) (head changes k : List ℕ) (n : ℕ) → Gives front head [] 0 → Gives front changes k n
-    → Gives front (told_step all head changes) k n
-told_gives front true head changes k n h g =
-    gives_as front (head ++ changes) ([] ++ k) k (0 + n) n refl (omega arith) (gives_both front head changes [] k 0 n h g)
-told_gives front false head [] k n h g = g
-told_gives front false head (c ∷ changes) k n h g =
-    gives_as front (head ++ (c ∷ changes)) ([] ++ k) k (0 + n) n refl (omega arith) (gives_both front head (c ∷ changes) [] k 0 n h g)
+-- a step is reported with its head or not: the head's line does not begin so
+pub printed_gives : (prefix : List ℕ) (all : Bool) (head changes k : List ℕ) (n : ℕ) → Gives prefix head [] 0 → Gives prefix changes k n
+    → Gives prefix (printed_step all head changes) k n
+printed_gives prefix true head changes k n h g =
+    gives_as prefix (head ++ changes) ([] ++ k) k (0 + n) n refl (omega arith) (gives_both prefix head changes [] k 0 n h g)
+printed_gives prefix false head [] k n h g = g
+printed_gives prefix false head (c ∷ changes) k n h g =
+    gives_as prefix (head ++ (c ∷ changes)) ([] ++ k) k (0 + n) n refl (omega arith) (gives_both prefix head (c ∷ changes) [] k 0 n h g)

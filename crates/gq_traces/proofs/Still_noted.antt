@@ -1,5 +1,5 @@
--- What was noted of a world, after a step that leaves its leaf in its phase: of the sessions nothing is told of it, and of the accounts that of the leaf alone,
--- where it holds more or less.
+-- What was noted of a world, after a step that leaves its leaf in its phase: of the sessions nothing is reported of it, and of the accounts that of the leaf
+-- alone, where it holds more or less.
 use Rattle.std.proofs.Common.{◌≡◌, ◌∙◌, ◌<◌, ℕ, true, List, [], ◌++◌, length, map, Option, Some, None, Ok, refl, ap, sym, subst, arith, append-nil, get_or, max}
 use Rattle.std.proofs.Common.{option_map}
 use Rattle.std.proofs.Math.Logic.{∥∥₁_elim}
@@ -15,29 +15,29 @@ use Rattle.gq_model.specs.machine.Step.{next}
 use Rattle.gq_model.specs.machine.World as model
 use Rattle.gq_laws.specs.Stands.{Stands}
 use Rattle.gq_scenario.specs.Sizes.{leaf_places}
-use Rattle.gq_scenario.proofs.Preorder.{components-count}
-use Rattle.gq_init.specs.Told.{Told}
+use Rattle.gq_scenario.proofs.Preorder_leaves.{components-count}
+use Rattle.gq_init.specs.Account_values.{AccountValues}
 use Rattle.gq_machine.specs.Machines.{Machine}
-use Rattle.gq_world.specs.Lines.{accounts_by, all_accounts}
-use Rattle.gq_world.specs.Worlds.{World}
-use Rattle.gq_traces.specs.Trace.{Standing, ToldSession, account_change, account_changes, changes, same_phase, standing_of, told_session}
+use Rattle.gq_world.specs.Account_lines.{accounts_by, all_accounts}
+use Rattle.gq_world.specs.World_between_turns.{World}
+use Rattle.gq_traces.specs.Trace.{Standing, PrintedSession, account_change, account_changes, changes, same_phase, standing_of, printed_session}
 use Rattle.gq_model.specs.machine.Amounts.{same_amount, counts_caps}
-use Rattle.gq_traces.specs.declared.noted.Notes.{Notes}
+use Rattle.gq_traces.specs.declared.noted.PrintedState.{PrintedState}
 use Rattle.gq_traces.specs.declared.noted.Use.{Use}
-use Rattle.gq_traces.specs.internal.Noted.{AreNoted, IsRenewed, IsTold, IsUse, standing_in}
-use Rattle.gq_traces.specs.internal.Telling.{budgets_of}
-use Rattle.gq_traces.proofs.Staying.{LeavesAll, leaves_all}
+use Rattle.gq_traces.specs.internal.Noted.{AreNoted, IsRenewed, IsReported, IsUse, standing_in}
+use Rattle.gq_traces.specs.internal.Printed_steps.{budgets_of}
+use Rattle.gq_traces.proofs.Same_phase_step.{LeavesAll, leaves_all}
 use Rattle.gq_traces.proofs.Leaves_standing.{from_some}
 use Rattle.gq_traces.proofs.One_else.{IsThere, OneElse, accounts_but, one_change, one_noted}
-use Rattle.gq_traces.proofs.Same_told.{phase_is}
-use Rattle.gq_traces.proofs.Standing.{there_is}
-use Rattle.gq_traces.proofs.Unchanged.{SamePhase, StaysSo, accounts_stand, no_account_changes, no_session_changes, told_same}
+use Rattle.gq_traces.proofs.Printed_values_equal.{phase_is}
+use Rattle.gq_traces.proofs.Sound_world_leaves.{there_is}
+use Rattle.gq_traces.proofs.Unchanged_accounts_step.{SamePhase, StaysSo, accounts_stand, no_account_changes, no_session_changes, printed_same}
 
 standings_code : Coded (List Standing)
 standings_code = hlevel codes
 
-told_code : Coded (Option ToldSession)
-told_code = hlevel codes
+printed_code : Coded (Option PrintedSession)
+printed_code = hlevel codes
 
 -- a world by its machine
 pub use_in : (m : Machine) (w : World) (x : ℕ) (u : Use) → m ≡ record { scenario = w.scenario; world = w.world } → IsUse m.scenario m.world x u
@@ -85,38 +85,38 @@ module _ (old new : World) (x : ℕ) (event : Event) (stands : ∥ Stands old.sc
   left : Stands old.scenario old.world → LeavesAll old.world x new.world
   left h = leaves_all old.scenario old.world x h p.was p.there new.world event goes p.is p.here p.phase
 
-  told_still : (k : ℕ) → told_session new.world k ≡ told_session old.world k
-  told_still k = ∥∥₁_elim stands (Coded-set told_code _ _) (λ h. told_same old.world x new.world (left h) k)
+  printed_still : (k : ℕ) → printed_session new.world k ≡ printed_session old.world k
+  printed_still k = ∥∥₁_elim stands (Coded-set printed_code _ _) (λ h. printed_same old.world x new.world (left h) k)
 
   count_still : length new.world.sessions ≡ length old.world.sessions
   count_still = ∥∥₁_elim stands (Coded-set coded_ℕ _ _) (λ h. (left h).count)
 
   -- the sessions are noted of the new world, too, and so are these accounts
-  noted_then : (n m : Notes) → AreNoted old.scenario old.world n → m.sessions ≡ n.sessions → m.count ≡ n.count
+  noted_then : (n m : PrintedState) → AreNoted old.scenario old.world n → m.sessions ≡ n.sessions → m.count ≡ n.count
       → map standing_in m.accounts.items ≡ map standing_of (accounts old.scenario new.world (budgets_of old.scenario))
       → AreNoted new.scenario new.world m
   noted_then n m h sessions count of_accounts =
       subst (λ (s : Scenario). AreNoted s new.world m) (sym same) (record {
         accounts = of_accounts;
         sessions = λ k less. (let t = h.sessions k less in
-            subst (IsTold old.scenario new.world k) (ap (λ l. get_or l.items k None) (sym sessions))
-            (record { is = t.is ∙ sym (told_still k); known = t.known }));
+            subst (IsReported old.scenario new.world k) (ap (λ l. get_or l.items k None) (sym sessions))
+            (record { is = t.is ∙ sym (printed_still k); known = t.known }));
         room = ap (λ l. length l.items) sessions ∙ h.room;
         count = count ∙ (h.count ∙ sym count_still);
         few = (let few = h.few in omega (arith, few, count));
         beyond = λ k over. ap (λ l. get_or l.items k None) sessions ∙ h.beyond k (omega (arith, over, count));
       })
 
-  -- what is told beside the line is of accounts
-  changes_by : (label told : List ℕ)
+  -- what is reported beside the line is of accounts
+  changes_by : (label reported : List ℕ)
       → account_changes old.scenario.version (map standing_of (accounts old.scenario old.world (budgets_of old.scenario)))
-      (accounts old.scenario new.world (budgets_of old.scenario)) ≡ told
-      → changes old.scenario (budgets_of old.scenario) label old.world new.world event ≡ line_of label event ++ told
-  changes_by label told e =
+      (accounts old.scenario new.world (budgets_of old.scenario)) ≡ reported
+      → changes old.scenario (budgets_of old.scenario) label old.world new.world event ≡ line_of label event ++ reported
+  changes_by label reported e =
       let s = old.scenario in
-      let of_sessions = no_session_changes s.version (system s) old.world new.world told_still 0
+      let of_sessions = no_session_changes s.version (system s) old.world new.world printed_still 0
       (max (length old.world.sessions) (length new.world.sessions)) in
-      (λ i. line_of label event ++ e i ++ of_sessions i) ∙ append-nil (line_of label event ++ told)
+      (λ i. line_of label event ++ e i ++ of_sessions i) ∙ append-nil (line_of label event ++ reported)
 
   -- THE LEAF HOLDS WHAT IT HELD
 
@@ -124,7 +124,7 @@ module _ (old new : World) (x : ℕ) (event : Event) (stands : ∥ Stands old.sc
     accounts_still : (b : List ℕ) → map standing_of (accounts old.scenario new.world b) ≡ map standing_of (accounts old.scenario old.world b)
     accounts_still b = ∥∥₁_elim stands (Coded-set standings_code _ _) (λ h. accounts_stand old.scenario old.world x new.world (left h) p so b)
 
-    noted_still : (n : Notes) → AreNoted old.scenario old.world n → AreNoted new.scenario new.world n
+    noted_still : (n : PrintedState) → AreNoted old.scenario old.world n → AreNoted new.scenario new.world n
     noted_still n h = noted_then n n h refl refl (h.accounts ∙ sym (accounts_still (budgets_of old.scenario)))
 
     changes_still : (label : List ℕ) → changes old.scenario (budgets_of old.scenario) label old.world new.world event ≡ line_of label event
@@ -153,7 +153,8 @@ module _ (old new : World) (x : ℕ) (event : Event) (stands : ∥ Stands old.sc
         (map standing_of (accounts old.scenario new.world (budgets_of old.scenario))) place
     but h = accounts_but old.scenario old.world x new.world h (budgets_of old.scenario) place at (each_there h)
 
-    changes_own : (n : Notes) → AreNoted old.scenario old.world n → (noted : Told) → slice_get n.accounts.items place ≡ Some noted → (label : List ℕ)
+    changes_own : (n : PrintedState) → AreNoted old.scenario old.world n → (noted : AccountValues) → slice_get n.accounts.items place ≡ Some noted →
+        (label : List ℕ)
         → changes old.scenario (budgets_of old.scenario) label old.world new.world event
         ≡ line_of label event ++ account_change old.scenario.version (standing_in noted) a
     changes_own n h noted before label =
@@ -164,7 +165,8 @@ module _ (old new : World) (x : ℕ) (event : Event) (stands : ∥ Stands old.sc
         changes_by label (account_change s.version (standing_in noted) a) (∥∥₁_elim stands (Coded-set (coded_list coded_ℕ) _ _) (λ h.
         one_change s.version (map standing_of (accounts s old.world b)) (accounts s new.world b) place (but (left h)) (standing_in noted) a was there))
 
-    noted_own : (n m : Notes) → AreNoted old.scenario old.world n → m.sessions ≡ n.sessions → m.count ≡ n.count → (now : Told) → standing_in now ≡ standing_of a
+    noted_own : (n m : PrintedState) → AreNoted old.scenario old.world n → m.sessions ≡ n.sessions → m.count ≡ n.count → (now : AccountValues) → standing_in
+        now ≡ standing_of a
         → m.accounts.items ≡ slice_set n.accounts.items place now → AreNoted new.scenario new.world m
     noted_own n m h sessions count now is set =
         let s = old.scenario in
@@ -177,7 +179,7 @@ module _ (old new : World) (x : ℕ) (event : Event) (stands : ∥ Stands old.sc
 pub step_left : (old new : World) (x : ℕ) (event : Event) (m n : Machine) (a b : Use) → ∥ Stands old.scenario old.world ∥₁ → new.scenario ≡ old.scenario
     → next (system old.scenario) old.world x ≡ Ok (new.world, event) → m ≡ record { scenario = old.scenario; world = old.world }
     → n ≡ record { scenario = new.scenario; world = new.world } → IsUse m.scenario m.world x a → IsUse n.scenario n.world x b
-    → same_phase a.phase b.phase ≡ true → same_amount a.used b.used ≡ true → (notes : Notes) → AreNoted old.scenario old.world notes
+    → same_phase a.phase b.phase ≡ true → same_amount a.used b.used ≡ true → (notes : PrintedState) → AreNoted old.scenario old.world notes
     → (label : List ℕ)
     → AreNoted new.scenario new.world notes
     × (changes old.scenario (budgets_of old.scenario) label old.world new.world event ≡ line_of label event)
@@ -193,9 +195,9 @@ pub step_own : (old new : World) (x : ℕ) (event : Event) (m n : Machine) (a b 
     → next (system old.scenario) old.world x ≡ Ok (new.world, event) → m ≡ record { scenario = old.scenario; world = old.world }
     → n ≡ record { scenario = new.scenario; world = new.world } → IsUse m.scenario m.world x a → IsUse n.scenario n.world x b
     → same_phase a.phase b.phase ≡ true → length old.world.leaves ≡ length (components old.scenario)
-    → length new.world.leaves ≡ length (components new.scenario) → (before after : Notes) → AreNoted old.scenario old.world before
+    → length new.world.leaves ≡ length (components new.scenario) → (before after : PrintedState) → AreNoted old.scenario old.world before
     → (place : ℕ) → slice_get (leaf_places 1 new.scenario.nodes) x ≡ Some place → (account : Account) → slice_get (all_accounts new) place ≡ Some account
-    → (was : Told) → slice_get before.accounts.items place ≡ Some was → IsRenewed new place before after → (label : List ℕ)
+    → (was : AccountValues) → slice_get before.accounts.items place ≡ Some was → IsRenewed new place before after → (label : List ℕ)
     → AreNoted new.scenario new.world after
     × (changes old.scenario (budgets_of old.scenario) label old.world new.world event
     ≡ line_of label event ++ account_change old.scenario.version (standing_in was) account)

@@ -1,4 +1,4 @@
--- What was noted of a world, after a setting: nothing of it is told of accounts and sessions.
+-- What was noted of a world, after a setting: nothing of it is reported of accounts and sessions.
 use Rattle.std.proofs.Common.{◌≡◌, ◌∙◌, ◌<◌, ℕ, inl, inr, List, length, map, Some, refl, ap, sym, subst, arith, get_or}
 use Rattle.std.specs.Prelude.{slice_get}
 use Rattle.std.proofs.lemmas.Bool.Decides.{eqb_tells}
@@ -6,16 +6,16 @@ use Rattle.gq_model.specs.machine.Accounts.{accounts}
 use Rattle.gq_model.specs.machine.Run.{set_input}
 use Rattle.gq_model.specs.machine.Scenario.{Scenario, System, system}
 use Rattle.gq_model.specs.machine.World.{Leaf, World, session_at, with_leaf}
-use Rattle.gq_laws.specs.Links.{stance_in}
-use Rattle.gq_laws.proofs.linking.Worlds.{set_else, set_here}
-use Rattle.gq_laws.proofs.setting.Settings.{of_setting}
-use Rattle.gq_traces.specs.Trace.{standing_of, told_session}
-use Rattle.gq_traces.specs.declared.noted.Notes.{Notes}
-use Rattle.gq_traces.specs.internal.Noted.{AreNoted, IsTold, standing_in}
-use Rattle.gq_traces.specs.internal.Telling.{budgets_of}
-use Rattle.gq_traces.proofs.Standing.{there_is}
-use Rattle.gq_traces.proofs.Staying.{LeavesAll, keeps_self, leaves_self}
-use Rattle.gq_traces.proofs.Unchanged.{SamePhase, StaysSo, accounts_stand, told_same}
+use Rattle.gq_laws.specs.Session_links.{stance_in}
+use Rattle.gq_laws.proofs.session_links.Written_world_links.{set_else, set_here}
+use Rattle.gq_laws.proofs.input_settings.Setting_keeps_invariants.{of_setting}
+use Rattle.gq_traces.specs.Trace.{standing_of, printed_session}
+use Rattle.gq_traces.specs.declared.noted.PrintedState.{PrintedState}
+use Rattle.gq_traces.specs.internal.Noted.{AreNoted, IsReported, standing_in}
+use Rattle.gq_traces.specs.internal.Printed_steps.{budgets_of}
+use Rattle.gq_traces.proofs.Sound_world_leaves.{there_is}
+use Rattle.gq_traces.proofs.Same_phase_step.{LeavesAll, keeps_self, leaves_self}
+use Rattle.gq_traces.proofs.Unchanged_accounts_step.{SamePhase, StaysSo, accounts_stand, printed_same}
 
 -- a leaf with other inputs
 with_leaves : (w : World) (x : ℕ) (leaf : Leaf) (inputs : List ℕ) → slice_get w.leaves x ≡ Some leaf
@@ -58,7 +58,7 @@ set_stays version system w x i n less =
     ))
     (record { was = l.0; there = l.1; is = l.0; here = l.1; phase = refl }, record { used = refl; caps = λ counted. refl })
 
-pub set_noted : (s : Scenario) (w : World) (x i n : ℕ) (notes : Notes) → x < length w.leaves → AreNoted s w notes
+pub set_noted : (s : Scenario) (w : World) (x i n : ℕ) (notes : PrintedState) → x < length w.leaves → AreNoted s w notes
     → AreNoted s (set_input (system s) w x i n) notes
 set_noted s w x i n notes less h =
     let new = set_input (system s) w x i n in
@@ -66,7 +66,7 @@ set_noted s w x i n notes less h =
     let stays = set_stays s.version (system s) w x i n less in
     record {
       accounts = h.accounts ∙ sym (accounts_stand s w x new all stays.0 stays.1 (budgets_of s));
-      sessions = λ k few. (let t = h.sessions k few in record { is = t.is ∙ sym (told_same w x new all k); known = t.known });
+      sessions = λ k few. (let t = h.sessions k few in record { is = t.is ∙ sym (printed_same w x new all k); known = t.known });
       room = h.room;
       count = h.count ∙ sym all.count;
       few = h.few;

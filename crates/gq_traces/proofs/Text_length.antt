@@ -21,17 +21,17 @@ use Rattle.gq_model.specs.declared.fault.Wrong.{Wrong}
 use Rattle.gq_model.specs.machine.Doing.{Event, Stepped}
 use Rattle.gq_model.specs.machine.Step.{next}
 use Rattle.gq_model.specs.machine.Run.{Ran, Acts, run, set_from, set_input}
-use Rattle.gq_model.proofs.Small.{none_some, some_same}
-use Rattle.gq_laws.specs.Links.{IsLinkedWorld, Stance, stance}
-use Rattle.gq_laws.specs.Reached.{IsReached}
-use Rattle.gq_laws.specs.Turns.{can_run, runs, runs_as}
+use Rattle.gq_model.proofs.Small_facts.{none_some, some_same}
+use Rattle.gq_laws.specs.Session_links.{IsLinkedWorld, Stance, stance}
+use Rattle.gq_laws.specs.Reached_worlds.{IsReached}
+use Rattle.gq_laws.specs.Turn_effects.{can_run, runs, runs_as}
 use Rattle.gq_traces.specs.Schedule.{Taken, and_further, as_acts, cut_lines, one_and, round, rounds, schedule_lines, schedule_text, scheduled, some_can}
-use Rattle.gq_traces.specs.Schedule.{told_turns, turn_line, while_can}
+use Rattle.gq_traces.specs.Schedule.{reported_turns, turn_line, while_can}
 use Rattle.gq_traces.proofs.Turned_back.{AreTurns, IsCalled, all_turns}
-use Rattle.gq_traces.proofs.Schedule_laws.{AreNames, all_taken, told_back}
+use Rattle.gq_traces.proofs.Schedule_laws.{AreNames, all_taken, reported_back}
 use Rattle.gq_views.specs.Listing.{joined}
-use Rattle.gq_traces.proofs.Scheduled.{IsAt, run_on_both, step_runs, while_few}
-use Rattle.gq_traces.proofs.Worth.{Gains, IsGoing, goes, next_gains, stances, value, worth_of}
+use Rattle.gq_traces.proofs.Scheduled_turn_runs.{IsAt, run_on_both, step_runs, while_few}
+use Rattle.gq_traces.proofs.Leaf_progress_measure.{Gains, IsGoing, goes, next_gains, stances, value, worth_of}
 
 abbrev pub worth : World → ℕ
 worth w = sum_by value (stances w)
@@ -170,7 +170,7 @@ both_few s n w a b h g =
     }
 
 one_few : (s : Scenario) (n x : ℕ) (w new : World) (k : ℕ) → k ≤ n → Line s n x w (k, new)
-    → FewLines s n w (record { turns = told_turns x k; left = n - k; world = new })
+    → FewLines s n w (record { turns = reported_turns x k; left = n - k; world = new })
 one_few s n x w new zero less h =
     let same : n - 0 ≡ n = omega arith in record { counted = omega (arith, h.falls, ap credit same); reached = h.reached }
 one_few s n x w new (suc k) less h =
@@ -192,7 +192,7 @@ module _ (s : Scenario) (linked : (w : World) → IsReached s w → IsLinkedWorl
   round_few n w x (c ∷ rest) h =
       let p = while_can n (system s) w x in
       let first = one_few s n x w p.1 p.0 (while_few n (system s) w x) (line_of s linked right n x w h) in
-      both_few s n w (record { turns = told_turns x p.0; left = n - p.0; world = p.1 }) (round (system s) (n - p.0) p.1 (suc x) rest) first
+      both_few s n w (record { turns = reported_turns x p.0; left = n - p.0; world = p.1 }) (round (system s) (n - p.0) p.1 (suc x) rest) first
       (round_few (n - p.0) p.1 (suc x) rest first.reached)
 
   further_few : (n : ℕ) (w : World) (t : Taken) (ts : List (ℕ × ℕ)) (go : ℕ → World → Taken) → FewLines s n w t
@@ -283,8 +283,8 @@ text_short s linked right whole differ names few =
     )
 
 -- and read as the turns
-pub turns_told : (s : Scenario) → ((w : World) → IsReached s w → IsLinkedWorld (system s) w)
+pub turns_reported : (s : Scenario) → ((w : World) → IsReached s w → IsLinkedWorld (system s) w)
     → ((w : World) (x : ℕ) → IsReached s w → (p : World × Event) × (next (system s) w x ≡ Ok p))
     → ((w : World) → IsReached s w → length w.leaves ≡ length (components s)) → NamesDiffer s → AreNames s → length (components s) ≤ 64
     → turned s (schedule_text None s) ≡ Ok (as_acts (scheduled s).turns)
-turns_told s linked right whole differ names few = told_back None s differ names (text_short s linked right whole differ names few)
+turns_reported s linked right whole differ names few = reported_back None s differ names (text_short s linked right whole differ names few)

@@ -2,9 +2,9 @@
 use Rattle.std.proofs.Common.{◌≡◌, ◌∙◌, ◌+◌, ℕ, Bool, true, false, List, [], ◌++◌, arith, Option, Result, Ok, Err, codes, decimal, refl, ap, sym, subst}
 use Rattle.std.proofs.Common.{append_assoc, append-nil}
 use Rattle.std.specs.Io.KnownBytes.{Appends}
-use Rattle.gq_init.specs.Counts.{Writes, written_to}
+use Rattle.gq_init.specs.Writer_failures.{Writes, written_to}
 use Rattle.gq_init.specs.declared.counted.Counted.{Counted}
-use Rattle.gq_init.proofs.Known.{appends_both, appends_nothing}
+use Rattle.gq_init.proofs.Written_byte_facts.{appends_both, appends_nothing}
 use Rattle.gq_model.specs.machine.Accounts.{account_lines, accounts}
 use Rattle.gq_model.specs.machine.Run.{Acts}
 use Rattle.gq_model.specs.machine.Scenario.{Scenario, system}
@@ -12,23 +12,23 @@ use Rattle.gq_model.specs.texts.Turns.{Turned, turned}
 use Rattle.gq_model.specs.rules.Accept.{Budget, budgets, step_budgets}
 use Rattle.gq_machine.specs.Machines.{Machine}
 use Rattle.gq_load.specs.Load.{Fault, loaded}
-use Rattle.gq_load.specs.Faults.{Refuses, load_fault_text}
-use Rattle.gq_load.specs.declared.fault.LoadFault.{LoadFault}
-use Rattle.gq_load.specs.declared.fault.LoadError.TheVariants as error
-use Rattle.gq_world.specs.Lines.{accounts_by}
-use Rattle.gq_world.specs.Outcomes.{GivesOf, IsFaultOf, WritesAs}
+use Rattle.gq_load.specs.Load_faults.{Refuses, load_fault_text}
+use Rattle.gq_load.specs.declared.load_fault.LoadFault.{LoadFault}
+use Rattle.gq_load.specs.declared.load_fault.LoadError.TheVariants as error
+use Rattle.gq_world.specs.Account_lines.{accounts_by}
+use Rattle.gq_world.specs.Command_outcomes.{GivesOf, IsFaultOf, WritesAs}
 use Rattle.gq_world.specs.Whole.{Written, refused_with, with_scenario}
-use Rattle.gq_world.specs.Worlds.{World}
-use Rattle.gq_world.specs.declared.fault.RunFault.{RunFault}
-use Rattle.gq_world.specs.declared.fault.RunFault.TheVariants as fault
-use Rattle.gq_world.proofs.Commands.{cut_short, nothing_written, since}
-use Rattle.gq_world.proofs.Fronts.{front_after}
+use Rattle.gq_world.specs.World_between_turns.{World}
+use Rattle.gq_world.specs.declared.run_fault.RunFault.{RunFault}
+use Rattle.gq_world.specs.declared.run_fault.RunFault.TheVariants as fault
+use Rattle.gq_world.proofs.Command_text_endings.{cut_short, nothing_written, since}
+use Rattle.gq_world.proofs.Line_text_prefixes.{prefix_after}
 use Rattle.gq_traces.specs.First_turns.{turns_in}
 use Rattle.gq_traces.specs.Trace.{Traced, after_all, all_text, start_traced, trace_text}
-use Rattle.gq_traces.specs.Written.{trace_from, trace_written, with_turns}
+use Rattle.gq_traces.specs.Traces_written.{trace_from, trace_written, with_turns}
 use Rattle.gq_traces.specs.declared.trace.Tracing.{Tracing}
-use Rattle.gq_traces.specs.internal.Telling.{Goes, IsOn, IsTurnsFault, TellsTurns, budgets_of}
-use Rattle.gq_traces.proofs.Going.{goes_both}
+use Rattle.gq_traces.specs.internal.Printed_steps.{Goes, IsOn, IsTurnsFault, PrintsTurns, budgets_of}
+use Rattle.gq_traces.proofs.Sequential_text_writes.{goes_both}
 
 -- the line of the end
 abbrev pub end_line : ℕ → List ℕ
@@ -59,20 +59,20 @@ module _ (all : Bool) (s : Scenario) (turns : Acts) where
   pub whole_is : (n : ℕ) (lines : List ℕ) → last.turns ≡ n → lines ≡ account_lines s.version (accounts s last.world (budgets_of s))
       → (all_text all s (budgets_of s) turns first ++ end_line n) ++ lines ≡ trace_text all s turns
   whole_is n lines count are =
-      let told = all_text all s (budgets_of s) turns first in
-      append_assoc told (end_line n) lines
-      ∙ ap (λ l. told ++ (end_line n ++ l)) are
-      ∙ ap (λ m. told ++ (end_line m ++ account_lines s.version (accounts s last.world (budgets_of s)))) (sym count)
+      let reported = all_text all s (budgets_of s) turns first in
+      append_assoc reported (end_line n) lines
+      ∙ ap (λ l. reported ++ (end_line n ++ l)) are
+      ∙ ap (λ m. reported ++ (end_line m ++ account_lines s.version (accounts s last.world (budgets_of s)))) (sym count)
 
   module _ {W : Type 0} (contents : W → Option (List ℕ)) (old : World) (new : World) (before after : Tracing) (a b c : Counted W) (was now : Bool) (n : ℕ)
       (scenario : old.scenario ≡ s) (on : IsOn before.programs.items before.aheads.items old 0 first) (count : n ≡ turns_in turns)
-      (told : TellsTurns contents (all_text all s (budgets_of s) turns) (after_all (system s) turns) 0 (turns_in turns) old new before after a b true was)
+      (reported : PrintsTurns contents (all_text all s (budgets_of s) turns) (after_all (system s) turns) 0 (turns_in turns) old new before after a b true was)
       (ended : Goes contents b c was now (end_line n)) where
     goes : Goes contents a c true now (all_text all s (budgets_of s) turns first ++ end_line n)
-    goes = goes_both contents a b c true was now (all_text all s (budgets_of s) turns first) (end_line n) (told.written first on) ended
+    goes = goes_both contents a b c true was now (all_text all s (budgets_of s) turns first) (end_line n) (reported.written first on) ended
 
     on_then : IsOn after.programs.items after.aheads.items new (0 + turns_in turns) last
-    on_then = told.on first on
+    on_then = reported.on first on
 
     -- the whole, by the lines of the accounts
     pub then : (m : Machine) (d : List Budget) → m ≡ record { scenario = new.scenario; world = new.world } → d ≡ budgets new.scenario
@@ -80,7 +80,7 @@ module _ (all : Bool) (s : Scenario) (turns : Acts) where
     then m d is by =
         let at = on_then.count in
         let number : last.turns ≡ n = omega (arith, at, count) in
-        whole_is n (lines_by m (step_budgets d)) number (lines_are new m d (told.scenario ∙ scenario) on_then.world is by)
+        whole_is n (lines_by m (step_budgets d)) number (lines_are new m d (reported.scenario ∙ scenario) on_then.world is by)
 
     -- a write failed before the accounts
     pub failed : {A : Type 0} → now ≡ false → WritesAs {A = A} contents (Ok (trace_text all s turns)) a c (Err fault.Write)
@@ -93,12 +93,12 @@ module _ (all : Bool) (s : Scenario) (turns : Acts) where
         (record {
           written = tt;
           counted = tt;
-          front = front_after (written_to contents a) (written_to contents a) (written_to contents c) [] text rest (trace_text all s turns)
-              (appends_nothing (written_to contents a)) (goes.front refl stopped) (sym (whole_is n rest number refl));
+          prefix = prefix_after (written_to contents a) (written_to contents a) (written_to contents c) [] text rest (trace_text all s turns)
+              (appends_nothing (written_to contents a)) (goes.prefix refl stopped) (sym (whole_is n rest number refl));
           raised = goes.raised refl stopped;
         })
 
-    -- the accounts were written after it, or a front of them
+    -- the accounts were written after it, or a prefix of them
     pub since_then : {A E : Type 0} (e : Counted W) (m : Machine) (d : List Budget) (r : Result A E) → now ≡ true
         → m ≡ record { scenario = new.scenario; world = new.world } → d ≡ budgets new.scenario → Writes contents c e (lines_by m (step_budgets d)) r
         → Writes contents a e (trace_text all s turns) r
@@ -108,8 +108,8 @@ module _ (all : Bool) (s : Scenario) (turns : Acts) where
         since contents a c e lines (trace_text all s turns) r (goes.counted going)
         (λ more. subst (Appends (written_to contents a) (written_to contents e)) (then m d is by)
         (appends_both (written_to contents a) (written_to contents c) (written_to contents e) text lines (goes.written going) more))
-        (λ front. front_after (written_to contents a) (written_to contents c) (written_to contents e) text lines [] (trace_text all s turns) (goes.written
-        going) front
+        (λ prefix. prefix_after (written_to contents a) (written_to contents c) (written_to contents e) text lines [] (trace_text all s turns) (goes.written
+        going) prefix
         (sym (then m d is by) ∙ ap (λ l. text ++ l) (sym (append-nil lines)))) h
 
 -- TEXTS

@@ -4,25 +4,25 @@ use Rattle.gq_model.specs.machine.Scenario.{Scenario, components, system}
 use Rattle.gq_model.specs.machine.World.{World, start}
 use Rattle.gq_model.specs.Promises.{IsUpheld}
 use Rattle.gq_model.specs.texts.Turns.{turned}
-use Rattle.gq_laws.specs.Links.{IsLinkedWorld}
+use Rattle.gq_laws.specs.Session_links.{IsLinkedWorld}
 use Rattle.gq_laws.specs.Progress.{AllRest, GoesOn}
-use Rattle.gq_laws.specs.Reached.{IsReached}
+use Rattle.gq_laws.specs.Reached_worlds.{IsReached}
 use Rattle.gq_laws.specs.Shapes.{IsWholeWorld}
-use Rattle.gq_laws.specs.Sound.{IsSound}
-use Rattle.gq_laws.specs.Turns.{can_run}
-use Rattle.gq_traces.specs.Rests.{EndsIn, RestsUnless}
+use Rattle.gq_laws.specs.Sound_scenarios.{IsSound}
+use Rattle.gq_laws.specs.Turn_effects.{can_run}
+use Rattle.gq_traces.specs.Rest_runs.{EndsIn, RestsUnless}
 use Rattle.gq_traces.specs.Schedule.{as_acts, is_cut, schedule_text, scheduled_by}
-use Rattle.gq_traces.proofs.Named.{HasNames}
+use Rattle.gq_traces.proofs.Leaf_table_names.{HasNames}
 use Rattle.gq_traces.proofs.Schedule_laws.{at_rest, is_reached, taken_by}
-use Rattle.gq_traces.proofs.Chance_length.{chosen_told}
-use Rattle.gq_traces.proofs.Text_length.{turns_told}
+use Rattle.gq_traces.proofs.Chance_length.{chosen_printed}
+use Rattle.gq_traces.proofs.Text_length.{turns_reported}
 
 module _ (s : Scenario) (sound : IsSound s) (names : HasNames s) where
-  pub told : ((w : World) → IsReached s w → IsLinkedWorld (system s) w) → ((w : World) → IsReached s w → IsWholeWorld (system s) w)
+  pub reported : ((w : World) → IsReached s w → IsLinkedWorld (system s) w) → ((w : World) → IsReached s w → IsWholeWorld (system s) w)
       → ((w : World) → IsReached s w → IsUpheld s w) → (seed : Option ℕ) → turned s (schedule_text seed s) ≡ Ok (as_acts (scheduled_by seed s).turns)
-  told linked whole upheld None =
-      turns_told s linked (λ w x reached. (upheld w reached).goes_on x) (λ w reached. (whole w reached).count) sound.formed.differ names.names names.few
-  told linked whole upheld (Some seed) = chosen_told seed s sound.formed.differ names.names
+  reported linked whole upheld None =
+      turns_reported s linked (λ w x reached. (upheld w reached).goes_on x) (λ w reached. (whole w reached).count) sound.formed.differ names.names names.few
+  reported linked whole upheld (Some seed) = chosen_printed seed s sound.formed.differ names.names
 
   pub ends_in : (seed : Option ℕ) → EndsIn s (as_acts (scheduled_by seed s).turns) (scheduled_by seed s).world
   ends_in seed =

@@ -15,7 +15,7 @@ use Rattle.gq_model.specs.texts.Turns.{Given, Turned, after_line, greatest_turns
 use Rattle.gq_views.specs.Listing.{joined}
 use Rattle.gq_traces.specs.Schedule.{as_acts, cut_lines, name_at, schedule_lines, turn_line}
 use Rattle.gq_views.proofs.Listed_numbers.{all_append, decimal_short, number_read}
-use Rattle.gq_views.proofs.Listed_lines.{AllPrinted, decimal_solid, is_printed, is_solid, lines_joined, name_solid, none_from, pieces_front, pieces_last}
+use Rattle.gq_views.proofs.Listed_lines.{AllPrinted, decimal_solid, is_printed, is_solid, lines_joined, name_solid, none_from, pieces_prefix, pieces_last}
 use Rattle.gq_views.proofs.Listed_lines.{solid_printed}
 
 -- a leaf's name is one, and the leaf is found by it
@@ -41,7 +41,7 @@ count_back n some few =
 line_pieces : (name : List ℕ) (n : ℕ) → is_name name ≡ true → n ≤ greatest_turns → pieces (λ c. c == 32) (name ++ 32 ∷ decimal n) ≡ name ∷ decimal n ∷ []
 line_pieces name n h few =
     let t = and_parts (between 1 16 (length name)) (all_of is_name_byte name) h in
-    pieces_front (λ c. c == 32) 32 refl name (decimal n) (none_from is_solid (λ c. c == 32) (λ c p. grind (arith, nat_tests)) name (name_solid name t.1))
+    pieces_prefix (λ c. c == 32) 32 refl name (decimal n) (none_from is_solid (λ c. c == 32) (λ c p. grind (arith, nat_tests)) name (name_solid name t.1))
     ∙ ap (λ (ps : List (List ℕ)). name ∷ ps)
     (pieces_last (λ c. c == 32) (decimal n) (none_from is_solid (λ c. c == 32) (λ c p. grind (arith, nat_tests)) (decimal n) (decimal_solid n (omega
     (arith, few)))))

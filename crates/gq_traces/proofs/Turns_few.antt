@@ -10,7 +10,7 @@ use Rattle.gq_model.specs.declared.fault.TurnFault.TheVariants.{TooMany}
 use Rattle.gq_model.specs.machine.Scenario.{Component, Scenario, components}
 use Rattle.gq_model.specs.texts.Letters.{lines, pieces}
 use Rattle.gq_model.specs.texts.Turns.{Given, Turned, after_line, greatest_turns, says_nothing, turn_in, turn_onto, turned, turns_from, turns_given}
-use Rattle.gq_world.specs.Worlds.{AreBelow}
+use Rattle.gq_world.specs.World_between_turns.{AreBelow}
 use Rattle.gq_traces.specs.First_turns.{turns_in}
 
 -- ONE AFTER THE OTHER

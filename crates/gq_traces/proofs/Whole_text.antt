@@ -5,16 +5,16 @@ use Rattle.std.proofs.Common.{append-nil, append_assoc}
 use Rattle.gq_model.specs.machine.Scenario.{Component, Scenario, components, system}
 use Rattle.gq_model.specs.machine.World.{World, start}
 use Rattle.gq_model.specs.texts.Turns.{greatest_turns}
-use Rattle.gq_init.specs.Writes.{IsFront}
-use Rattle.gq_init.proofs.Known.{appends_both, appends_nothing}
-use Rattle.gq_world.proofs.Fronts.{front_after}
+use Rattle.gq_init.specs.Writes.{IsPrefix}
+use Rattle.gq_init.proofs.Written_byte_facts.{appends_both, appends_nothing}
+use Rattle.gq_world.proofs.Line_text_prefixes.{prefix_after}
 use Rattle.gq_views.specs.Listing.{joined}
 use Rattle.rand_core.specs.Pcg32Seed.{pcg32_seed}
 use Rattle.rand_pcg.specs.Pcg.{pcg32_of_seed}
 use Rattle.gq_traces.specs.Schedule.{chosen, cut_lines, greatest_choices, is_cut, schedule_lines, schedule_text, scheduled, scheduled_by, turn_line}
 use Rattle.gq_traces.specs.internal.Takes.{turns_text}
-use Rattle.gq_traces.proofs.Chances.{GoesChoices, choices_first}
-use Rattle.gq_traces.proofs.Rounds.{GoesRounds, rounds_first}
+use Rattle.gq_traces.proofs.Random_turn_schedule.{GoesChoices, choices_first}
+use Rattle.gq_traces.proofs.Round_schedule_text.{GoesRounds, rounds_first}
 
 pub first_rounds : (s : Scenario) (w : World) (o : Option (List ℕ)) → w ≡ start (system s) → GoesRounds (scheduled s) (system s) greatest_turns w o o
 unfolding scheduled
@@ -54,9 +54,9 @@ module _ (seed : Option ℕ) (s : Scenario) where
   uncut is = whole_is false is ∙ append-nil all
 
   -- a prefix of the turns is one of the whole
-  pub front_of_turns : (old new : Option (List ℕ)) → IsFront old new all → IsFront old new (schedule_text seed s)
-  front_of_turns old new front =
-      front_after old old new [] all (joined (cut_lines (is_cut seed s) count)) (schedule_text seed s) (appends_nothing old) front
+  pub prefix_of_turns : (old new : Option (List ℕ)) → IsPrefix old new all → IsPrefix old new (schedule_text seed s)
+  prefix_of_turns old new prefix =
+      prefix_after old old new [] all (joined (cut_lines (is_cut seed s) count)) (schedule_text seed s) (appends_nothing old) prefix
       (whole_is (is_cut seed s) refl)
 
   -- they are cut, and the last line is written
@@ -66,8 +66,8 @@ module _ (seed : Option ℕ) (s : Scenario) where
         subst (Appends old new) (sym (whole_is true is))
         (appends_both old between new all (joined (cut_lines true count)) h (subst (λ m. Appends between new (joined (cut_lines true m))) same k))
 
-    pub cut_front : IsFront between new (joined (cut_lines true n)) → IsFront old new (schedule_text seed s)
-    cut_front front =
-        front_after old between new all (joined (cut_lines true count)) [] (schedule_text seed s) h
-        (subst (λ m. IsFront between new (joined (cut_lines true m))) same front)
+    pub cut_prefix : IsPrefix between new (joined (cut_lines true n)) → IsPrefix old new (schedule_text seed s)
+    cut_prefix prefix =
+        prefix_after old between new all (joined (cut_lines true count)) [] (schedule_text seed s) h
+        (subst (λ m. IsPrefix between new (joined (cut_lines true m))) same prefix)
         (whole_is true is ∙ ap (λ (l : List ℕ). all ++ l) (sym (append-nil (joined (cut_lines true count)))))

@@ -6,7 +6,7 @@ use Rattle.gq_model.specs.machine.Scenario.{Component, Scenario, components, sys
 use Rattle.gq_model.specs.texts.Turns.{turned}
 use Rattle.gq_load.specs.Load.{loaded}
 use Rattle.gq_traces.specs.First_turns.{turns_in}
-use Rattle.gq_traces.specs.Peaks.{peak_lines, quota_in, used_in, world_after}
+use Rattle.gq_traces.specs.Account_peaks.{peak_lines, quota_in, used_in, world_after}
 use Rattle.gq_traces.specs.declared.peaks.LeafPeaks.{LeafPeaks}
 use Rattle.gq_traces.specs.declared.peaks.Peak.{Peak}
 

@@ -11,17 +11,17 @@ use Rattle.gq_views.specs.Listing.{joined}
 -- a text begins with these bytes
 abbrev pub begins : List ℕ → List ℕ → Bool
 begins [] text = true
-begins (c ∷ front) [] = false
-begins (c ∷ front) (d ∷ text) = c == d && begins front text
+begins (c ∷ prefix) [] = false
+begins (c ∷ prefix) (d ∷ text) = c == d && begins prefix text
 
 -- those of these lines that begin so
 abbrev pub beginning : List ℕ → List (List ℕ) → List (List ℕ)
-beginning front [] = []
-beginning front (line ∷ rest) = if begins front line then line ∷ beginning front rest else beginning front rest
+beginning prefix [] = []
+beginning prefix (line ∷ rest) = if begins prefix line then line ∷ beginning prefix rest else beginning prefix rest
 
 -- those lines of a text that begin so
 abbrev pub lines_of : List ℕ → List ℕ → List (List ℕ)
-lines_of front text = beginning front (fed_lines text)
+lines_of prefix text = beginning prefix (fed_lines text)
 
 -- the account lines at the end of a run
 abbrev pub last_accounts : Scenario → Acts → List ℕ
@@ -29,11 +29,11 @@ last_accounts s turns =
     let b = step_budgets (budgets s) in account_lines s.version (accounts s (run (system s) turns).world b)
 
 -- a text ends in these account lines, and with them its lines that begin with `[` are the text of the run
-pub record TellsRun (s : Scenario) (turns : Acts) (text : List ℕ) : Type 0 where
-  pub front : List ℕ
-  pub ends : text ≡ front ++ last_accounts s turns
+pub record PrintsRun (s : Scenario) (turns : Acts) (text : List ℕ) : Type 0 where
+  pub prefix : List ℕ
+  pub ends : text ≡ prefix ++ last_accounts s turns
   pub says : joined (lines_of (codes "[") text) ++ last_accounts s turns ≡ whole s (step_budgets (budgets s)) turns
 
 -- as many lines begin with `turn` as leaves have taken steps in a run
-abbrev pub TellsSteps : Scenario → Acts → List ℕ → Type 0
-TellsSteps s turns text = length (lines_of (codes "turn ") text) ≡ taken (run (system s) turns).world
+abbrev pub PrintsSteps : Scenario → Acts → List ℕ → Type 0
+PrintsSteps s turns text = length (lines_of (codes "turn ") text) ≡ taken (run (system s) turns).world

@@ -11,7 +11,7 @@ use Rattle.gq_model.specs.Promises.{EachOf}
 use Rattle.gq_laws.specs.Shapes.{Each}
 use Rattle.gq_load.specs.Load.{loaded}
 use Rattle.gq_resolve.specs.NodeTables.{NodeRow, node_rows}
-use Rattle.gq_traces.specs.State.{Item, Role, Given, Handed, Held, Lent, Received, init_items, is_live, items_text, leaf_items, next_text, start_text}
+use Rattle.gq_traces.specs.Account_state.{Item, Role, Given, Handed, Held, Lent, Received, init_items, is_live, items_text, leaf_items, next_text, start_text}
 use Rattle.gq_traces.specs.First_turns.{AreFirst}
 use Rattle.gq_traces.specs.Trace.{Traced, after_all, due, start_traced}
 

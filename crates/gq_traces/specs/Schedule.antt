@@ -11,7 +11,7 @@ use Rattle.gq_model.specs.machine.World.{World, start}
 use Rattle.gq_model.specs.machine.Doing.{Stepped}
 use Rattle.gq_model.specs.machine.Step.{next}
 use Rattle.gq_model.specs.texts.Turns.{greatest_turns}
-use Rattle.gq_laws.specs.Turns.{can_run}
+use Rattle.gq_laws.specs.Turn_effects.{can_run}
 use Rattle.gq_views.specs.Listing.{joined}
 
 -- turns of leaves one after the other, how many more may be taken, and the world then
@@ -35,10 +35,10 @@ abbrev pub while_can : ℕ → System → World → ℕ → ℕ × World
 while_can zero system w x = (0, w)
 while_can (suc n) system w x = if can_run system w x then one_and w (next system w x) (λ u. while_can n system u x) else (0, w)
 
--- a leaf that took no turn is not told
-abbrev pub told_turns : ℕ → ℕ → List (ℕ × ℕ)
-told_turns x zero = []
-told_turns x (suc n) = (x, suc n) ∷ []
+-- a leaf that took no turn is not reported
+abbrev pub reported_turns : ℕ → ℕ → List (ℕ × ℕ)
+reported_turns x zero = []
+reported_turns x (suc n) = (x, suc n) ∷ []
 
 -- the leaves from the x-th on, each in its turn
 abbrev pub round : System → ℕ → World → ℕ → List Component → Taken
@@ -46,7 +46,7 @@ round system n w x [] = record { turns = []; left = n; world = w }
 round system n w x (c ∷ rest) =
     let taken = while_can n system w x in
     let more = round system (n - taken.0) taken.1 (suc x) rest in
-    record more { turns = told_turns x taken.0 ++ more.turns }
+    record more { turns = reported_turns x taken.0 ++ more.turns }
 
 -- the turns of a round and, where there are any, those of further ones
 abbrev pub and_further : Taken → List (ℕ × ℕ) → (ℕ → World → Taken) → Taken
@@ -111,7 +111,7 @@ choices (suc k) system (suc n) w g =
     let c = next_choice system w g in
     let taken = chosen_turns system (suc n) w c in
     let more = choices k system (suc n - taken.0) taken.1 c.generator in
-    where_some (able system w 0 system.components) (no_turns (suc n) w) (record more { turns = told_turns c.leaf taken.0 ++ more.turns })
+    where_some (able system w 0 system.components) (no_turns (suc n) w) (record more { turns = reported_turns c.leaf taken.0 ++ more.turns })
 
 -- so many lines are at most written by chance: with names of 16 bytes more of them could be longer than a list of turns may be
 unfoldable pub greatest_choices : ℕ

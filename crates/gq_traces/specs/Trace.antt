@@ -5,7 +5,7 @@ use Rattle.gq_model.specs.declared.act.Act.{Act}
 use Rattle.gq_model.specs.declared.act.Act.TheVariants.{Turns, Sets}
 use Rattle.gq_model.specs.declared.phase.Phase.{Phase}
 use Rattle.gq_model.specs.declared.phase.Phase.TheVariants.{Pending, Running, Blocked, Serving, Handling, Exited}
-use Rattle.gq_model.specs.machine.Accounts.{Account, LeafAccount, account_line, account_lines, accounts, entry, told}
+use Rattle.gq_model.specs.machine.Accounts.{Account, LeafAccount, account_line, account_lines, accounts, entry, reported}
 use Rattle.gq_model.specs.machine.Amounts.{Amount, same_amount}
 use Rattle.gq_model.specs.machine.Doing.{Event, Stepped}
 use Rattle.gq_model.specs.machine.Program.{same_section, text_eq}
@@ -16,9 +16,9 @@ use Rattle.gq_model.specs.machine.World.{Current, Leaf, Request, Session, World,
 use Rattle.gq_model.specs.rules.Accept.{budgets, step_budgets}
 use Rattle.gq_model.specs.texts.Fault_texts.{section_word}
 use Rattle.gq_machine.specs.Readers.{request_of, requested}
-use Rattle.gq_traces.specs.Places.{Ahead, Place, place_in, start_aheads, stepped}
-use Rattle.gq_traces.specs.declared.sessions.Requested.{Requested}
-use Rattle.gq_traces.specs.declared.sessions.Requested.TheVariants.{Nothing, Waits, AtHand}
+use Rattle.gq_traces.specs.Step_positions.{Ahead, StepPosition, place_in, start_aheads, stepped}
+use Rattle.gq_traces.specs.declared.session_lines.Requested.{Requested}
+use Rattle.gq_traces.specs.declared.session_lines.Requested.TheVariants.{Nothing, Waits, AtHand}
 
 -- ACCOUNTS
 
@@ -66,8 +66,8 @@ account_changes version (old ∷ olds) [] = []
 
 -- SESSIONS
 
--- what is told of a session: client and server, its service, its level, what was lent with it, and its request
-pub record ToldSession : Type 0 where
+-- what is reported of a session: client and server, its service, its level, what was lent with it, and its request
+pub record PrintedSession : Type 0 where
   pub client : ℕ
   pub server : ℕ
   pub service : List ℕ
@@ -88,9 +88,9 @@ abbrev pub request_in : World → ℕ → ℕ → Option Request → Requested
 request_in w k server None = at_server k (slice_get w.leaves server)
 request_in w k server (Some r) = Waits (requested w r)
 
-abbrev pub told_in : World → ℕ → Option Session → Option ToldSession
-told_in w k None = None
-told_in w k (Some s) =
+abbrev pub reported_in : World → ℕ → Option Session → Option PrintedSession
+reported_in w k None = None
+reported_in w k (Some s) =
     Some (record {
       client = s.client;
       server = s.server;
@@ -100,9 +100,9 @@ told_in w k (Some s) =
       requested = request_in w k s.server (request_of k w.requests);
     })
 
--- what is told of the k-th session, if there is one
-abbrev pub told_session : World → ℕ → Option ToldSession
-told_session w k = told_in w k (session_at w k)
+-- what is reported of the k-th session, if there is one
+abbrev pub printed_session : World → ℕ → Option PrintedSession
+printed_session w k = reported_in w k (session_at w k)
 
 abbrev pub requested_text : Requested → List ℕ
 requested_text Nothing = []
@@ -112,15 +112,15 @@ requested_text (AtHand section) = codes ", " ++ section_word section ++ codes " 
 abbrev pub leaf_label : System → ℕ → List ℕ
 leaf_label system x = label_at (slice_get system.components x)
 
--- a word and an amount; capabilities are told where the version counts them
+-- a word and an amount; capabilities are reported where the version counts them
 abbrev pub amount_text : ℕ → List ℕ → Amount → List ℕ
-amount_text version word a = word ++ codes " " ++ decimal a.ram ++ told version (entry (codes "caps") a.caps)
+amount_text version word a = word ++ codes " " ++ decimal a.ram ++ reported version (entry (codes "caps") a.caps)
 
 -- who has a session: its service, its server and its client
-abbrev pub parties_text : System → ToldSession → List ℕ
+abbrev pub parties_text : System → PrintedSession → List ℕ
 parties_text system t = t.service ++ codes " of " ++ leaf_label system t.server ++ codes " for " ++ leaf_label system t.client
 
-abbrev pub session_line : ℕ → System → ℕ → Option ToldSession → List ℕ
+abbrev pub session_line : ℕ → System → ℕ → Option PrintedSession → List ℕ
 session_line version system k None = codes "session " ++ decimal k ++ codes " ends\n"
 session_line version system k (Some t) =
     codes "session " ++ decimal k ++ codes " " ++ parties_text system t ++ codes " at level " ++ decimal t.level ++ codes " "
@@ -132,18 +132,18 @@ same_requested (Waits a) (Waits b) = same_section a b
 same_requested (AtHand a) (AtHand b) = same_section a b
 same_requested _ _ = false
 
--- the same is told of two sessions
-abbrev pub same_told : Option ToldSession → Option ToldSession → Bool
-same_told None None = true
-same_told (Some a) (Some b) =
+-- the same is reported of two sessions
+abbrev pub same_printed : Option PrintedSession → Option PrintedSession → Bool
+same_printed None None = true
+same_printed (Some a) (Some b) =
     a.client == b.client && a.server == b.server && text_eq a.service b.service && a.level == b.level && same_amount a.donation b.donation
     && same_requested a.requested b.requested
-same_told _ _ = false
+same_printed _ _ = false
 
 -- the line of a session that is new, gone or another one now
 abbrev pub session_change : ℕ → System → World → World → ℕ → List ℕ
 session_change version system old new k =
-    if same_told (told_session old k) (told_session new k) then [] else session_line version system k (told_session new k)
+    if same_printed (printed_session old k) (printed_session new k) then [] else session_line version system k (printed_session new k)
 
 -- of n sessions from the k-th on
 abbrev pub session_changes : ℕ → System → World → World → ℕ → ℕ → List ℕ
@@ -164,10 +164,10 @@ start_traced system = record { world = start system; aheads = start_aheads syste
 -- a step that a leaf can take: its place, and what the leaf has before it then
 pub record Due : Type 0 where
   pub component : Component
-  pub place : Place
+  pub place : StepPosition
   pub ahead : Ahead
 
-abbrev pub due_by : Component → Ahead → Option Place → Option Due
+abbrev pub due_by : Component → Ahead → Option StepPosition → Option Due
 due_by c a None = None
 due_by c a (Some place) = Some (record { component = c; place = place; ahead = a })
 
@@ -214,13 +214,13 @@ after_all system (a ∷ acts) t = after_all system acts (after_act system a.0 a.
 
 -- WHAT IS TOLD
 
--- a step that changes nothing to be told is told where all are
-abbrev pub told_step : Bool → List ℕ → List ℕ → List ℕ
-told_step true head changes = head ++ changes
-told_step false head [] = []
-told_step false head (c ∷ changes) = head ++ c ∷ changes
+-- a step that changes nothing to be reported is reported where all are
+abbrev pub printed_step : Bool → List ℕ → List ℕ → List ℕ
+printed_step true head changes = head ++ changes
+printed_step false head [] = []
+printed_step false head (c ∷ changes) = head ++ c ∷ changes
 
-abbrev pub head_line : ℕ → List ℕ → Place → List ℕ
+abbrev pub head_line : ℕ → List ℕ → StepPosition → List ℕ
 head_line n label place =
     codes "turn " ++ decimal n ++ codes " " ++ label ++ codes " " ++ section_word place.section ++ codes " at " ++ decimal place.number ++ place.statement
     ++ 10 ∷ []
@@ -234,7 +234,7 @@ changes s budgets label old new event =
 abbrev pub step_text : Bool → Scenario → List ℕ → Traced → Due → Stepped → List ℕ
 step_text all s budgets t d (Err wrong) = []
 step_text all s budgets t d (Ok p) =
-    told_step all (head_line (suc t.turns) d.component.label d.place) (changes s budgets d.component.label t.world p.0 p.1)
+    printed_step all (head_line (suc t.turns) d.component.label d.place) (changes s budgets d.component.label t.world p.0 p.1)
 
 abbrev pub due_text : Bool → Scenario → List ℕ → ℕ → Traced → Option Due → List ℕ
 due_text all s budgets x t None = []
@@ -259,7 +259,7 @@ value_at w x i = value_in i (slice_get w.leaves x)
 abbrev pub input_line : List ℕ → ℕ → ℕ → List ℕ
 input_line label i n = codes "input " ++ label ++ codes "." ++ decimal i ++ codes " = " ++ decimal n ++ 10 ∷ []
 
--- a setting is told if it changes the value, or where all are told
+-- a setting is reported if it changes the value, or where all are reported
 abbrev pub setting_text : Bool → System → ℕ → ℕ → ℕ → Traced → List ℕ
 setting_text all system x i n t =
     if all || not (value_at (set_input system t.world x i n) x i == value_at t.world x i) then input_line (leaf_label system x) i n else []

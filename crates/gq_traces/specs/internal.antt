@@ -1,9 +1,9 @@
 pub mod Takes
 pub mod Flat
 pub mod Noted
-pub mod Telling
-pub mod Items
-pub mod Alone
+pub mod Printed_steps
+pub mod Slot_items
+pub mod Alone_positions
 pub mod Follows
-pub mod Adding
+pub mod Item_sums
 pub mod Peaking

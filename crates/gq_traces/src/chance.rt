@@ -3,8 +3,8 @@ ghost use Rattle.std.specs.Prelude.{◌≡◌, ◌<◌, ◌≤◌, false, length
 ghost use Rattle.gq_model.specs.machine.Scenario.{components, system};
 ghost use Rattle.gq_model.specs.machine.World.{start};
 ghost use Rattle.gq_model.specs.texts.Turns.{greatest_turns};
-ghost use Rattle.gq_init.specs.Counts.{Writes};
-ghost use Rattle.gq_traces.specs.Schedule.{able, chosen, chosen_turns, drawn, next_choice, told_turns};
+ghost use Rattle.gq_init.specs.Writer_failures.{Writes};
+ghost use Rattle.gq_traces.specs.Schedule.{able, chosen, chosen_turns, drawn, next_choice, reported_turns};
 ghost use Rattle.gq_traces.specs.internal.Takes.{turns_text};
 
 use crate::schedule::{can_take, take_turns, write_taken};
@@ -65,7 +65,7 @@ fn write_choice<W: Write>(
     ensures taken { IfOk result (λ taken. chosen_turns (system world.old.scenario) left world.old.world
         (next_choice (system world.old.scenario) world.old.world generator.old) ≡ (taken, world.new.world)) }
     ensures writes { Writes W.contents out.old out.new (turns_text (components world.old.scenario)
-        (told_turns (next_choice (system world.old.scenario) world.old.world generator.old).leaf
+        (reported_turns (next_choice (system world.old.scenario) world.old.world generator.old).leaf
         (chosen_turns (system world.old.scenario) left world.old.world (next_choice (system world.old.scenario) world.old.world generator.old)).0)) result }
 {
     let place = draw(generator, leaves.len());

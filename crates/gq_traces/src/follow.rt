@@ -1,15 +1,15 @@
-// Turns and settings that are taken untold, with where each leaf stands on the way.
+// Turns and settings that are taken unreported, with where each leaf stands on the way.
 ghost use Rattle.std.specs.Prelude.{◌≡◌, ◌<◌, ◌≤◌, false, length, IfOk};
 ghost use Rattle.gq_model.specs.machine.Scenario.{components, system};
 ghost use Rattle.gq_model.specs.machine.World.{start};
-ghost use Rattle.gq_world.specs.Worlds.{AreBelow};
+ghost use Rattle.gq_world.specs.World_between_turns.{AreBelow};
 ghost use Rattle.gq_traces.specs.First_turns.{first_of, first_turns, some_turns};
 ghost use Rattle.gq_traces.specs.Trace.{after_act, after_all, after_turn, after_turns, start_traced};
 ghost use Rattle.gq_traces.specs.internal.Follows.{Follows, IsAt, IsFollowed};
 
-use crate::alone::steps_alone;
+use crate::alone_steps::steps_alone;
 use crate::noted::counted;
-use crate::numbered::{Numbered, all_numbered};
+use crate::numbered_program::{NumberedProgram, all_numbered};
 use crate::tracker::{Ahead, first_aheads, go_on, next_due};
 use arrayvec::ArrayVec;
 use gq_init::{TurnItem, turns_given};
@@ -21,12 +21,12 @@ use std::alloc::{AllocError, Global};
 /// The programs of a world, and where all leaves stand in them.
 #[derive(Drop)]
 pub(crate) struct Followed {
-    pub programs: Vec<Numbered>,
+    pub programs: Vec<NumberedProgram>,
     pub aheads: Vec<Ahead>,
 }
 
 impl Followed {
-    /// At the start of a world. Refused only for want of host memory.
+    /// At the start of a world. Refused only if the host refuses memory.
     pub(crate) fn new(alloc: Global, world: &World) -> Result<Followed, AllocError>
         requires { world.now.world ≡ start (system world.now.scenario) }
         ensures followed { IfOk result (λ f. IsFollowed f world.now) }
@@ -38,7 +38,7 @@ impl Followed {
     }
 }
 
-// One turn of a leaf. It takes no host memory.
+// One turn of a leaf. It allocates no host memory.
 fn take_turn(world: &mut World, followed: &mut Followed, leaf: LeafNo)
     requires leaf { leaf < length (components world.old.scenario) }
     requires followed { IsFollowed followed.old world.old }
@@ -82,7 +82,7 @@ fn take_some(world: &mut World, followed: &mut Followed, leaf: LeafNo, most: u32
     alone + 1
 }
 
-// So many turns of a leaf. They take no host memory.
+// So many turns of a leaf. They allocate no host memory.
 fn take_turns(world: &mut World, followed: &mut Followed, leaf: LeafNo, count: u32)
     requires leaf { leaf < length (components world.old.scenario) }
     requires followed { IsFollowed followed.old world.old }
@@ -94,7 +94,7 @@ fn take_turns(world: &mut World, followed: &mut Followed, leaf: LeafNo, count: u
     }
 }
 
-// What a leaf is given: turns, or another value of an input. It takes no host memory.
+// What a leaf is given: turns, or another value of an input. It allocates no host memory.
 fn take_act(world: &mut World, followed: &mut Followed, leaf: LeafNo, act: Act)
     requires leaf { leaf < length (components world.old.scenario) }
     requires followed { IsFollowed followed.old world.old }
@@ -118,7 +118,7 @@ fn first_of(act: Act, left: u32) -> Act
     }
 }
 
-// The first so many turns of a list, and the settings before the last of them. They take no host memory.
+// The first so many turns of a list, and the settings before the last of them. They allocate no host memory.
 fn take_most(world: &mut World, followed: &mut Followed, turns: &[TurnItem], most: u32)
     requires leaves { AreBelow (length (components world.old.scenario)) turns.now }
     requires followed { IsFollowed followed.old world.old }
@@ -132,7 +132,7 @@ fn take_most(world: &mut World, followed: &mut Followed, turns: &[TurnItem], mos
     }
 }
 
-/// The turns of a list: the first so many with the settings before the last of them, or without a number all. They take no host memory.
+/// The turns of a list: the first so many with the settings before the last of them, or without a number all. They allocate no host memory.
 pub(crate) fn take_first(
     world: &mut World,
     followed: &mut Followed,
@@ -149,7 +149,7 @@ pub(crate) fn take_first(
     }
 }
 
-/// All turns and settings of a list. They take no host memory.
+/// All turns and settings of a list. They allocate no host memory.
 pub(crate) fn take_all(world: &mut World, followed: &mut Followed, turns: &[TurnItem])
     requires leaves { AreBelow (length (components world.old.scenario)) turns.now }
     requires followed { IsFollowed followed.old world.old }

@@ -2,37 +2,40 @@
 ghost use Rattle.std.specs.Prelude.{◌≡◌, ◌<◌, ◌≤◌, ◌+◌, ◌*◌, ◌++◌, ◌∷◌, [], IfSome, Some, length, slice_get, codes, decimal};
 ghost use Rattle.gq_tariff.specs.Prices.{class_size, classes};
 ghost use Rattle.gq_heap.specs.Classes.{index_of};
-ghost use Rattle.gq_model.specs.machine.Prices.{chunks, price_pool};
+ghost use Rattle.gq_model.specs.machine.Resource_prices.{chunks, price_pool};
 ghost use Rattle.gq_model.specs.machine.Scenario.{components, system};
 ghost use Rattle.gq_model.specs.machine.World as world;
-ghost use Rattle.gq_scenario.specs.Trees.{version_number};
-ghost use Rattle.gq_trade.specs.Seen.{spot_seen};
-ghost use Rattle.gq_machine.specs.Readers.{HasSpot, IsToldOf};
+ghost use Rattle.gq_scenario.specs.Component_trees.{version_number};
+ghost use Rattle.gq_trade.specs.Seen_sessions.{slot_id_seen};
+ghost use Rattle.gq_machine.specs.Readers.{HasSlotId, IsReportedOf};
 ghost use Rattle.gq_views.specs.Listing.{indent, line, place_text};
-ghost use Rattle.gq_traces.specs.State.{amount_by, bank_items, depth_of, form_text, items_text, lent_items, place_items, places_items, price, received_items};
-ghost use Rattle.gq_traces.specs.State.{service_text, session_items, sessions_items, slot_items, slots_items};
+ghost use Rattle.gq_traces.specs.Account_state.{amount_by, bank_items, depth_of, form_text, items_text, lent_items, place_items, places_items, price};
+ghost use Rattle.gq_traces.specs.Account_state.{received_items};
+ghost use Rattle.gq_traces.specs.Account_state.{service_text, session_items, sessions_items, slot_items, slots_items};
 ghost use Rattle.gq_traces.specs.declared.items.Bank.TheVariants as bank;
 ghost use Rattle.gq_traces.specs.Trace.{amount_text, leaf_label, requested_text};
-ghost use Rattle.gq_traces.specs.internal.Items.{HasBank, IsStanding, Tells_items, bank_place, bank_size, bank_slots, bank_spot, holding_items};
+ghost use Rattle.gq_traces.specs.internal.Slot_items.{HasBank, IsStanding, Prints_items, bank_place, bank_size, bank_slots, bank_slot_id, holding_items};
 ghost use Rattle.gq_traces.specs.internal.Noted.{IsKnown, service_at};
-ghost use Rattle.gq_traces.specs.internal.Telling.{Goes};
+ghost use Rattle.gq_traces.specs.internal.Printed_steps.{Goes};
 
-use crate::sessions::{ToldSession, extend_request, leaf_label, service_name, told_session};
-use crate::telling::write_on;
-use crate::words::{Line, extend, extend_amount, extend_entry, extend_number};
+use crate::line_parts::{Line, extend, extend_amount, extend_entry, extend_number};
+use crate::session_lines::{
+    PrintedSession, extend_request, leaf_label, printed_session, service_name,
+};
+use crate::step_output::write_on;
 use arrayvec::ArrayVec;
 use gq_init::NodeTable;
 use gq_init::counted::Counted;
 use gq_machine::machine::Machine;
-use gq_machine::told::{Holding, SessionState};
+use gq_machine::world_reads::{Holding, SessionState};
 use gq_model::limits::{OWN_SLOTS, SESSION_SLOTS};
-use gq_model::program::{Form, Place};
+use gq_model::program::{Form, OperandSlot};
 use gq_scenario::scenario::{LeafNo, Version};
 use gq_tariff::{
     Amount, Class, Held, price_block, price_caps, price_class, price_pool_table, price_slice,
     round_up,
 };
-use gq_trade::Spot;
+use gq_trade::SlotId;
 use std::io::Write;
 
 /// Slots that stand one after the other: those of a leaf's own, or those of a session.
@@ -55,22 +58,22 @@ impl Bank {
     }
 
     // Where one of them stands.
-    fn spot(self, slot: u8) -> Spot
-        ensures { result ≡ bank_spot self slot }
+    fn slot_id(self, slot: u8) -> SlotId
+        ensures { result ≡ bank_slot_id self slot }
     {
         match self {
-            Bank::OfLeaf(leaf) => Spot::InLeaf(leaf, slot),
-            Bank::OfSession(session) => Spot::InSession(session, slot),
+            Bank::OfLeaf(leaf) => SlotId::InLeaf(leaf, slot),
+            Bank::OfSession(session) => SlotId::InSession(session, slot),
         }
     }
 
     // What one of them is called.
-    fn place(self, slot: u8) -> Place
+    fn place(self, slot: u8) -> OperandSlot
         ensures { result ≡ bank_place self slot }
     {
         match self {
-            Bank::OfLeaf(_) => Place::Own(slot),
-            Bank::OfSession(_) => Place::Shared(slot),
+            Bank::OfLeaf(_) => OperandSlot::Own(slot),
+            Bank::OfSession(_) => OperandSlot::Shared(slot),
         }
     }
 }
@@ -78,13 +81,13 @@ impl Bank {
 // LINES
 
 // The blanks before the line of a slot.
-fn indent_of(place: Place) -> &'static [u8]
+fn indent_of(place: OperandSlot) -> &'static [u8]
     ensures blanks { result.now ≡ indent (depth_of place) }
     ensures few { length result.now ≤ 4 }
 {
     match place {
-        Place::Own(_) => b"  ",
-        Place::Shared(_) | Place::Object => b"    ",
+        OperandSlot::Own(_) => b"  ",
+        OperandSlot::Shared(_) | OperandSlot::Object => b"    ",
     }
 }
 
@@ -103,7 +106,7 @@ fn amount_line(version: Version, blanks: &[u8], word: &[u8], amount: Amount, res
     line
 }
 
-/// Writes a line of a word and an amount, behind blanks and before the rest, where no write has failed. It tells whether none has failed yet.
+/// Writes a line of a word and an amount, behind blanks and before the rest, where no write has failed. It returns whether none has failed yet.
 pub(crate) fn write_amount<W: Write>(
     table: &NodeTable,
     blanks: &[u8],
@@ -123,21 +126,21 @@ pub(crate) fn write_amount<W: Write>(
 }
 
 // Puts the name of a slot at the end of a line.
-fn extend_name(line: &mut Line, place: Place)
+fn extend_name(line: &mut Line, place: OperandSlot)
     requires { length line.old.items ≤ 200 }
     ensures bytes { line.new.items ≡ line.old.items ++ place_text place }
     ensures long { length line.new.items ≤ length line.old.items + 23 }
 {
     match place {
-        Place::Own(slot) => {
+        OperandSlot::Own(slot) => {
             extend(line, b"o");
             extend_number(line, u64::from(slot));
         }
-        Place::Shared(slot) => {
+        OperandSlot::Shared(slot) => {
             extend(line, b"s");
             extend_number(line, u64::from(slot));
         }
-        Place::Object => extend(line, b"obj"),
+        OperandSlot::Object => extend(line, b"obj"),
     }
 }
 
@@ -199,8 +202,8 @@ fn pool_price(entries: u32) -> Amount
     }
 }
 
-// What is told of memory behind its price.
-fn memory_rest(place: Place, form: Form, bytes: u32) -> Line
+// What is reported of memory behind its price.
+fn memory_rest(place: OperandSlot, form: Form, bytes: u32) -> Line
     ensures bytes { result.items ≡ codes ": " ++ place_text place ++ form_text form ++ decimal bytes }
     ensures short { length result.items ≤ 60 }
 {
@@ -212,8 +215,8 @@ fn memory_rest(place: Place, form: Form, bytes: u32) -> Line
     line
 }
 
-// What is told of a pool behind its price.
-fn pool_rest(place: Place, size: u32, count: u32) -> Line
+// What is reported of a pool behind its price.
+fn pool_rest(place: OperandSlot, size: u32, count: u32) -> Line
     ensures bytes { result.items ≡ codes ": " ++ place_text place ++ codes " pool " ++ decimal size ++ codes " " ++ decimal count }
     ensures short { length result.items ≤ 90 }
 {
@@ -226,47 +229,47 @@ fn pool_rest(place: Place, size: u32, count: u32) -> Line
     line
 }
 
-// What is told of a session behind what is lent with it.
-fn lent_rest(table: &NodeTable, place: Place, told: &ToldSession) -> Line
-    requires { IsKnown table.now told.now }
-    ensures bytes { result.items ≡ codes " to " ++ leaf_label (system table.now) told.now.server ++ codes ": " ++ place_text place ++ codes " "
-        ++ service_text (service_at table.now told.now.service) told.now.level ++ requested_text told.now.requested }
+// What is reported of a session behind what is lent with it.
+fn lent_rest(table: &NodeTable, place: OperandSlot, reported: &PrintedSession) -> Line
+    requires { IsKnown table.now reported.now }
+    ensures bytes { result.items ≡ codes " to " ++ leaf_label (system table.now) reported.now.server ++ codes ": " ++ place_text place ++ codes " "
+        ++ service_text (service_at table.now reported.now.service) reported.now.level ++ requested_text reported.now.requested }
     ensures short { length result.items ≤ 300 }
 {
     let mut line = ArrayVec::new();
     extend(&mut line, b" to ");
-    extend(&mut line, leaf_label(table, told.server));
+    extend(&mut line, leaf_label(table, reported.server));
     extend(&mut line, b": ");
     extend_name(&mut line, place);
     extend(&mut line, b" ");
-    extend_service(&mut line, table, told.service, told.level);
-    extend_request(&mut line, told.requested);
+    extend_service(&mut line, table, reported.service, reported.level);
+    extend_request(&mut line, reported.requested);
     line
 }
 
-// Tells what is lent with a session, if it is there, that this slot leads to or waits for.
+// Reports what is lent with a session, if it is there, that this slot leads to or waits for.
 fn write_lent<W: Write>(
     machine: &Machine,
-    place: Place,
+    place: OperandSlot,
     session: usize,
     going: bool,
     out: &mut Counted<W>,
 ) -> bool
     requires { length machine.now.world.leaves ≡ length (components machine.now.scenario) }
-    ensures { Tells_items W.contents out.old out.new going result machine.now
+    ensures { Prints_items W.contents out.old out.new going result machine.now
         (lent_items (system machine.now.scenario) machine.now.world place session (world.session_at machine.now.world session)) }
 {
     let table = machine.table();
-    match told_session(machine, session) {
+    match printed_session(machine, session) {
         None => going,
-        Some(told) => {
-            let rest = lent_rest(table, place, &told);
+        Some(reported) => {
+            let rest = lent_rest(table, place, &reported);
             let blanks = indent_of(place);
             write_amount(
                 table,
                 blanks,
                 b"lends",
-                told.donation,
+                reported.donation,
                 rest.as_slice(),
                 going,
                 out,
@@ -275,16 +278,16 @@ fn write_lent<W: Write>(
     }
 }
 
-// Tells what a slot holds or lends, by what is read of it.
+// Reports what a slot holds or lends, by what is read of it.
 fn write_holding<W: Write>(
     machine: &Machine,
-    place: Place,
+    place: OperandSlot,
     holding: Holding,
     going: bool,
     out: &mut Counted<W>,
 ) -> bool
     requires { length machine.now.world.leaves ≡ length (components machine.now.scenario) }
-    ensures { Tells_items W.contents out.old out.new going result machine.now
+    ensures { Prints_items W.contents out.old out.new going result machine.now
         (holding_items (system machine.now.scenario) machine.now.world place holding) }
 {
     let table = machine.table();
@@ -305,24 +308,24 @@ fn write_holding<W: Write>(
     }
 }
 
-// Tells what a slot holds or lends.
+// Reports what a slot holds or lends.
 fn write_slot<W: Write>(
     machine: &Machine,
-    place: Place,
-    spot: Spot,
+    place: OperandSlot,
+    slot_id: SlotId,
     going: bool,
     out: &mut Counted<W>,
 ) -> bool
-    requires spot { HasSpot machine.now spot }
+    requires slot_id { HasSlotId machine.now slot_id }
     requires leaves { length machine.now.world.leaves ≡ length (components machine.now.scenario) }
-    ensures { IfSome (world.slot_at machine.now.world (spot_seen spot)) (λ slot. Tells_items W.contents out.old out.new going result machine.now
+    ensures { IfSome (world.slot_at machine.now.world (slot_id_seen slot_id)) (λ slot. Prints_items W.contents out.old out.new going result machine.now
         (slot_items (system machine.now.scenario) machine.now.world place slot)) }
 {
-    let holding = machine.holding(spot);
+    let holding = machine.holding(slot_id);
     write_holding(machine, place, holding, going, out)
 }
 
-/// Tells what slots that stand one after the other hold or lend.
+/// Reports what slots that stand one after the other hold or lend.
 pub(crate) fn write_slots<W: Write>(
     machine: &Machine,
     bank: Bank,
@@ -331,14 +334,14 @@ pub(crate) fn write_slots<W: Write>(
 ) -> bool
     requires bank { HasBank machine.now bank }
     requires leaves { length machine.now.world.leaves ≡ length (components machine.now.scenario) }
-    ensures { IfSome (bank_slots machine.now.world bank) (λ slots. Tells_items W.contents out.old out.new going result machine.now
+    ensures { IfSome (bank_slots machine.now.world bank) (λ slots. Prints_items W.contents out.old out.new going result machine.now
         (slots_items (system machine.now.scenario) machine.now.world (bank_place bank) 0 slots)) }
 {
     let mut going = going;
     for slot in 0..bank.count() {
-        let spot = bank.spot(slot as u8);
+        let slot_id = bank.slot_id(slot as u8);
         let place = bank.place(slot as u8);
-        going = write_slot(machine, place, spot, going, out);
+        going = write_slot(machine, place, slot_id, going, out);
     }
     going
 }
@@ -374,7 +377,7 @@ fn places_price(class: Class, places: u32) -> Amount
     }
 }
 
-// What is told of places behind their price.
+// What is reported of places behind their price.
 fn places_rest(class: Class, places: u32) -> Line
     ensures bytes { result.items ≡ codes ": " ++ decimal places ++ codes " places of " ++ decimal (class_size class) }
     ensures short { length result.items ≤ 60 }
@@ -386,7 +389,7 @@ fn places_rest(class: Class, places: u32) -> Line
     line
 }
 
-// Tells the places of a class, of which so many were in use at one time, if any.
+// Reports the places of a class, of which so many were in use at one time, if any.
 fn write_class<W: Write>(
     table: &NodeTable,
     class: Class,
@@ -404,7 +407,7 @@ fn write_class<W: Write>(
     write_amount(table, b"  ", b"holds", price, rest.as_slice(), going, out)
 }
 
-/// Tells the places of each class of which a leaf ever had one in use.
+/// Reports the places of each class of which a leaf ever had one in use.
 pub(crate) fn write_places<W: Write>(
     machine: &Machine,
     leaf: LeafNo,
@@ -413,7 +416,7 @@ pub(crate) fn write_places<W: Write>(
 ) -> bool
     requires leaf { leaf < length (components machine.now.scenario) }
     requires peaks { IfSome (slice_get machine.now.world.leaves leaf) (λ l. length l.peaks ≡ 8) }
-    ensures { IfSome (slice_get machine.now.world.leaves leaf) (λ l. Tells_items W.contents out.old out.new going result machine.now
+    ensures { IfSome (slice_get machine.now.world.leaves leaf) (λ l. Prints_items W.contents out.old out.new going result machine.now
         (places_items classes l.peaks)) }
 {
     let table = machine.table();
@@ -428,7 +431,7 @@ pub(crate) fn write_places<W: Write>(
 
 // SESSIONS
 
-// What is told of a session behind what is received with it.
+// What is reported of a session behind what is received with it.
 fn received_rest(table: &NodeTable, state: &SessionState) -> Line
     requires client { state.now.client < length (components table.now) }
     requires service { state.now.service < length table.now.interfaces }
@@ -444,7 +447,7 @@ fn received_rest(table: &NodeTable, state: &SessionState) -> Line
     line
 }
 
-// Tells what a session's object and slots hold or lend.
+// Reports what a session's object and slots hold or lend.
 fn write_bank<W: Write>(
     machine: &Machine,
     session: usize,
@@ -453,15 +456,15 @@ fn write_bank<W: Write>(
 ) -> bool
     requires bank { HasBank machine.now (bank.OfSession session) }
     requires leaves { length machine.now.world.leaves ≡ length (components machine.now.scenario) }
-    ensures { IfSome (world.session_at machine.now.world session) (λ s. Tells_items W.contents out.old out.new going result machine.now
+    ensures { IfSome (world.session_at machine.now.world session) (λ s. Prints_items W.contents out.old out.new going result machine.now
         (bank_items (system machine.now.scenario) machine.now.world s)) }
 {
-    let object = Spot::InObject(session);
-    let going = write_slot(machine, Place::Object, object, going, out);
+    let object = SlotId::InObject(session);
+    let going = write_slot(machine, OperandSlot::Object, object, going, out);
     write_slots(machine, Bank::OfSession(session), going, out)
 }
 
-// Tells what a leaf receives with a session and holds for it.
+// Reports what a leaf receives with a session and holds for it.
 fn write_received<W: Write>(
     machine: &Machine,
     session: usize,
@@ -469,10 +472,10 @@ fn write_received<W: Write>(
     going: bool,
     out: &mut Counted<W>,
 ) -> bool
-    requires state { IsToldOf machine.now session state.now }
+    requires state { IsReportedOf machine.now session state.now }
     requires bank { HasBank machine.now (bank.OfSession session) }
     requires leaves { length machine.now.world.leaves ≡ length (components machine.now.scenario) }
-    ensures { IfSome (world.session_at machine.now.world session) (λ s. Tells_items W.contents out.old out.new going result machine.now
+    ensures { IfSome (world.session_at machine.now.world session) (λ s. Prints_items W.contents out.old out.new going result machine.now
         (session_items (system machine.now.scenario) machine.now.world s)) }
 {
     let table = machine.table();
@@ -489,7 +492,7 @@ fn write_received<W: Write>(
     write_bank(machine, session, going, out)
 }
 
-// Tells what a leaf receives with a session and holds for it, if the session is there and to that leaf.
+// Reports what a leaf receives with a session and holds for it, if the session is there and to that leaf.
 fn write_session<W: Write>(
     machine: &Machine,
     leaf: LeafNo,
@@ -498,7 +501,7 @@ fn write_session<W: Write>(
     out: &mut Counted<W>,
 ) -> bool
     requires stands { IsStanding machine.now }
-    ensures { Tells_items W.contents out.old out.new going result machine.now
+    ensures { Prints_items W.contents out.old out.new going result machine.now
         (received_items (system machine.now.scenario) machine.now.world leaf (world.session_at machine.now.world session)) }
 {
     match machine.session(session) {
@@ -512,7 +515,7 @@ fn write_session<W: Write>(
     }
 }
 
-/// Tells what a leaf receives with sessions and holds for them, in the order of their numbers.
+/// Reports what a leaf receives with sessions and holds for them, in the order of their numbers.
 pub(crate) fn write_sessions<W: Write>(
     machine: &Machine,
     leaf: LeafNo,
@@ -520,7 +523,7 @@ pub(crate) fn write_sessions<W: Write>(
     out: &mut Counted<W>,
 ) -> bool
     requires stands { IsStanding machine.now }
-    ensures { Tells_items W.contents out.old out.new going result machine.now
+    ensures { Prints_items W.contents out.old out.new going result machine.now
         (sessions_items (system machine.now.scenario) machine.now.world leaf machine.now.world.sessions) }
 {
     let mut going = going;

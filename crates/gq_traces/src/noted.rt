@@ -1,17 +1,17 @@
-// What is noted of a world: how each account stands, and what is told of each session.
+// What is noted of a world: how each account stands, and what is reported of each session.
 ghost use Rattle.std.specs.Prelude.{◌≡◌, ℕ, ◌<◌, ◌≤◌, IfOk, Some, None, get_or, length, map};
 ghost use Rattle.gq_model.specs.machine.Scenario.{components};
 ghost use Rattle.gq_resolve.specs.NodeTables.{node_rows};
 ghost use Rattle.gq_world.specs.Headline.{Standing};
-ghost use Rattle.gq_world.specs.Lines.{all_accounts};
+ghost use Rattle.gq_world.specs.Account_lines.{all_accounts};
 ghost use Rattle.gq_traces.specs.Trace.{same_phase, same_standing, same_using, standing_of, using_of};
-ghost use Rattle.gq_traces.specs.internal.Noted.{AreNoted, CanRenew, IsTold, IsUse, standing_in};
+ghost use Rattle.gq_traces.specs.internal.Noted.{AreNoted, CanRenew, IsReported, IsUse, standing_in};
 
-use crate::sessions::{ToldSession, same_amount, told_session};
-use gq_init::account::{Account, LeafAccount};
+use crate::session_lines::{PrintedSession, printed_session, same_amount};
+use gq_init::account_report::{Account, LeafAccount};
 use gq_machine::machine::Machine;
 use gq_model::phase::Phase;
-use gq_scenario::node::NodeNo;
+use gq_scenario::node_numbers::NodeNo;
 use gq_scenario::scenario::LeafNo;
 use gq_tariff::Amount;
 use gq_world::world::World;
@@ -20,11 +20,11 @@ use std::alloc::{AllocError, Global};
 /// How many sessions there are at most, by their numbers.
 pub(crate) const ROOM: usize = 16449;
 
-/// What is noted of a world: the account of each node, and what is told of each session, with room for all. No call but `new` takes host memory.
+/// What is noted of a world: the account of each node, and what is reported of each session, with room for all. No call but `new` allocates host memory.
 #[derive(Drop)]
-pub(crate) struct Notes {
+pub(crate) struct PrintedState {
     pub accounts: Vec<Account>,
-    pub sessions: Vec<Option<ToldSession>>,
+    pub sessions: Vec<Option<PrintedSession>>,
     // How many numbers of sessions have been used.
     pub count: usize,
 }
@@ -72,7 +72,7 @@ fn first_accounts(alloc: Global, world: &World) -> Result<Vec<Account>, AllocErr
 }
 
 // Room for all sessions, of which nothing is noted.
-fn first_sessions(alloc: Global) -> Result<Vec<Option<ToldSession>>, AllocError>
+fn first_sessions(alloc: Global) -> Result<Vec<Option<PrintedSession>>, AllocError>
     ensures room { IfOk result (λ all. length all.items ≡ 16449) }
     ensures none { IfOk result (λ all. (k : ℕ) → get_or all.items k None ≡ None) }
 {
@@ -131,15 +131,15 @@ pub(crate) fn same_account(a: &Account, b: &Account) -> bool
     }
 }
 
-impl Notes {
-    /// A world is noted. Refused only for want of host memory.
-    pub(crate) fn new(alloc: Global, world: &World) -> Result<Notes, AllocError>
+impl PrintedState {
+    /// A world is noted. Refused only if the host refuses memory.
+    pub(crate) fn new(alloc: Global, world: &World) -> Result<PrintedState, AllocError>
         ensures { IfOk result (λ n. AreNoted world.now.scenario world.now.world n) }
     {
         counted(world);
         let accounts = first_accounts(alloc, world)?;
         let sessions = first_sessions(alloc)?;
-        let mut notes = Notes {
+        let mut notes = PrintedState {
             accounts,
             sessions,
             count: 0,
@@ -148,7 +148,7 @@ impl Notes {
         Ok(notes)
     }
 
-    // Notes a world anew. It takes no host memory.
+    // Notes a world anew. It allocates no host memory.
     fn renew(&mut self, world: &World)
         requires leaves { length world.now.world.leaves ≡ length (components world.now.scenario) }
         requires can { CanRenew world.now self.old }
@@ -177,14 +177,14 @@ impl Notes {
         requires leaves { length world.now.world.leaves ≡ length (components world.now.scenario) }
         requires room { length self.old.sessions.items ≡ 16449 }
         requires few { count ≤ 16449 }
-        ensures told { (k : ℕ) → k < count → IsTold world.now.scenario world.now.world k (get_or self.new.sessions.items k None) }
+        ensures reported { (k : ℕ) → k < count → IsReported world.now.scenario world.now.world k (get_or self.new.sessions.items k None) }
         ensures others { (k : ℕ) → count ≤ k → get_or self.new.sessions.items k None ≡ get_or self.old.sessions.items k None }
         ensures room { length self.new.sessions.items ≡ 16449 }
         ensures accounts { self.new.accounts ≡ self.old.accounts }
         ensures count { self.new.count ≡ self.old.count }
     {
         for session in 0..count {
-            self.sessions[session] = told_session(world.machine(), session);
+            self.sessions[session] = printed_session(world.machine(), session);
         }
     }
 }

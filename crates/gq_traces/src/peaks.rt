@@ -1,26 +1,26 @@
 // The greatest use of each account over a run.
 ghost use Rattle.std.specs.Prelude.{◌≡◌, ◌+◌, ◌++◌, ◌<◌, ◌≤◌, codes, length, true, IfOk, Ok};
-ghost use Rattle.gq_model.specs.machine.Accounts.{entry, told};
+ghost use Rattle.gq_model.specs.machine.Accounts.{entry, reported};
 ghost use Rattle.gq_model.specs.machine.Amounts.{Ram, Caps, counts_caps};
 ghost use Rattle.gq_model.specs.machine.Run.{act_on, run_on, turns_of};
 ghost use Rattle.gq_model.specs.texts.Turns.{turns_given};
 ghost use Rattle.gq_model.specs.machine.Scenario.{components, system};
 ghost use Rattle.gq_model.specs.machine.World.{start};
-ghost use Rattle.gq_init.specs.Counts.{Writes};
-ghost use Rattle.gq_scenario.specs.Trees.{version_number};
-ghost use Rattle.gq_world.specs.Outcomes.{WritesAs};
-ghost use Rattle.gq_world.specs.Worlds.{AreBelow};
-ghost use Rattle.gq_traces.specs.Peaks.{peak_line, peak_lines, peaks_text, quota_in};
-ghost use Rattle.gq_traces.specs.Written.{peaks_from, peaks_written};
+ghost use Rattle.gq_init.specs.Writer_failures.{Writes};
+ghost use Rattle.gq_scenario.specs.Component_trees.{version_number};
+ghost use Rattle.gq_world.specs.Command_outcomes.{WritesAs};
+ghost use Rattle.gq_world.specs.World_between_turns.{AreBelow};
+ghost use Rattle.gq_traces.specs.Account_peaks.{peak_line, peak_lines, peaks_text, quota_in};
+ghost use Rattle.gq_traces.specs.Traces_written.{peaks_from, peaks_written};
 ghost use Rattle.gq_traces.specs.internal.Peaking.{AllNow, ArePeaksNow, AreRaised, HasAct, HasAll, HasTurns, IsRaised, Peaked, higher};
-ghost use Rattle.gq_traces.specs.internal.Telling.{Goes};
+ghost use Rattle.gq_traces.specs.internal.Printed_steps.{Goes};
 ghost use Rattle.gq_traces.specs.First_turns.{turns_in};
 
+use crate::line_parts::{Line, extend, extend_entry};
 use crate::noted::{counted, use_of};
-use crate::sessions::label_of;
-use crate::telling::write_on;
+use crate::session_lines::label_of;
+use crate::step_output::write_on;
 use crate::trace::turns_of;
-use crate::words::{Line, extend, extend_entry};
 use arrayvec::ArrayVec;
 use gq_init::TurnItem;
 use gq_init::counted::{Counted, WriteFault};
@@ -117,7 +117,7 @@ fn raised(machine: &Machine, leaf: LeafNo, old: LeafPeaks, turn: u32) -> LeafPea
 
 // ALL LEAVES
 
-// What all leaves use at the start. Refused only for want of host memory.
+// What all leaves use at the start. Refused only if the host refuses memory.
 fn first_peaks(alloc: Global, world: &World) -> Result<Vec<LeafPeaks>, AllocError>
     ensures long { IfOk result (λ all. length all.items ≡ length (components world.now.scenario)) }
     ensures now { IfOk result (λ all. AllNow world.now.scenario world.now.world 0 all.items) }
@@ -131,7 +131,7 @@ fn first_peaks(alloc: Global, world: &World) -> Result<Vec<LeafPeaks>, AllocErro
     Ok(peaks)
 }
 
-// The greatest uses of all leaves so far, by what they use after so many turns. It takes no host memory.
+// The greatest uses of all leaves so far, by what they use after so many turns. It allocates no host memory.
 fn raise(world: &World, peaks: &mut [LeafPeaks], turn: u32)
     requires { length peaks.old ≡ length (components world.now.scenario) }
     ensures { AreRaised world.now.scenario world.now.world turn peaks.old peaks.new }
@@ -146,7 +146,7 @@ fn raise(world: &World, peaks: &mut [LeafPeaks], turn: u32)
 // TURNS
 
 // Turns of a leaf, at least one and at most so many, behind so many others: those that it takes alone, which change no account, and one more. It returns how
-// many there were. They take no host memory.
+// many there were. They allocate no host memory.
 #[inline(always)]
 fn take_some(world: &mut World, peaks: &mut [LeafPeaks], leaf: LeafNo, turns: u32, most: u32) -> u32
     requires leaf { leaf < length (components world.old.scenario) }
@@ -169,7 +169,7 @@ fn take_some(world: &mut World, peaks: &mut [LeafPeaks], leaf: LeafNo, turns: u3
     taken
 }
 
-// So many turns of a leaf behind so many others. They take no host memory.
+// So many turns of a leaf behind so many others. They allocate no host memory.
 fn take_turns(world: &mut World, peaks: &mut [LeafPeaks], leaf: LeafNo, turns: u32, count: u32)
     requires leaf { leaf < length (components world.old.scenario) }
     requires few { turns + count ≤ 1000000 }
@@ -183,7 +183,7 @@ fn take_turns(world: &mut World, peaks: &mut [LeafPeaks], leaf: LeafNo, turns: u
     }
 }
 
-// What a leaf is given behind so many turns: turns, or another value of an input. It takes no host memory.
+// What a leaf is given behind so many turns: turns, or another value of an input. It allocates no host memory.
 fn take_act(world: &mut World, peaks: &mut [LeafPeaks], leaf: LeafNo, turns: u32, act: Act)
     requires leaf { leaf < length (components world.old.scenario) }
     requires few { turns + turns_given act ≤ 1000000 }
@@ -199,7 +199,7 @@ fn take_act(world: &mut World, peaks: &mut [LeafPeaks], leaf: LeafNo, turns: u32
     }
 }
 
-// All turns and settings of a list, from the start. They take no host memory.
+// All turns and settings of a list, from the start. They allocate no host memory.
 fn take_all(world: &mut World, peaks: &mut [LeafPeaks], turns: &[TurnItem])
     requires leaves { AreBelow (length (components world.old.scenario)) turns.now }
     requires few { turns_in turns.now ≤ 1000000 }
@@ -230,7 +230,7 @@ fn extend_ram(line: &mut Line, peak: Peak)
 // Puts the greatest use of capabilities at the end of a line, where they are counted.
 fn extend_caps(line: &mut Line, version: Version, peak: Peak)
     requires { length line.old.items + 79 ≤ 400 }
-    ensures bytes { line.new.items ≡ line.old.items ++ told (version_number version)
+    ensures bytes { line.new.items ≡ line.old.items ++ reported (version_number version)
         (entry (codes "caps") peak.quota ++ entry (codes "taken") peak.used ++ entry (codes "turn") peak.turn) }
     ensures long { length line.new.items ≤ length line.old.items + 79 }
 {
@@ -255,7 +255,7 @@ fn peak_line(version: Version, label: &[u8], peaks: LeafPeaks) -> Line
     line
 }
 
-// Writes the lines of all leaves in preorder. It takes no host memory.
+// Writes the lines of all leaves in preorder. It allocates no host memory.
 fn write_lines<W: Write>(world: &World, peaks: &[LeafPeaks], out: &mut Counted<W>) -> bool
     requires { length peaks.now ≡ length (components world.now.scenario) }
     ensures { Goes W.contents out.old out.new true result (peak_lines world.now.scenario.version (components world.now.scenario) peaks.now) }
@@ -271,7 +271,7 @@ fn write_lines<W: Write>(world: &World, peaks: &[LeafPeaks], out: &mut Counted<W
     going
 }
 
-// Takes the turns and settings of a list from the start of a world, and writes the greatest uses over them. It takes no host memory.
+// Takes the turns and settings of a list from the start of a world, and writes the greatest uses over them. It allocates no host memory.
 fn write_peaks<W: Write>(
     world: &mut World,
     peaks: &mut [LeafPeaks],

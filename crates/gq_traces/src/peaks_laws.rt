@@ -1,7 +1,7 @@
 // Laws of the greatest use of each account.
 ghost use Rattle.std.specs.Prelude.{◌≡◌, ℕ, List, Ok};
 ghost use Rattle.gq_traces.specs.Greatest.{ShowsPeaks};
-ghost use Rattle.gq_traces.specs.Written.{peaks_written};
+ghost use Rattle.gq_traces.specs.Traces_written.{peaks_written};
 
 /// What holds of whatever `peaks` writes, for any text of a scenario and any text of turns. It does nothing.
 ///

@@ -3,15 +3,15 @@ ghost use Rattle.std.specs.Prelude.{◌≡◌, ◌+◌, ◌<◌, ◌≤◌, ◌�
 ghost use Rattle.gq_model.specs.machine.Scenario.{components, system};
 ghost use Rattle.gq_model.specs.machine.World.{start};
 ghost use Rattle.gq_model.specs.texts.Turns.{greatest_turns};
-ghost use Rattle.gq_laws.specs.Turns.{can_run};
-ghost use Rattle.gq_init.specs.Counts.{Writes};
-ghost use Rattle.gq_traces.specs.Schedule.{round, scheduled, some_can, told_turns, turn_line, while_can};
+ghost use Rattle.gq_laws.specs.Turn_effects.{can_run};
+ghost use Rattle.gq_init.specs.Writer_failures.{Writes};
+ghost use Rattle.gq_traces.specs.Schedule.{round, scheduled, some_can, reported_turns, turn_line, while_can};
 ghost use Rattle.gq_traces.specs.internal.Takes.{TakesTurn, turns_text};
 
 use arrayvec::ArrayVec;
 use gq_init::NodeTable;
 use gq_init::counted::{Counted, WriteFault, put};
-use gq_laws::turns::turn_laws;
+use gq_laws::turn_step_laws::turn_laws;
 use gq_model::limits::GREATEST_TURNS;
 use gq_model::phase::Phase;
 use gq_scenario::scenario::LeafNo;
@@ -36,7 +36,7 @@ pub(crate) fn can_take(world: &World, leaf: LeafNo) -> bool
     }
 }
 
-// A turn of a leaf, if it can take one; else nothing is done. It tells whether it was taken. What it says is not told.
+// A turn of a leaf, if it can take one; else nothing is done. It returns whether it was taken. What it says is not reported.
 fn take_turn(world: &mut World, leaf: LeafNo) -> bool
     requires leaf { leaf < length (components world.old.scenario) }
     requires running { world.old.stopped ≡ false }
@@ -107,7 +107,7 @@ pub(crate) fn write_taken<W: Write>(
 ) -> Result<(), WriteFault>
     requires leaf { leaf < length (components world.now.scenario) }
     requires count { count ≤ greatest_turns }
-    ensures { Writes W.contents out.old out.new (turns_text (components world.now.scenario) (told_turns leaf count)) result }
+    ensures { Writes W.contents out.old out.new (turns_text (components world.now.scenario) (reported_turns leaf count)) result }
 {
     if count == 0 {
         return Ok(());
@@ -116,7 +116,7 @@ pub(crate) fn write_taken<W: Write>(
     put(out, line.as_slice())
 }
 
-// A round: each leaf in turn takes as many turns as it can, of at most so many together, and its line is written. It tells how many more may be taken.
+// A round: each leaf in turn takes as many turns as it can, of at most so many together, and its line is written. It returns how many more may be taken.
 fn write_round<W: Write>(
     world: &mut World,
     most: u32,

@@ -1,11 +1,11 @@
 // Laws of what accounts are made of.
 ghost use Rattle.std.specs.Prelude.{◌≡◌, ℕ, List, Ok, Option};
 ghost use Rattle.gq_traces.specs.Made_of.{ShowsSums};
-ghost use Rattle.gq_traces.specs.Written.{state_written};
+ghost use Rattle.gq_traces.specs.Traces_written.{state_written};
 
-use gq_laws::accepted::accepted_laws;
+use gq_laws::accepted_runs::accepted_laws;
 use gq_laws::reached::reached_laws;
-use gq_laws::turns::turn_laws;
+use gq_laws::turn_step_laws::turn_laws;
 use gq_load::loaded::loaded_laws;
 
 /// What holds of whatever `state` writes, for any text of a scenario and any text of turns. It does nothing.

@@ -1,27 +1,27 @@
-// What each turn of a run did and what was set, told.
+// What each turn of a run did and what was set, reported.
 ghost use Rattle.std.specs.Prelude.{◌≡◌, ◌+◌, ◌<◌, ◌≤◌, ◌++◌, true, false, codes, decimal, length, Ok, IfOk, IfErr};
 ghost use Rattle.gq_model.specs.machine.Scenario.{components, system};
 ghost use Rattle.gq_model.specs.machine.World.{start};
-ghost use Rattle.gq_world.specs.Outcomes.{WritesAs};
-ghost use Rattle.gq_world.specs.Worlds as worlds;
-ghost use Rattle.gq_world.specs.Worlds.{AreBelow};
+ghost use Rattle.gq_world.specs.Command_outcomes.{WritesAs};
+ghost use Rattle.gq_world.specs.World_between_turns as worlds;
+ghost use Rattle.gq_world.specs.World_between_turns.{AreBelow};
 ghost use Rattle.gq_traces.specs.Trace.{act_text, after_act, after_all, after_turn, after_turns, all_text, start_traced, trace_text, turn_text};
 ghost use Rattle.gq_traces.specs.Trace.{turns_text};
-ghost use Rattle.gq_traces.specs.Written.{tells_all, trace_from, trace_written};
+ghost use Rattle.gq_traces.specs.Traces_written.{prints_all, trace_from, trace_written};
 ghost use Rattle.gq_traces.specs.internal.Noted.{IsUse};
-ghost use Rattle.gq_traces.specs.internal.Telling.{CanTrace, Goes, IsOn, IsOwnTaken, IsSilent, IsTurnsFault, TellsTurns, budgets_of, takes_own};
+ghost use Rattle.gq_traces.specs.internal.Printed_steps.{CanTrace, Goes, IsOn, IsOwnTaken, IsSilent, IsTurnsFault, PrintsTurns, budgets_of, takes_own};
 ghost use Rattle.gq_traces.specs.First_turns.{turns_in};
 ghost use Rattle.gq_model.specs.texts.Turns.{turns_given};
 ghost use Rattle.gq_model.specs.texts.Turns.{turned};
 
-use crate::alone::steps_alone;
-use crate::noted::{Notes, Use, counted, use_of};
-use crate::numbered::{Numbered, all_numbered};
-use crate::settings::tell_setting;
-use crate::steps::{Head, Taken, is_silent, tell_step, tell_taken};
-use crate::telling::{Progress, Telling, write_on};
+use crate::alone_steps::steps_alone;
+use crate::line_parts::{extend, extend_entry};
+use crate::noted::{PrintedState, Use, counted, use_of};
+use crate::numbered_program::{NumberedProgram, all_numbered};
+use crate::setting_lines::print_setting;
+use crate::step_lines::{Head, Taken, is_silent, print_step, print_taken};
+use crate::step_output::{Progress, Reporting, write_on};
 use crate::tracker::{Ahead, due_in, first_aheads, go_on, next_due, pass_by, section_of};
-use crate::words::{extend, extend_entry};
 use arrayvec::ArrayVec;
 use gq_init::TurnItem;
 use gq_init::counted::Counted;
@@ -39,9 +39,9 @@ use std::io::Write;
 // A trace on the way: the programs, where all leaves stand in them, and what is noted of the world.
 #[derive(Drop)]
 pub(crate) struct Tracing {
-    programs: Vec<Numbered>,
+    programs: Vec<NumberedProgram>,
     aheads: Vec<Ahead>,
-    notes: Notes,
+    notes: PrintedState,
 }
 
 // A step of its own that a leaf took in the turn after so many, in this section and with this top operand, and what was read of it.
@@ -55,7 +55,7 @@ struct Own {
 }
 
 impl Tracing {
-    // At the start of a world. Refused only for want of host memory.
+    // At the start of a world. Refused only if the host refuses memory.
     fn new(alloc: Global, world: &World) -> Result<Tracing, AllocError>
         requires { world.now.world ≡ start (system world.now.scenario) }
         ensures can { IfOk result (λ t. CanTrace world.now t) }
@@ -63,7 +63,7 @@ impl Tracing {
     {
         let programs = all_numbered(alloc, world.table())?;
         let aheads = first_aheads(alloc, programs.as_slice())?;
-        let notes = Notes::new(alloc, world)?;
+        let notes = PrintedState::new(alloc, world)?;
         Ok(Tracing {
             programs,
             aheads,
@@ -72,12 +72,12 @@ impl Tracing {
     }
 }
 
-// One turn of a leaf, before which there were so many, told if it is a step. It takes no host memory.
+// One turn of a leaf, before which there were so many, reported if it is a step. It allocates no host memory.
 #[inline(never)]
-fn tell_any<W: Write>(
+fn print_any<W: Write>(
     world: &mut World,
     tracing: &mut Tracing,
-    telling: Telling,
+    reporting: Reporting,
     turns: u32,
     leaf: LeafNo,
     going: bool,
@@ -86,7 +86,7 @@ fn tell_any<W: Write>(
     requires leaf { leaf < length (components world.old.scenario) }
     requires few { turns < 1000000 }
     requires can { CanTrace world.old tracing.old }
-    ensures { TellsTurns W.contents (turn_text (tells_all telling) world.old.scenario (budgets_of world.old.scenario) leaf)
+    ensures { PrintsTurns W.contents (turn_text (prints_all reporting) world.old.scenario (budgets_of world.old.scenario) leaf)
         (after_turn (system world.old.scenario) leaf) turns 1 world.old world.new tracing.old tracing.new out.old out.new going result }
 {
     counted(world);
@@ -106,12 +106,12 @@ fn tell_any<W: Write>(
         leaf,
         due,
     };
-    tell_step(world, &mut tracing.notes, &head, telling, going, out)
+    print_step(world, &mut tracing.notes, &head, reporting, going, out)
 }
 
-// Tells a step of its own that a leaf took, where changes alone are told. It takes no host memory.
+// Reports a step of its own that a leaf took, where changes alone are reported. It allocates no host memory.
 #[inline(never)]
-fn tell_own<W: Write>(
+fn report_own<W: Write>(
     world: &World,
     tracing: &mut Tracing,
     own: &Own,
@@ -123,7 +123,7 @@ fn tell_own<W: Write>(
     requires few { own.now.turns < 1000000 }
     requires taken { (old : worlds.World) × IsOwnTaken old world.now tracing.old own.now text.now.items }
     ensures { (old : worlds.World) → IsOwnTaken old world.now tracing.old own.now text.now.items
-        → TellsTurns W.contents (turn_text false old.scenario (budgets_of old.scenario) own.now.leaf) (after_turn (system old.scenario) own.now.leaf)
+        → PrintsTurns W.contents (turn_text false old.scenario (budgets_of old.scenario) own.now.leaf) (after_turn (system old.scenario) own.now.leaf)
         own.now.turns 1 old world.now tracing.old tracing.new out.old out.new going result }
 {
     let programs = tracing.programs.as_slice();
@@ -139,7 +139,7 @@ fn tell_own<W: Write>(
         going,
         begun: false,
     };
-    tell_taken(
+    print_taken(
         world,
         &mut tracing.notes,
         &head,
@@ -151,19 +151,19 @@ fn tell_own<W: Write>(
     .going
 }
 
-// Whether changes alone are told, and a leaf in this phase takes steps of its own.
-fn is_short(telling: Telling, phase: Phase) -> bool
-    ensures tells { result ≡ true → tells_all telling ≡ false }
+// Whether changes alone are reported, and a leaf in this phase takes steps of its own.
+fn is_short(reporting: Reporting, phase: Phase) -> bool
+    ensures reports { result ≡ true → prints_all reporting ≡ false }
     ensures own { result ≡ true → takes_own phase ≡ true }
 {
-    match (telling, phase) {
-        (Telling::Changes, Phase::Running | Phase::Handling) => true,
+    match (reporting, phase) {
+        (Reporting::Changes, Phase::Running | Phase::Handling) => true,
         _ => false,
     }
 }
 
-// One turn of a leaf that takes a step of its own, before which there were so many, told if the step changes something. What the
-// leaf holds and does is known before it and after it. It takes no host memory.
+// One turn of a leaf that takes a step of its own, before which there were so many, reported if the step changes something. What the
+// leaf holds and does is known before it and after it. It allocates no host memory.
 #[inline(always)]
 fn own_turn<W: Write>(
     world: &mut World,
@@ -179,7 +179,7 @@ fn own_turn<W: Write>(
     requires can { CanTrace world.old tracing.old }
     requires before { IsUse world.old.scenario world.old.world leaf before.old }
     requires own { takes_own before.old.phase ≡ true }
-    ensures told { TellsTurns W.contents (turn_text false world.old.scenario (budgets_of world.old.scenario) leaf)
+    ensures reported { PrintsTurns W.contents (turn_text false world.old.scenario (budgets_of world.old.scenario) leaf)
         (after_turn (system world.old.scenario) leaf) turns 1 world.old world.new tracing.old tracing.new out.old out.new going result }
     ensures after { IsUse world.new.scenario world.new.world leaf before.new }
 {
@@ -208,16 +208,16 @@ fn own_turn<W: Write>(
         taken,
     };
     *before = after;
-    tell_own(world, tracing, &own, &text, going, out)
+    report_own(world, tracing, &own, &text, going, out)
 }
 
-// One turn of a leaf, before which there were so many, told if it is a step. What the leaf holds and does is known before it and after it.
-// It takes no host memory.
+// One turn of a leaf, before which there were so many, reported if it is a step. What the leaf holds and does is known before it and after it.
+// It allocates no host memory.
 #[inline(always)]
-fn tell_turn<W: Write>(
+fn print_turn<W: Write>(
     world: &mut World,
     tracing: &mut Tracing,
-    telling: Telling,
+    reporting: Reporting,
     turns: u32,
     leaf: LeafNo,
     before: &mut Use,
@@ -228,37 +228,38 @@ fn tell_turn<W: Write>(
     requires few { turns < 1000000 }
     requires can { CanTrace world.old tracing.old }
     requires before { IsUse world.old.scenario world.old.world leaf before.old }
-    ensures told { TellsTurns W.contents (turn_text (tells_all telling) world.old.scenario (budgets_of world.old.scenario) leaf)
+    ensures reported { PrintsTurns W.contents (turn_text (prints_all reporting) world.old.scenario (budgets_of world.old.scenario) leaf)
         (after_turn (system world.old.scenario) leaf) turns 1 world.old world.new tracing.old tracing.new out.old out.new going result }
     ensures after { IsUse world.new.scenario world.new.world leaf before.new }
 {
-    if is_short(telling, before.phase) {
+    if is_short(reporting, before.phase) {
         return own_turn(world, tracing, turns, leaf, before, going, out);
     }
-    let going = tell_any(world, tracing, telling, turns, leaf, going, out);
+    let going = print_any(world, tracing, reporting, turns, leaf, going, out);
     counted(world);
     *before = use_of(world.machine(), leaf);
     going
 }
 
-// Turns of a leaf of which nothing is told, at most so many: where changes alone are told, those that it takes alone from where it stands. It tells how many.
-// They take no host memory.
+// Turns of a leaf of which nothing is reported, at most so many: where changes alone are reported, those that it takes alone from where it stands. It returns
+// how many.
+// They allocate no host memory.
 #[inline(always)]
 fn silent_turns(
     world: &mut World,
     tracing: &mut Tracing,
-    telling: Telling,
+    reporting: Reporting,
     leaf: LeafNo,
     most: u32,
 ) -> u32
     requires leaf { leaf < length (components world.old.scenario) }
     requires can { CanTrace world.old tracing.old }
     ensures few { result ≤ most }
-    ensures silent { IsSilent (tells_all telling) leaf result world.old world.new tracing.old tracing.new }
+    ensures silent { IsSilent (prints_all reporting) leaf result world.old world.new tracing.old tracing.new }
 {
-    match telling {
-        Telling::All => 0,
-        Telling::Changes => {
+    match reporting {
+        Reporting::All => 0,
+        Reporting::Changes => {
             counted(world);
             steps_alone(
                 world,
@@ -271,13 +272,13 @@ fn silent_turns(
     }
 }
 
-// Turns of a leaf, at least one and at most so many, before which there were so many of all: those of which nothing is told, and one more, which is told if it
-// is a step. What the leaf holds and does is known before them and after them. It returns how many there were. They take no host memory.
+// Turns of a leaf, at least one and at most so many, before which there were so many of all. They are those of which nothing is printed, and one more, which is
+// printed if it is a step. What the leaf holds and does is known before them and after them. It returns how many there were. They allocate no host memory.
 #[inline(always)]
-fn tell_some<W: Write>(
+fn print_some<W: Write>(
     world: &mut World,
     tracing: &mut Tracing,
-    telling: Telling,
+    reporting: Reporting,
     turns: u32,
     leaf: LeafNo,
     most: u32,
@@ -292,18 +293,18 @@ fn tell_some<W: Write>(
     requires before { IsUse world.old.scenario world.old.world leaf before.old }
     ensures some { 0 < result.1 }
     ensures few { result.1 ≤ most }
-    ensures told { TellsTurns W.contents (turns_text (tells_all telling) world.old.scenario (budgets_of world.old.scenario) leaf result.1)
+    ensures reported { PrintsTurns W.contents (turns_text (prints_all reporting) world.old.scenario (budgets_of world.old.scenario) leaf result.1)
         (after_turns (system world.old.scenario) leaf result.1) turns result.1 world.old world.new tracing.old tracing.new out.old out.new going result.0 }
     ensures after { IsUse world.new.scenario world.new.world leaf before.new }
 {
-    let silent = silent_turns(world, tracing, telling, leaf, most);
+    let silent = silent_turns(world, tracing, reporting, leaf, most);
     if silent == most {
         return (going, silent);
     }
-    let going = tell_turn(
+    let going = print_turn(
         world,
         tracing,
-        telling,
+        reporting,
         turns + silent,
         leaf,
         before,
@@ -313,11 +314,11 @@ fn tell_some<W: Write>(
     (going, silent + 1)
 }
 
-// So many turns of a leaf, before which there were so many of all. They take no host memory.
-fn tell_turns<W: Write>(
+// So many turns of a leaf, before which there were so many of all. They allocate no host memory.
+fn report_turns<W: Write>(
     world: &mut World,
     tracing: &mut Tracing,
-    telling: Telling,
+    reporting: Reporting,
     turns: u32,
     leaf: LeafNo,
     count: u32,
@@ -327,7 +328,7 @@ fn tell_turns<W: Write>(
     requires leaf { leaf < length (components world.old.scenario) }
     requires few { turns + count ≤ 1000000 }
     requires can { CanTrace world.old tracing.old }
-    ensures { TellsTurns W.contents (turns_text (tells_all telling) world.old.scenario (budgets_of world.old.scenario) leaf count)
+    ensures { PrintsTurns W.contents (turns_text (prints_all reporting) world.old.scenario (budgets_of world.old.scenario) leaf count)
         (after_turns (system world.old.scenario) leaf count) turns count world.old world.new tracing.old tracing.new out.old out.new going result }
 {
     counted(world);
@@ -335,10 +336,10 @@ fn tell_turns<W: Write>(
     let mut before = use_of(world.machine(), leaf);
     let mut done = 0;
     while done < count {
-        let (goes, more) = tell_some(
+        let (goes, more) = print_some(
             world,
             tracing,
-            telling,
+            reporting,
             turns + done,
             leaf,
             count - done,
@@ -352,11 +353,11 @@ fn tell_turns<W: Write>(
     going
 }
 
-// What a leaf is given, before which there were so many turns of all: turns, or another value of an input. It takes no host memory.
-fn tell_act<W: Write>(
+// What a leaf is given, before which there were so many turns of all: turns, or another value of an input. It allocates no host memory.
+fn print_act<W: Write>(
     world: &mut World,
     tracing: &mut Tracing,
-    telling: Telling,
+    reporting: Reporting,
     turns: u32,
     item: &TurnItem,
     going: bool,
@@ -365,24 +366,26 @@ fn tell_act<W: Write>(
     requires leaf { item.now.0 < length (components world.old.scenario) }
     requires few { turns + turns_given item.now.1 ≤ 1000000 }
     requires can { CanTrace world.old tracing.old }
-    ensures { TellsTurns W.contents (act_text (tells_all telling) world.old.scenario (budgets_of world.old.scenario) item.now.0 item.now.1)
+    ensures { PrintsTurns W.contents (act_text (prints_all reporting) world.old.scenario (budgets_of world.old.scenario) item.now.0 item.now.1)
         (after_act (system world.old.scenario) item.now.0 item.now.1) turns (turns_given item.now.1) world.old world.new tracing.old tracing.new
         out.old out.new going result }
 {
     let leaf = item.leaf();
     match item.act() {
-        Act::Turns(count) => tell_turns(world, tracing, telling, turns, leaf, count, going, out),
-        Act::Sets(input, number) => tell_setting(
-            world, tracing, telling, leaf, input, number, going, out,
+        Act::Turns(count) => report_turns(
+            world, tracing, reporting, turns, leaf, count, going, out,
+        ),
+        Act::Sets(input, number) => print_setting(
+            world, tracing, reporting, leaf, input, number, going, out,
         ),
     }
 }
 
-// All turns and settings of a list, and how many turns there were. They take no host memory.
-fn tell_all<W: Write>(
+// All turns and settings of a list, and how many turns there were. They allocate no host memory.
+fn report_all<W: Write>(
     world: &mut World,
     tracing: &mut Tracing,
-    telling: Telling,
+    reporting: Reporting,
     turns: &[TurnItem],
     out: &mut Counted<W>,
 ) -> (bool, u32)
@@ -390,13 +393,13 @@ fn tell_all<W: Write>(
     requires few { turns_in turns.now ≤ 1000000 }
     requires can { CanTrace world.old tracing.old }
     ensures count { result.1 ≡ turns_in turns.now }
-    ensures told { TellsTurns W.contents (all_text (tells_all telling) world.old.scenario (budgets_of world.old.scenario) turns.now)
+    ensures reported { PrintsTurns W.contents (all_text (prints_all reporting) world.old.scenario (budgets_of world.old.scenario) turns.now)
         (after_all (system world.old.scenario) turns.now) 0 (turns_in turns.now) world.old world.new tracing.old tracing.new out.old out.new true result.0 }
 {
     let mut going = true;
     let mut taken = 0;
     for item in turns {
-        going = tell_act(world, tracing, telling, taken, item, going, out);
+        going = print_act(world, tracing, reporting, taken, item, going, out);
         taken += item.count();
     }
     (going, taken)
@@ -432,7 +435,7 @@ pub(crate) fn turns_of(
 fn write_trace<W: Write>(
     world: &mut World,
     tracing: &mut Tracing,
-    telling: Telling,
+    reporting: Reporting,
     turns: &[TurnItem],
     out: &mut Counted<W>,
 ) -> Result<(), RunFault<'static>>
@@ -440,9 +443,9 @@ fn write_trace<W: Write>(
     requires few { turns_in turns.now ≤ 1000000 }
     requires can { CanTrace world.old tracing.old }
     requires on { IsOn tracing.old.programs.items tracing.old.aheads.items world.old 0 (start_traced (system world.old.scenario)) }
-    ensures { WritesAs W.contents (Ok (trace_text (tells_all telling) world.old.scenario turns.now)) out.old out.new result }
+    ensures { WritesAs W.contents (Ok (trace_text (prints_all reporting) world.old.scenario turns.now)) out.old out.new result }
 {
-    let (going, taken) = tell_all(world, tracing, telling, turns, out);
+    let (going, taken) = report_all(world, tracing, reporting, turns, out);
     let going = write_end(taken, going, out);
     if !going {
         return Err(RunFault::Write);
@@ -459,16 +462,16 @@ fn trace_world<W: Write>(
     alloc: Global,
     world: &mut World,
     turns: &[u8],
-    telling: Telling,
+    reporting: Reporting,
     out: &mut Counted<W>,
 ) -> Result<(), RunFault<'static>>
     requires start { world.old.world ≡ start (system world.old.scenario) }
     requires running { world.old.stopped ≡ false }
-    ensures { WritesAs W.contents (trace_from (tells_all telling) world.old.scenario turns.now) out.old out.new result }
+    ensures { WritesAs W.contents (trace_from (prints_all reporting) world.old.scenario turns.now) out.old out.new result }
 {
     let turns = turns_of(alloc, world, turns)?;
     let mut tracing = Tracing::new(alloc, world)?;
-    write_trace(world, &mut tracing, telling, turns.as_slice(), out)
+    write_trace(world, &mut tracing, reporting, turns.as_slice(), out)
 }
 
 /// Writes what each turn of a run did, then how many turns there were, and the accounts of all nodes.
@@ -484,13 +487,13 @@ pub fn trace<W: Write>(
     alloc: Global,
     scenario: &[u8],
     turns: &[u8],
-    telling: Telling,
+    reporting: Reporting,
     out: &mut Counted<W>,
 ) -> Result<(), RunFault<'static>>
-    ensures { WritesAs W.contents (trace_written (tells_all telling) scenario.now turns.now) out.old out.new result }
+    ensures { WritesAs W.contents (trace_written (prints_all reporting) scenario.now turns.now) out.old out.new result }
 {
     let mut world = World::load(alloc, scenario)?;
-    let traced = trace_world(alloc, &mut world, turns, telling, out);
+    let traced = trace_world(alloc, &mut world, turns, reporting, out);
     world.end();
     traced
 }

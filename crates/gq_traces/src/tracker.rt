@@ -2,20 +2,20 @@
 ghost use Rattle.std.specs.Prelude.{◌≡◌, ◌<◌, ◌≤◌, ◌∷◌, [], List, ℕ, suc, nat_lt, true, Option, Some, None, drop, get_or, length, map, slice_get, slice_set};
 ghost use Rattle.std.specs.Prelude.{IfOk, IfNone, IfSome};
 ghost use Rattle.gq_model.specs.machine.Scenario.{Component, components};
-ghost use Rattle.gq_statements.specs.Statements.{current_seen};
-ghost use Rattle.gq_traces.specs.declared.numbered.Entry.{Entry};
-ghost use Rattle.gq_traces.specs.Places.{chosen, place, section_at, start_aheads};
+ghost use Rattle.gq_statements.specs.Slot_statements.{current_seen};
+ghost use Rattle.gq_traces.specs.declared.numbered_program.NumberedStatement.{NumberedStatement};
+ghost use Rattle.gq_traces.specs.Step_positions.{chosen, place, section_at, start_aheads};
 ghost use Rattle.gq_traces.specs.declared.tracker.Ahead as places;
-ghost use Rattle.gq_traces.specs.internal.Alone.{IsStraight};
+ghost use Rattle.gq_traces.specs.internal.Alone_positions.{IsStraight};
 ghost use Rattle.gq_traces.specs.internal.Flat.{AllStand, AreAheads, ArePrograms, Passes, Stands, another_round, plain_after, plain_ahead, programs_of};
-ghost use Rattle.gq_traces.specs.internal.Telling.{GoesOn, IsTop, PassesBy, PassesOwn, PassesRequest, PlaceIs, PlaceTold, StepTold, TellsDue};
-ghost use Rattle.gq_traces.specs.internal.Telling.{entry_place, place_of};
-ghost use Rattle.gq_traces.specs.internal.Telling.{statement_text, way_text};
+ghost use Rattle.gq_traces.specs.internal.Printed_steps.{GoesOn, IsTop, PassesBy, PassesOwn, PassesRequest, PlaceIs, PlacePrinted, StepPrinted, PrintsDue};
+ghost use Rattle.gq_traces.specs.internal.Printed_steps.{entry_place, place_of};
+ghost use Rattle.gq_traces.specs.internal.Printed_steps.{statement_text, way_text};
 
-use crate::numbered::{Next, Numbered, Part, Way};
+use crate::numbered_program::{Next, NumberedProgram, NumberedSection, Way};
 use arrayvec::ArrayVec;
 use gq_machine::machine::Machine;
-use gq_machine::told::Asked;
+use gq_machine::world_reads::Asked;
 use gq_model::limits::GREATEST_DEPTH;
 use gq_model::phase::Phase;
 use gq_model::program::Section;
@@ -66,7 +66,7 @@ pub(crate) struct Due<'a> {
 
 impl Ahead {
     // At the start of a section.
-    fn new(part: Part) -> Ahead
+    fn new(part: NumberedSection) -> Ahead
         ensures next { result.next ≡ part.first }
         ensures loops { result.loops.items ≡ [] }
     {
@@ -89,7 +89,7 @@ impl Ahead {
 
     // Past a statement. An `if` goes by the top operand.
     #[inline(always)]
-    fn pass(&mut self, numbered: &Numbered, top: Option<u32>, place: usize)
+    fn pass(&mut self, numbered: &NumberedProgram, top: Option<u32>, place: usize)
         requires stands { Stands numbered.now.entries.items self.old }
         requires next { self.old.next ≡ Some place }
         ensures { (operands : List ℕ) → IsTop top operands → Passes numbered.now.entries.items self.old self.new operands }
@@ -137,7 +137,7 @@ impl Ahead {
 
     // Past the end of a list of statements.
     #[inline(always)]
-    fn pass_end(&mut self, numbered: &Numbered)
+    fn pass_end(&mut self, numbered: &NumberedProgram)
         requires stands { Stands numbered.now.entries.items self.old }
         requires next { self.old.next ≡ None }
         ensures { (operands : List ℕ) → Passes numbered.now.entries.items self.old self.new operands }
@@ -150,7 +150,7 @@ impl Ahead {
 
     // Past the end of the body of a loop: to its next round, or to what follows it.
     #[inline(always)]
-    fn pass_body(&mut self, numbered: &Numbered, innermost: Round)
+    fn pass_body(&mut self, numbered: &NumberedProgram, innermost: Round)
         requires stands { Stands numbered.now.entries.items self.old }
         requires next { self.old.next ≡ None }
         requires innermost { self.old.loops.items ≡ innermost ∷ drop 1 self.old.loops.items }
@@ -171,7 +171,7 @@ impl Ahead {
 
     // The statements with none in them that the leaf has before it, one after the other, at most so many: how many, and where it goes on after them.
     #[inline(always)]
-    fn straight(&self, numbered: &Numbered, most: u32) -> (u32, Next)
+    fn straight(&self, numbered: &NumberedProgram, most: u32) -> (u32, Next)
         ensures few { result.0 ≤ most }
         ensures ahead { plain_ahead numbered.now.entries.items result.0 self.now.next ≡ Some result.1 }
         ensures all { result.0 < most → plain_after numbered.now.entries.items result.1 ≡ None }
@@ -200,7 +200,7 @@ impl Ahead {
 
     // Past the next step of a leaf that takes steps of its own and has this top operand.
     #[inline(always)]
-    fn pass_step(&mut self, numbered: &Numbered, top: Option<u32>)
+    fn pass_step(&mut self, numbered: &NumberedProgram, top: Option<u32>)
         requires stands { Stands numbered.now.entries.items self.old }
         ensures { (operands : List ℕ) → IsTop top operands → Passes numbered.now.entries.items self.old self.new operands }
     {
@@ -211,7 +211,7 @@ impl Ahead {
     }
 
     // The place of the next step, in this section.
-    fn place<'a>(&self, numbered: &'a Numbered, section: Section) -> Due<'a>
+    fn place<'a>(&self, numbered: &'a NumberedProgram, section: Section) -> Due<'a>
         requires { Stands numbered.now.entries.items self.now }
         ensures { PlaceIs numbered.now self.now section result }
     {
@@ -222,7 +222,7 @@ impl Ahead {
     }
 
     // The place of the end of a list of statements, in this section.
-    fn end_place<'a>(&self, numbered: &'a Numbered, section: Section) -> Due<'a>
+    fn end_place<'a>(&self, numbered: &'a NumberedProgram, section: Section) -> Due<'a>
         requires stands { Stands numbered.now.entries.items self.now }
         requires next { self.now.next ≡ None }
         ensures { PlaceIs numbered.now self.now section result }
@@ -240,7 +240,7 @@ impl Ahead {
 
 // Where a leaf goes on after the statement there, if that has none in it.
 #[inline(always)]
-fn after_plain(numbered: &Numbered, next: Next) -> Option<Next>
+fn after_plain(numbered: &NumberedProgram, next: Next) -> Option<Next>
     ensures { result ≡ plain_after numbered.now.entries.items next }
 {
     let Some(place) = next else {
@@ -256,9 +256,9 @@ fn after_plain(numbered: &Numbered, next: Next) -> Option<Next>
 }
 
 // The place of an entry, in this section.
-fn entry_place<'a>(numbered: &'a Numbered, place: usize, section: Section) -> Due<'a>
+fn entry_place<'a>(numbered: &'a NumberedProgram, place: usize, section: Section) -> Due<'a>
     requires { place < length numbered.now.entries.items }
-    ensures { (e : Entry) → slice_get numbered.now.entries.items place ≡ Some e → place_of result ≡ entry_place section e }
+    ensures { (e : NumberedStatement) → slice_get numbered.now.entries.items place ≡ Some e → place_of result ≡ entry_place section e }
 {
     let entry = &numbered.entries[place];
     Due {
@@ -307,8 +307,11 @@ pub(crate) fn section_of(current: Option<Current>) -> Section
     }
 }
 
-/// All leaves at the start of their programs. Refused only for want of host memory.
-pub(crate) fn first_aheads(alloc: Global, programs: &[Numbered]) -> Result<Vec<Ahead>, AllocError>
+/// All leaves at the start of their programs. Refused only if the host refuses memory.
+pub(crate) fn first_aheads(
+    alloc: Global,
+    programs: &[NumberedProgram],
+) -> Result<Vec<Ahead>, AllocError>
     ensures { (cs : List Component) → ArePrograms programs.now (map (λ c. c.node.program) cs)
         → IfOk result (λ aheads. AreAheads programs.now aheads.items (start_aheads cs)) }
 {
@@ -321,21 +324,21 @@ pub(crate) fn first_aheads(alloc: Global, programs: &[Numbered]) -> Result<Vec<A
 
 /// The place of the next step of a leaf that takes steps of its own, in this section.
 pub(crate) fn due_in<'a>(
-    programs: &'a [Numbered],
+    programs: &'a [NumberedProgram],
     aheads: &[Ahead],
     leaf: LeafNo,
     section: Section,
 ) -> Due<'a>
     requires leaf { leaf < length programs.now }
     requires aheads { AllStand programs.now aheads.now }
-    ensures { PlaceTold programs.now aheads.now leaf section result }
+    ensures { PlacePrinted programs.now aheads.now leaf section result }
 {
     aheads[leaf.index()].place(&programs[leaf.index()], section)
 }
 
 // The place of the next step of a leaf that takes steps of its own.
 fn step_due<'a>(
-    programs: &'a [Numbered],
+    programs: &'a [NumberedProgram],
     aheads: &[Ahead],
     machine: &Machine,
     leaf: LeafNo,
@@ -343,7 +346,7 @@ fn step_due<'a>(
     requires leaf { leaf < length (components machine.now.scenario) }
     requires programs { ArePrograms programs.now (programs_of machine.now.scenario) }
     requires aheads { AllStand programs.now aheads.now }
-    ensures { StepTold programs.now aheads.now machine.now.scenario machine.now.world leaf result }
+    ensures { StepPrinted programs.now aheads.now machine.now.scenario machine.now.world leaf result }
 {
     due_in(programs, aheads, leaf, section_of(machine.current(leaf)))
 }
@@ -361,7 +364,7 @@ fn request_due(asked: Asked) -> Due<'static>
 
 /// The place of the step that a leaf takes next, if it can take one.
 pub(crate) fn next_due<'a>(
-    programs: &'a [Numbered],
+    programs: &'a [NumberedProgram],
     aheads: &[Ahead],
     machine: &Machine,
     leaf: LeafNo,
@@ -370,7 +373,7 @@ pub(crate) fn next_due<'a>(
     requires leaves { length machine.now.world.leaves ≡ length (components machine.now.scenario) }
     requires programs { ArePrograms programs.now (programs_of machine.now.scenario) }
     requires aheads { AllStand programs.now aheads.now }
-    ensures { TellsDue programs.now aheads.now machine.now.scenario machine.now.world leaf result }
+    ensures { PrintsDue programs.now aheads.now machine.now.scenario machine.now.world leaf result }
 {
     match machine.phase(leaf) {
         Phase::Pending | Phase::Blocked | Phase::Exited => None,
@@ -385,7 +388,12 @@ pub(crate) fn next_due<'a>(
 
 /// Goes on past the next step of a leaf that takes steps of its own and has this top operand.
 #[inline(always)]
-pub(crate) fn pass_by(programs: &[Numbered], aheads: &mut [Ahead], leaf: LeafNo, top: Option<u32>)
+pub(crate) fn pass_by(
+    programs: &[NumberedProgram],
+    aheads: &mut [Ahead],
+    leaf: LeafNo,
+    top: Option<u32>,
+)
     requires leaf { leaf < length programs.now }
     requires aheads { AllStand programs.now aheads.old }
     ensures { (operands : List ℕ) → IsTop top operands → PassesBy programs.now aheads.old aheads.new leaf operands }
@@ -396,7 +404,7 @@ pub(crate) fn pass_by(programs: &[Numbered], aheads: &mut [Ahead], leaf: LeafNo,
 /// The statements with none in them that a leaf has before it, one after the other, at most so many: how many, and where it goes on after them.
 #[inline(always)]
 pub(crate) fn straight_in(
-    programs: &[Numbered],
+    programs: &[NumberedProgram],
     aheads: &[Ahead],
     leaf: LeafNo,
     most: u32,
@@ -410,9 +418,9 @@ pub(crate) fn straight_in(
     aheads[leaf.index()].straight(&programs[leaf.index()], most)
 }
 
-/// How many steps a leaf may take alone from where it stands, one after the other, as far as its program tells. It says how far to look, and no more.
+/// How many steps a leaf may take alone from where it stands, one after the other, as far as its program reports. It says how far to look, and no more.
 #[inline(always)]
-pub(crate) fn alone_in(programs: &[Numbered], aheads: &[Ahead], leaf: LeafNo) -> u32
+pub(crate) fn alone_in(programs: &[NumberedProgram], aheads: &[Ahead], leaf: LeafNo) -> u32
     requires leaf { leaf < length programs.now }
     requires aheads { length aheads.now ≡ length programs.now }
 {
@@ -429,7 +437,7 @@ pub(crate) fn go_to(aheads: &mut [Ahead], leaf: LeafNo, next: Next)
 }
 
 // Goes on past the next step of a leaf that takes steps of its own.
-fn pass_own(programs: &[Numbered], aheads: &mut [Ahead], machine: &Machine, leaf: LeafNo)
+fn pass_own(programs: &[NumberedProgram], aheads: &mut [Ahead], machine: &Machine, leaf: LeafNo)
     requires leaf { leaf < length (components machine.now.scenario) }
     requires programs { ArePrograms programs.now (programs_of machine.now.scenario) }
     requires aheads { AllStand programs.now aheads.old }
@@ -439,7 +447,7 @@ fn pass_own(programs: &[Numbered], aheads: &mut [Ahead], machine: &Machine, leaf
 }
 
 // Goes on at the start of the section of a request.
-fn pass_request(programs: &[Numbered], aheads: &mut [Ahead], leaf: LeafNo, section: Section)
+fn pass_request(programs: &[NumberedProgram], aheads: &mut [Ahead], leaf: LeafNo, section: Section)
     requires leaf { leaf < length programs.now }
     requires aheads { length aheads.old ≡ length programs.now }
     ensures { PassesRequest programs.now aheads.old aheads.new leaf section }
@@ -449,7 +457,12 @@ fn pass_request(programs: &[Numbered], aheads: &mut [Ahead], leaf: LeafNo, secti
 }
 
 /// Goes on past the step that a leaf takes next, which it can take and has not taken yet.
-pub(crate) fn go_on(programs: &[Numbered], aheads: &mut [Ahead], machine: &Machine, leaf: LeafNo)
+pub(crate) fn go_on(
+    programs: &[NumberedProgram],
+    aheads: &mut [Ahead],
+    machine: &Machine,
+    leaf: LeafNo,
+)
     requires leaf { leaf < length (components machine.now.scenario) }
     requires leaves { length machine.now.world.leaves ≡ length (components machine.now.scenario) }
     requires programs { ArePrograms programs.now (programs_of machine.now.scenario) }

@@ -6,9 +6,9 @@ use Rattle.std.proofs.lemmas.Bool.{cases_eq}
 use Rattle.std.proofs.lemmas.Bool.Decides.{eqb_tells}
 use Rattle.gq_tariff.specs.declared.amount.Amount.{Amount}
 use Rattle.gq_ram.specs.declared.account.Account.{Account}
-use Rattle.gq_ram.specs.Entries.{account_at, its_account, IsOpen}
-use Rattle.gq_ram.specs.Trees.{donated, number, parent}
-use Rattle.gq_ram.proofs.Moves.{nodes_kept}
+use Rattle.gq_ram.specs.Account_table.{account_at, its_account, IsOpen}
+use Rattle.gq_ram.specs.Account_tree.{donated, number, parent}
+use Rattle.gq_ram.proofs.Quota_move_sequences.{nodes_kept}
 use Rattle.gq_model.specs.declared.program.Form.TheVariants as form
 use Rattle.gq_model.specs.machine.World as world
 use Rattle.gq_heap.specs.declared.heap.Heap.{Heap}
@@ -21,11 +21,11 @@ use Rattle.gq_trade.specs.Rest.{SameRest}
 use Rattle.gq_contents.specs.declared.content.Content.{Content}
 use Rattle.gq_contents.specs.declared.content.Content.TheVariants as content
 use Rattle.gq_contents.specs.Contents.{seen, size_of}
-use Rattle.gq_contents.specs.Kept.{Changes}
+use Rattle.gq_contents.specs.Contents_invariant.{Changes}
 use Rattle.gq_contents.specs.Paid.{IsMadeBeside, Pays}
 use Rattle.gq_trade.specs.Queues.{IsOldest, kept_before, oldest_to}
 use Rattle.gq_trade.specs.Numbers.{added, free_number, IsTaken}
-use Rattle.gq_trade.proofs.Lowest.{taken_there}
+use Rattle.gq_trade.proofs.Lowest_free_number.{taken_there}
 use Rattle.gq_trade.specs.declared.requests.Ask.{Ask}
 use Rattle.gq_trade.specs.declared.requests.Ask.TheVariants.{Open, Upgrade, Close, Call}
 use Rattle.gq_trade.specs.declared.requests.Request.{Request}

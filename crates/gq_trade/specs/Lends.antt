@@ -2,7 +2,7 @@
 use Rattle.std.specs.Prelude.{ℕ, Some, slice_set}
 use Rattle.std.specs.Borrow.{Lends, Fml, RattleType, MutBor}
 use Rattle.gq_trade.specs.Numbers.{Numbers}
-use Rattle.gq_trade.specs.contracts.numbered.Numbered.{the_row}
+use Rattle.gq_trade.specs.contracts.numbered_values.Numbered.{the_row}
 
 -- these numbers with another value at a number
 abbrev pub with_value : {A : Type 0} → Numbers A → ℕ → A → Numbers A

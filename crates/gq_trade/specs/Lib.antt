@@ -1,6 +1,6 @@
 pub mod Balances
-pub mod Ends
-pub mod Plans
+pub mod Leaf_ends
+pub mod Trades_plan
 pub mod Trades
 pub mod Waiting
 pub mod internal
@@ -11,4 +11,4 @@ pub mod Numbers
 pub mod Queues
 pub mod Seen_requests
 pub mod Trading
-pub mod Seen
+pub mod Seen_sessions

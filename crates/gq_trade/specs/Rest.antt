@@ -1,7 +1,7 @@
 -- What a call on the memory of the account that pays leaves of all else.
 use Rattle.std.specs.Prelude.{◌≡◌, ℕ, None, get_or}
 use Rattle.gq_ram.specs.declared.account.AccountNo.{AccountNo}
-use Rattle.gq_ram.specs.Entries.{account_at, left_to, IsOpen}
+use Rattle.gq_ram.specs.Account_table.{account_at, left_to, IsOpen}
 use Rattle.gq_ram.specs.Ledgers.{IsSameWhole}
 use Rattle.gq_trade.specs.Stores.{Memory, content_for, store_at}
 

@@ -1,19 +1,19 @@
 -- Sessions over accounts whose balances are sums.
 use Rattle.std.specs.Prelude.{◌≡◌, ℕ, ◌<◌, ◌≤◌, List, length, Some, get_or}
-use Rattle.gq_ram.specs.Entries.{Entries, account_at, IsOpen}
-use Rattle.gq_ram.specs.Trees.{Tree, number, parent}
+use Rattle.gq_ram.specs.Account_table.{Entries, account_at, IsOpen}
+use Rattle.gq_ram.specs.Account_tree.{Tree, number, parent}
 use Rattle.gq_trade.specs.Numbers.{IsTaken, free_number}
 use Rattle.gq_trade.specs.declared.session.Session.{Session}
 use Rattle.gq_trade.specs.Trading.{Trading, SameButMemory as SameTrading, session_in}
-use Rattle.gq_trade.specs.declared.node.Node.{Node}
-use Rattle.gq_trade.specs.declared.node.Stage.TheVariants.{Live, Ended}
+use Rattle.gq_trade.specs.declared.trade_node.NodeState.{NodeState}
+use Rattle.gq_trade.specs.declared.trade_node.Stage.TheVariants.{Live, Ended}
 use Rattle.gq_trade.specs.Balances.{IsEven, node_at}
 use Rattle.gq_trade.specs.Waiting.{AreApart, IsBounded, IsIdle, clients, upgrades}
 
 -- sessions with their memory, and the nodes in preorder
 pub record Trades : Type 0 where
   pub trading : Trading
-  pub nodes : List Node
+  pub nodes : List NodeState
 
 abbrev pub with_trading : Trades → Trading → Trades
 with_trading w v = record { trading = v; nodes = w.nodes }
@@ -48,7 +48,7 @@ pub record HasAccount (w : Trades) (i : ℕ) : Type 0 where
 -- WHAT HOLDS
 
 -- the node i stands beside the node j, below the root, and has no greater quantum
-pub record Follows (t : Tree) (ns : List Node) (i j : ℕ) : Type 0 where
+pub record Follows (t : Tree) (ns : List NodeState) (i j : ℕ) : Type 0 where
   pub below : 0 < i
   pub before : 0 < j
   pub there : j < length t.parents
@@ -57,7 +57,7 @@ pub record Follows (t : Tree) (ns : List Node) (i j : ℕ) : Type 0 where
   pub caps : (node_at ns i).quantum.caps ≤ (node_at ns j).quantum.caps
 
 -- the nodes, their accounts, and which of them are leaves
-pub record AreSettled (t : Tree) (leaves : List ℕ) (ns : List Node) (es : Entries) : Type 0 where
+pub record AreSettled (t : Tree) (leaves : List ℕ) (ns : List NodeState) (es : Entries) : Type 0 where
   pub count : length ns ≡ length t.parents
   -- a leaf is below an init, and no node is below it
   pub below : (x : ℕ) → x < length leaves → 0 < get_or leaves x 0
@@ -72,7 +72,7 @@ pub record AreSettled (t : Tree) (leaves : List ℕ) (ns : List Node) (es : Entr
   pub alone : (x k : ℕ) → x < length leaves → (account_at es k).reference ≡ Some (record { 0 = number t (get_or leaves x 0) }) → ⊥
 
 -- client and server of a session are live, and where capabilities are not counted none are given
-pub record IsSettled (leaves : List ℕ) (ns : List Node) (price : ℕ) (s : Session) : Type 0 where
+pub record IsSettled (leaves : List ℕ) (ns : List NodeState) (price : ℕ) (s : Session) : Type 0 where
   pub client : (node_at ns (get_or leaves s.client 0)).stage ≡ Live
   pub server : (node_at ns (get_or leaves s.server 0)).stage ≡ Live
   pub counted : price ≡ 0 → s.donation.caps ≡ 0

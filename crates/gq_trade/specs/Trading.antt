@@ -3,10 +3,10 @@ use Rattle.std.specs.Prelude.{◌≡◌, ℕ, ◌+◌, ◌<◌, ◌≤◌, false
 use Rattle.gq_tariff.specs.declared.amount.Amount.{Amount}
 use Rattle.gq_ram.specs.declared.account.Account.{Account}
 use Rattle.gq_ram.specs.declared.account.AccountNo.{AccountNo}
-use Rattle.gq_ram.specs.Entries.{available, available_caps}
+use Rattle.gq_ram.specs.Account_table.{available, available_caps}
 use Rattle.gq_ram.specs.Ledgers.{Ledger}
-use Rattle.gq_ram.specs.Trees.{Tree, IsTree, AreNodes, donated, number, parent}
-use Rattle.gq_ram.specs.Trees as trees
+use Rattle.gq_ram.specs.Account_tree.{Tree, IsTree, AreNodes, donated, number, parent}
+use Rattle.gq_ram.specs.Account_tree as trees
 use Rattle.gq_model.specs.declared.program.Form.TheVariants as form
 use Rattle.gq_model.specs.machine.World as world
 use Rattle.gq_tariff.specs.Prices.{up}
@@ -22,11 +22,11 @@ use Rattle.gq_trade.specs.Queues.{oldest_to}
 use Rattle.gq_contents.specs.declared.content.Content.{Content}
 use Rattle.gq_contents.specs.declared.content.Content.TheVariants as content
 use Rattle.gq_contents.specs.Contents.{seen, size_of}
-use Rattle.gq_contents.specs.Kept.{Changes}
+use Rattle.gq_contents.specs.Contents_invariant.{Changes}
 use Rattle.gq_contents.specs.Paid.{Pays}
 use Rattle.gq_trade.specs.declared.session.Session.{Session}
-use Rattle.gq_trade.specs.declared.session.Spot.{Spot}
-use Rattle.gq_trade.specs.declared.session.Spot.TheVariants.{InObject}
+use Rattle.gq_trade.specs.declared.session.SlotId.{SlotId}
+use Rattle.gq_trade.specs.declared.session.SlotId.TheVariants.{InObject}
 
 pub record Trading : Type 0 where
   pub memory : Memory
@@ -51,10 +51,10 @@ abbrev pub its_account : Trading → ℕ → Account
 its_account w x = trees.account_of w.tree w.memory.ledger (node_of w x)
 
 -- a session that is not accepted yet
-abbrev pub fresh : ℕ → Spot → ℕ → ℕ → Amount → Session
-fresh client spot server service n = record {
+abbrev pub fresh : ℕ → SlotId → ℕ → ℕ → Amount → Session
+fresh client slot_id server service n = record {
   client = client;
-  spot = spot;
+  slot_id = slot_id;
   server = server;
   service = service;
   level = 0;
@@ -151,7 +151,7 @@ with_session w k s = with_sessions w (slice_set w.sessions k (Some s))
 abbrev pub with_more : Session → Amount → Session
 with_more s n = record {
   client = s.client;
-  spot = s.spot;
+  slot_id = s.slot_id;
   server = s.server;
   service = s.service;
   level = s.level;
@@ -165,7 +165,7 @@ with_more s n = record {
 abbrev pub with_slot : Session → ℕ → Content → Session
 with_slot s i t = record {
   client = s.client;
-  spot = s.spot;
+  slot_id = s.slot_id;
   server = s.server;
   service = s.service;
   level = s.level;
@@ -208,7 +208,7 @@ object_price w k = up (object_size w k + 32)
 abbrev pub opened : Session → Content → Session
 opened s t = record {
   client = s.client;
-  spot = s.spot;
+  slot_id = s.slot_id;
   server = s.server;
   service = s.service;
   level = s.level;
@@ -221,7 +221,7 @@ opened s t = record {
 abbrev pub raised : Session → Session
 raised s = record {
   client = s.client;
-  spot = s.spot;
+  slot_id = s.slot_id;
   server = s.server;
   service = s.service;
   level = s.level + 1;

@@ -1,3 +1,3 @@
-pub mod Stored
-pub mod Rests
-pub mod Fields
+pub mod Store_rest
+pub mod Kept_rest
+pub mod Trades_fields

@@ -37,7 +37,7 @@ impl Default for Request {
     }
 }
 
-/// Requests, the oldest first: at most one for each leaf of a scenario, since a leaf that has asked waits. No call takes host memory.
+/// Requests, the oldest first: at most one for each leaf of a scenario, since a leaf that has asked waits. No call allocates host memory.
 #[derive(Drop)]
 pub struct Requests {
     requests: ArrayVec<Request, GREATEST_LEAVES>,

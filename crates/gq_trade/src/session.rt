@@ -4,7 +4,7 @@ use gq_tariff::Amount;
 
 /// Where a slot stands.
 #[derive(Clone, Copy, Debug, PartialEq, Eq)]
-pub enum Spot {
+pub enum SlotId {
     /// A leaf's own slot: the number of the leaf, and of the slot.
     InLeaf(usize, u8),
     /// A session's slot: the number of the session, and of the slot.
@@ -18,7 +18,7 @@ pub enum Spot {
 #[derive(Clone, Copy)]
 pub struct Session {
     pub client: usize,
-    pub spot: Spot,
+    pub slot_id: SlotId,
     pub server: usize,
     pub service: usize,
     pub level: u8,

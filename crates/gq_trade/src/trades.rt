@@ -2,8 +2,8 @@
 ghost use Rattle.std.specs.Prelude.{◌≡◌, ℕ, ◌+◌, ◌<◌, ◌≤◌, ◌%◌, ◌↔◌, length, get_or, option_map, Some, None, IfOk, OnOk, OnErr, IsErrOf, IfSome};
 ghost use Rattle.std.specs.Prelude.{IfNone};
 ghost use Rattle.gq_tariff.specs.Prices.{up};
-ghost use Rattle.gq_ram.specs.Entries.{available, available_caps, IsOpen};
-ghost use Rattle.gq_ram.specs.Trees.{number};
+ghost use Rattle.gq_ram.specs.Account_table.{available, available_caps, IsOpen};
+ghost use Rattle.gq_ram.specs.Account_tree.{number};
 ghost use Rattle.gq_contents.specs.declared.content.Content.TheVariants as content;
 ghost use Rattle.gq_contents.specs.Contents.{IsSlice, size_of};
 ghost use Rattle.gq_contents.specs.Paid.{IsPaidWhereLeft};
@@ -14,19 +14,19 @@ ghost use Rattle.gq_trade.specs.Trading.{Accepts, AreOfOthers, Begins, Closes, F
 ghost use Rattle.gq_trade.specs.Trading.{account_no, asked, bytes_then, caps_then, client_of, fresh, its_account, node_of, opened, parted, raised, server_of};
 ghost use Rattle.gq_trade.specs.Trading.{session_at, store_of, upgraded, with_ask, with_memory, with_session, with_slot};
 ghost use Rattle.gq_ram.specs.Giving.{CanGive, IsAfforded};
-ghost use Rattle.gq_trade.specs.declared.node.Stage.TheVariants as Stage;
-ghost use Rattle.gq_trade.specs.Ends.{CanStart, Ends, HasNoSessions, follower, staged, started};
-ghost use Rattle.gq_trade.specs.Plans.{IsFirst, IsPlan};
+ghost use Rattle.gq_trade.specs.declared.trade_node.Stage.TheVariants as Stage;
+ghost use Rattle.gq_trade.specs.Leaf_ends.{CanStart, Ends, HasNoSessions, follower, staged, started};
+ghost use Rattle.gq_trade.specs.Trades_plan.{IsFirst, IsPlan};
 ghost use Rattle.gq_trade.specs.Balances.{node_at, quota, use_of};
 ghost use Rattle.gq_trade.specs.Waiting.{IsIdle};
 ghost use Rattle.gq_trade.specs.Trades.{AreParties, CanAskServer, HasAccount, IsLive, IsTrades, with_trading};
 
-use crate::memory::Memory;
-use crate::node::{Node, Stage, follower, handed_to};
-use crate::numbered::Numbered;
+use crate::account_memory::Memory;
+use crate::numbered_values::Numbered;
 use crate::objects::{free_slice_of, make_slice_for};
 use crate::requests::{Ask, Request, Requests};
-use crate::session::{Session, Spot};
+use crate::session::{Session, SlotId};
+use crate::trade_node::{NodeState, Stage, follower, handed_to};
 use gq_contents::Content;
 use gq_ram::{AccountFault, AccountNo, AccountTree, Accounts};
 use gq_store::{ByteStore, ChunkNo, GrowFault};
@@ -47,12 +47,12 @@ pub struct Trades {
     objects: Vec<u32>,
     sessions: Numbered<Session>,
     requests: Requests,
-    nodes: Vec<Node>,
+    nodes: Vec<NodeState>,
 }
 
 impl Model for Trades {
     ghost use Rattle.gq_trade.specs.Trades.{Trades};
-    ghost use Rattle.gq_trade.specs.internal.Fields.{Holds, trades_of};
+    ghost use Rattle.gq_trade.specs.internal.Trades_fields.{Holds, trades_of};
 
     ghost Value = { Trades };
 
@@ -70,15 +70,14 @@ impl Model for Trades {
 #[derive(Drop)]
 pub struct Plan {
     pub parents: Vec<usize>,
-    pub nodes: Vec<Node>,
+    pub nodes: Vec<NodeState>,
     pub leaves: Vec<usize>,
     pub objects: Vec<u32>,
 }
 
 impl Trades {
-    /// Accounts for the nodes of a plan, with `total` bytes and, where they are counted, `caps` capabilities, which are handed down from the root: each
-    /// node that is live has its quantum less what it has handed on. There is room for so many sessions.
-    /// `Err` where the host refuses memory.
+    /// Accounts for the nodes of a plan, with `total` bytes and, where they are counted, `caps` capabilities, which are handed down from the root. Each node
+    /// that is live has its quantum less what it has handed on. There is room for so many sessions. `Err` where the host refuses memory.
     pub fn new(
         alloc: Global,
         total: u64,
@@ -118,7 +117,7 @@ impl Trades {
     pub fn ask(
         &mut self,
         client: usize,
-        spot: Spot,
+        slot_id: SlotId,
         server: usize,
         service: usize,
         donation: Amount,
@@ -127,7 +126,7 @@ impl Trades {
         requires service { service < length self.old.trading.objects }
         requires counted { self.old.trading.memory.ledger.price ≡ 0 → donation.caps ≡ 0 }
         ensures number { IfOk result (λ k. k ≡ free_number self.old.trading.sessions) }
-        ensures asked { OnOk result (self.new ≡ with_trading self.old (asked self.old.trading (fresh client spot server service donation))) }
+        ensures asked { OnOk result (self.new ≡ with_trading self.old (asked self.old.trading (fresh client slot_id server service donation))) }
         ensures afforded { IsAfforded result (available (its_account self.old.trading client)) (available_caps (its_account self.old.trading client)) donation }
         ensures unchanged { OnErr result (self.new ≡ self.old) }
     {
@@ -136,7 +135,7 @@ impl Trades {
         self.memory.donate(&self.tree, from, to, donation)?;
         let number = self.sessions.add(Session {
             client,
-            spot,
+            slot_id,
             server,
             service,
             level: 0,
@@ -498,7 +497,7 @@ impl Trades {
         }
     }
 
-    // Closes the account of a leaf, which gives its quantum back. Tells its node.
+    // Closes the account of a leaf, which gives its quantum back. Reports its node.
     fn leave(&mut self, leaf: usize) -> usize
         requires leaf { IsLive self.old leaf }
         requires alone { HasNoSessions self.old.trading leaf }
@@ -514,7 +513,7 @@ impl Trades {
         let old = self.nodes[node];
         self.memory.pay_by(root);
         self.memory.close(account);
-        self.nodes[node] = Node {
+        self.nodes[node] = NodeState {
             stage: Stage::Ended,
             ..old
         };
@@ -529,7 +528,7 @@ impl Trades {
         let old = self.nodes[node];
         let init = self.tree.parent(node);
         self.memory.give(&self.tree, init, node, old.quantum);
-        self.nodes[node] = Node {
+        self.nodes[node] = NodeState {
             stage: Stage::Live,
             ..old
         };
@@ -699,7 +698,7 @@ impl ByteStore for Trades {
         self.memory.clear(chunk, offset, size);
     }
 
-    ghost use Rattle.gq_trade.specs.internal.Stored.{rest_refl as refl_of, rest_trans as trans_of};
+    ghost use Rattle.gq_trade.specs.internal.Store_rest.{rest_refl as refl_of, rest_trans as trans_of};
 
     ghost rest_refl = { refl_of };
 

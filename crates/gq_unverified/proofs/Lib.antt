@@ -1,4 +1,4 @@
-pub mod Taking
-pub mod Counting
-pub mod Few
-pub mod Whole
+pub mod Tested_turn_runs
+pub mod Tested_step_counts
+pub mod Bounded_turn_count
+pub mod Tested_run_text

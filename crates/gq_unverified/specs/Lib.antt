@@ -1,3 +1,3 @@
 pub mod Tested
-pub mod Ends
+pub mod Tested_run_ends
 pub mod internal

@@ -10,7 +10,7 @@ use Rattle.gq_load.specs.Load.{Fault, fault_text}
 use Rattle.gq_load.specs.Unverified.{unverified}
 use Rattle.gq_world.specs.Whole.{refused_with, turn_fault_text}
 
--- the lines of these turns and settings up to a wrong step, and, where none is wrong, the accounts; no account tells a step budget
+-- the lines of these turns and settings up to a wrong step, and, where none is wrong, the accounts; no account reports a step budget
 unfoldable pub tested_text : Scenario → Acts → List ℕ
 tested_text s turns = let ran = run (system s) turns in text_of s [] ran ran.wrong
 
@@ -53,6 +53,6 @@ wrong_code UnmappedByte = codes "X3"
 wrong_code ExceededQuota = codes "X4"
 wrong_code MissingSection = codes "X5"
 
--- how a wrong step is told
+-- how a wrong step is reported
 abbrev pub wrong_text : List ℕ × Wrong → List ℕ
 wrong_text p = codes "wrong " ++ p.0 ++ codes " " ++ wrong_code p.1

@@ -1,7 +1,7 @@
 //! Runs with tests: of any scenario that is read and resolved, whether it is accepted or not, up to its first wrong step.
 //!
 //! ```rust
-//! use gq_unverified::run::run_unverified;
+//! use gq_unverified::tested_run::run_unverified;
 //!
 //! if let Some(step) = run_unverified(alloc, scenario, turns, &mut out)? {
 //!     println!(rt; "{step}")?;
@@ -9,6 +9,6 @@
 //! ```
 #![tactic(auto)]
 
-pub mod run;
 pub mod step;
-mod turns;
+pub mod tested_run;
+mod tested_turns;

@@ -6,12 +6,12 @@ ghost use Rattle.gq_unverified.specs.Tested.{name_at, wrong_code, wrong_text};
 use gq_init::NodeTable;
 use gq_model::fault::Wrong;
 use gq_model::program::Name;
+use gq_scenario::component_tree::copied;
 use gq_scenario::scenario::LeafNo;
-use gq_scenario::tree::copied;
 use std::fmt::{self, Display, Formatter, Write};
 use std::marker::Model;
 
-/// A wrong step, at which a run with tests ends. It is told as `wrong srv X5`: the name of the leaf, and the number of what is wrong.
+/// A wrong step, at which a run with tests ends. It is reported as `wrong srv X5`: the name of the leaf, and the number of what is wrong.
 #[derive(Drop)]
 pub struct WrongStep {
     leaf: Name,

@@ -1,6 +1,6 @@
 -- What visitors keep that goes on by something that stays.
 use Rattle.std.proofs.Common.{◌≡◌, ℕ, max, List, [], ◌∷◌, ap, sym, subst, ◌∙◌, arith}
-use Rattle.gq_model.specs.rules.Kinds.{State}
+use Rattle.gq_model.specs.rules.Kinds.{AbstractState}
 use Rattle.gq_verify.specs.Visits.{Sight, At_statement, At_point, Shows, after_all, most_shown, raised}
 
 pub shows_by : {A B K : Type 0} → (leads : A → Sight → A → Type 0) (stays : A → K) (kept : A → B) (go : K → B → Sight → B) →
@@ -13,7 +13,7 @@ shows_by leads stays kept go step k a b (e ∷ rest) is h =
     ∙ ap (λ x. after_all (go k) x rest) (p.1 ∙ ap (λ j. go j (kept a) e) is)
 
 -- a number that points raise is the greatest of all
-pub all_raised : (f : State → ℕ) (n : ℕ) (seen : List Sight) → after_all (raised f) n seen ≡ max n (most_shown f seen)
+pub all_raised : (f : AbstractState → ℕ) (n : ℕ) (seen : List Sight) → after_all (raised f) n seen ≡ max n (most_shown f seen)
 all_raised f n [] = omega arith
 all_raised f n (At_statement c s i ∷ rest) = all_raised f n rest
 all_raised f n (At_point k s ∷ rest) = let h = all_raised f (max n (f s)) rest in omega (arith, h)

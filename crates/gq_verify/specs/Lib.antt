@@ -1,9 +1,9 @@
 pub mod Subjects
-pub mod Faults
+pub mod Program_faults
 pub mod internal
-pub mod Counting
+pub mod Saturated_numbers
 pub mod Requested
 pub mod Askers
 pub mod Rights
 pub mod Visits
-pub mod Sections
+pub mod Named_sections

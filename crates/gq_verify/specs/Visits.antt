@@ -5,20 +5,20 @@ use Rattle.gq_model.specs.declared.program.Section.{Section}
 use Rattle.gq_model.specs.machine.Lists.{greatest}
 use Rattle.gq_model.specs.machine.Program.{Statements, Done, Do, If, Loop, size, section_in}
 use Rattle.gq_model.specs.rules.Flow.{at, context, flow, start_of, state_or}
-use Rattle.gq_model.specs.rules.Kinds.{State, Subject, Context, inside}
+use Rattle.gq_model.specs.rules.Kinds.{AbstractState, Subject, Context, inside}
 use Rattle.gq_model.specs.rules.Rules.{judged}
 
 -- what is known of slots alone
-abbrev pub slots_of : State → State
+abbrev pub slots_of : AbstractState → AbstractState
 slots_of s = record s { bounds = [] }
 
 -- a statement, with what is known before it; or a point: the number of the statement that it comes after, and what is known there
 pub data Sight : Type 0 where
-  At_statement : Context → State → Instruction → Sight
-  At_point : ℕ → State → Sight
+  At_statement : Context → AbstractState → Instruction → Sight
+  At_point : ℕ → AbstractState → Sight
 
 -- what is shown of the statements of a list, before which there are k; the point after an `if` or a `loop` comes after those inside it
-abbrev pub sights : Context → ℕ → State → Statements → List Sight
+abbrev pub sights : Context → ℕ → AbstractState → Statements → List Sight
 sights c k s Done = []
 sights c k s (Do i rest) =
     let t = state_or s (at 1 (judged c s i)) in At_statement c (slots_of s) i ∷ At_point (k + 1) (slots_of t) ∷ sights c (k + 1) t rest
@@ -47,17 +47,17 @@ Shows {A = A} f a (e ∷ rest) b = (m : A) × f a e m × Shows f m rest b
 -- OF POINTS
 
 -- the points among what is shown, each with the number of the statement before it
-abbrev pub shown_points : List Sight → List (ℕ × State)
+abbrev pub shown_points : List Sight → List (ℕ × AbstractState)
 shown_points [] = []
 shown_points (At_statement c s i ∷ rest) = shown_points rest
 shown_points (At_point k s ∷ rest) = (k, s) ∷ shown_points rest
 
 -- the greatest number at a point that is shown
-abbrev pub most_shown : (State → ℕ) → List Sight → ℕ
-most_shown f seen = greatest (λ (p : ℕ × State). f p.1) (shown_points seen)
+abbrev pub most_shown : (AbstractState → ℕ) → List Sight → ℕ
+most_shown f seen = greatest (λ (p : ℕ × AbstractState). f p.1) (shown_points seen)
 
 -- a number after what is shown next, where points raise it
-abbrev pub raised : (State → ℕ) → ℕ → Sight → ℕ
+abbrev pub raised : (AbstractState → ℕ) → ℕ → Sight → ℕ
 raised f n (At_statement c s i) = n
 raised f n (At_point k s) = max n (f s)
 

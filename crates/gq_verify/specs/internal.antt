@@ -1,9 +1,9 @@
 pub mod Walks
 pub mod Mains
 pub mod Starting
-pub mod Keeping
+pub mod Kept_numbers
 pub mod Requesting
-pub mod Adding
-pub mod Alike
-pub mod Keys
+pub mod Request_sums
+pub mod Slot_equal_states
+pub mod Service_keys
 pub mod Visiting

@@ -2,15 +2,15 @@
 ghost use Rattle.std.specs.Prelude.{◌≡◌, ◌<◌, ◌≤◌, ◌+◌, ◌*◌, ◌++◌, [], OnOk, length, get_or};
 ghost use Rattle.gq_model.specs.machine.Program.{text_eq};
 ghost use Rattle.gq_model.specs.rules.Budgets.{is_one};
-ghost use Rattle.gq_verify.specs.Counting.{saturated};
+ghost use Rattle.gq_verify.specs.Saturated_numbers.{saturated};
 ghost use Rattle.gq_verify.specs.Requested.{Requested, requests_for, is_for, is_asked};
 ghost use Rattle.gq_verify.specs.Askers.{askers_of};
-ghost use Rattle.gq_verify.specs.internal.Adding.{Adds, Raises, IsAt};
-ghost use Rattle.gq_verify.specs.internal.Keys.{IsOutside};
+ghost use Rattle.gq_verify.specs.internal.Request_sums.{Adds, Raises, IsAt};
+ghost use Rattle.gq_verify.specs.internal.Service_keys.{IsOutside};
 
 use crate::service::Service;
 use gq_program::Section;
-use gq_program::places::Places;
+use gq_program::key_index::KeyIndex;
 use gq_program::spelling::same_text;
 use smallvec::SmallVec;
 use std::alloc::{AllocError, Global};
@@ -21,13 +21,13 @@ const GREATEST_NAME: usize = 16;
 
 /// So many requests for a section of a service.
 #[derive(Drop)]
-struct Entry {
+struct RequestCount {
     service: SmallVec<u8, GREATEST_NAME>,
     section: Section,
     count: u64,
 }
 
-impl Model for Entry {
+impl Model for RequestCount {
     ghost use Rattle.gq_verify.specs.Requested.{Requested};
 
     ghost Value = { Requested };
@@ -35,7 +35,7 @@ impl Model for Entry {
     ghost view = { λ e. record { service = e.service.items; section = e.section; count = e.count } };
 }
 
-impl Entry {
+impl RequestCount {
     /// Whether they are for this service.
     fn is_of(&self, service: &[u8]) -> bool
         ensures { result ≡ text_eq service.now self.now.service }
@@ -82,19 +82,19 @@ pub struct Asker {
     pub count: u64,
 }
 
-/// How many requests there are, by the section of a service that they are for. Where those for a service may stand is told by a number that is made of its
+/// How many requests there are, by the section of a service that they are for. Where those for a service may stand is given by a number that is made of its
 /// name.
 #[derive(Drop)]
 pub struct Requests {
-    places: Places,
-    entries: Vec<Entry>,
+    places: KeyIndex,
+    entries: Vec<RequestCount>,
 }
 
 impl Model for Requests {
     ghost use Rattle.std.specs.Prelude.{List};
     ghost use Rattle.gq_verify.specs.Requested.{Requested};
-    ghost use Rattle.gq_program.specs.Keys.{AreWithin};
-    ghost use Rattle.gq_verify.specs.internal.Keys.{keys_of};
+    ghost use Rattle.gq_program.specs.Name_keys.{AreWithin};
+    ghost use Rattle.gq_verify.specs.internal.Service_keys.{keys_of};
 
     ghost Value = { List Requested };
 
@@ -109,13 +109,13 @@ impl Requests {
         ensures { result ≡ [] }
     {
         Requests {
-            places: Places::new(),
+            places: KeyIndex::new(),
             entries: Vec::new(alloc),
         }
     }
 
     /// Those at a place.
-    fn entry_at(&self, place: usize) -> &Entry
+    fn entry_at(&self, place: usize) -> &RequestCount
         requires { place < length self.now }
         ensures { (e : Requested) → result.now ≡ get_or self.now place e }
     {
@@ -180,7 +180,7 @@ impl Requests {
     }
 
     /// Puts those for the sections of a service at the end of a list, as requests of the section at a place among those of the leaf of a number. Refused only
-    /// for want of host memory; then some may be in the list.
+    /// because the host refuses memory; then some may be in the list.
     pub fn put_askers(
         &self,
         service: &Service<'_>,
@@ -230,7 +230,7 @@ impl Requests {
         let name = SmallVec::from_slice(*self.entries.allocator(), service.name())?;
         self.entries.reserve(1)?;
         self.places.put(service.key(), self.entries.len());
-        self.entries.push_reserved(Entry {
+        self.entries.push_reserved(RequestCount {
             service: name,
             section,
             count,

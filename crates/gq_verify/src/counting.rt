@@ -3,35 +3,35 @@ ghost use Rattle.std.specs.Prelude.{◌≡◌, ◌≤◌, ◌+◌, ◌-◌, ◌*
 ghost use Rattle.gq_model.specs.declared.program.Section.{Section};
 ghost use Rattle.gq_model.specs.machine.Program.{size, Done, Do, If, Loop};
 ghost use Rattle.gq_model.specs.rules.Budgets.{by_link, asks, requests};
-ghost use Rattle.gq_model.specs.rules.Kinds.{State, kind_at, inside};
+ghost use Rattle.gq_model.specs.rules.Kinds.{AbstractState, kind_at, inside};
 ghost use Rattle.gq_model.specs.rules.Rules.{link_kind, judged};
 ghost use Rattle.gq_model.specs.rules.Flow.{at, flow, state_or};
-ghost use Rattle.gq_program.specs.Trees.{tree_of};
+ghost use Rattle.gq_program.specs.Statement_trees.{tree_of};
 ghost use Rattle.gq_rules.specs.Flowing.{few_loops};
-ghost use Rattle.gq_rules.specs.internal.Steps.{chosen, next_state};
-ghost use Rattle.gq_verify.specs.Counting.{saturated};
+ghost use Rattle.gq_rules.specs.internal.List_states.{chosen, next_state};
+ghost use Rattle.gq_verify.specs.Saturated_numbers.{saturated};
 ghost use Rattle.gq_verify.specs.Requested.{requests_for};
-ghost use Rattle.gq_verify.specs.internal.Adding.{Adds};
-ghost use Rattle.gq_verify.specs.internal.Alike.{AreAlike, FromAlike};
+ghost use Rattle.gq_verify.specs.internal.Request_sums.{Adds};
+ghost use Rattle.gq_verify.specs.internal.Slot_equal_states.{AreAlike, FromAlike};
 ghost use Rattle.gq_verify.specs.Rights.{IsRight};
 ghost use Rattle.gq_verify.specs.internal.Requesting.{requests_in, section_by};
 
 use crate::asked::Requests;
-use crate::asking::{ByLevel, section_by};
+use crate::asked_sections::{ByLevel, section_by};
 use crate::service::Service;
 use gq_caps::Totals;
 use gq_program::notes::keeps_slots;
-use gq_program::{Body, Instruction, Place, Section, Statement};
+use gq_program::{Body, Instruction, OperandSlot, Section, Statement};
 use gq_rules::flow::flow;
-use gq_rules::{Context, State};
+use gq_rules::{AbstractState, Context};
 use std::alloc::{AllocError, Global};
 
 /// One request more, on the link in a slot, which is for the section of a level.
 fn count_link(
     context: &Context<'_>,
-    state: &State,
+    state: &AbstractState,
     asked: &mut Requests,
-    place: Place,
+    place: OperandSlot,
     of: ByLevel,
 ) -> Result<(), AllocError>
     ensures { OnOk result (Adds asked.new asked.old (λ v r. by_link v r (link_kind (kind_at context.now state.now place)) (section_by of))) }
@@ -48,7 +48,7 @@ fn count_link(
 /// The request of an instruction more, if it makes one.
 fn count_instruction(
     context: &Context<'_>,
-    state: &State,
+    state: &AbstractState,
     asked: &mut Requests,
     instruction: &Instruction,
 ) -> Result<(), AllocError>
@@ -68,7 +68,11 @@ fn count_instruction(
 }
 
 /// Makes the change of an instruction to the slots, if it makes one. Operands are not gone on with, since no request depends on them.
-pub(crate) fn change_slots(context: &Context<'_>, state: &mut State, instruction: &Instruction)
+pub(crate) fn change_slots(
+    context: &Context<'_>,
+    state: &mut AbstractState,
+    instruction: &Instruction,
+)
     ensures { FromAlike context.now state.old (Do instruction.now Done) (λ s.
         AreAlike state.new (state_or s (at 1 (judged context.now s instruction.now)))) }
 {
@@ -81,10 +85,10 @@ pub(crate) fn change_slots(context: &Context<'_>, state: &mut State, instruction
 }
 
 /// Makes the changes of the first arm of an `if` to the slots, if it makes some.
-fn change_by_arm(context: &Context<'_>, state: &mut State, arm: &Body)
+fn change_by_arm(context: &Context<'_>, state: &mut AbstractState, arm: &Body)
     requires few { size arm.now ≤ 4096 }
     requires loops { IsTrue (few_loops (4 - length context.now.counts) arm.now) }
-    ensures { (s : State) → AreAlike s state.old → IsRight context.now (chosen s) arm.now →
+    ensures { (s : AbstractState) → AreAlike s state.old → IsRight context.now (chosen s) arm.now →
         AreAlike state.new (state_or (chosen s) (flow context.now (chosen s) arm.now)) }
 {
     if !arm.is_still() {
@@ -103,7 +107,7 @@ fn change_by_arm(context: &Context<'_>, state: &mut State, arm: &Body)
 fn count(
     alloc: Global,
     context: &Context<'_>,
-    state: &mut State,
+    state: &mut AbstractState,
     asked: &mut Requests,
     body: &Body,
 ) -> Result<(), AllocError>
@@ -123,7 +127,7 @@ fn count(
 fn count_in(
     alloc: Global,
     context: &Context<'_>,
-    state: &mut State,
+    state: &mut AbstractState,
     asked: &mut Requests,
     statement: &Statement,
 ) -> Result<(), AllocError>
@@ -164,7 +168,7 @@ fn count_in(
 fn count_if(
     alloc: Global,
     context: &Context<'_>,
-    state: &mut State,
+    state: &mut AbstractState,
     asked: &mut Requests,
     arm: &Body,
     other: &Body,
@@ -192,7 +196,7 @@ fn count_if(
 fn count_loop(
     alloc: Global,
     context: &Context<'_>,
-    state: &State,
+    state: &AbstractState,
     asked: &mut Requests,
     times: u16,
     body: &Body,
@@ -210,11 +214,11 @@ fn count_loop(
 
 /// The greatest numbers of requests of a list of statements that breaks no rule, from what is known before it, for all sections of all
 /// services at once; 2^64 - 1 where there are more. It goes over the statements once, and not over blocks that ask for nothing. Refused
-/// only for want of host memory, of which it takes some for each section that is asked for.
+/// only if the host refuses memory, of which it takes some for each section that is asked for.
 pub fn all_requests(
     alloc: Global,
     context: &Context<'_>,
-    state: &mut State,
+    state: &mut AbstractState,
     body: &Body,
 ) -> Result<Requests, AllocError>
     requires few { size body.now ≤ 4096 }

@@ -10,29 +10,29 @@
 //! assert_eq!(rt; verified.cost(Section::Main), Some(2));
 //! ```
 //!
-//! Modules: steps and requests (`steps`, `asked`), and the verdict (`verified`).
+//! Modules: steps and requests (`section_steps`, `asked`), and the verdict (`verified`).
 #![tactic(auto)]
 
 mod asked;
-mod asking;
+mod asked_sections;
 mod counting;
-mod ends;
-mod fault;
 mod next;
-mod own;
-mod requests;
-mod sections;
+mod own_use;
+mod section_end_rules;
+mod section_requests;
+mod section_rules;
+mod section_steps;
 mod service;
 mod sizes;
 mod starts;
-mod steps;
 mod verified;
+mod verify_fault;
 mod visits;
 
 pub use asked::{Asker, Requests};
-pub use fault::Fault;
+pub use section_steps::section_cost;
 pub use service::Service;
 pub use starts::Starts;
-pub use steps::section_cost;
 pub use verified::{Verified, verify};
+pub use verify_fault::Fault;
 pub use visits::Visitor;

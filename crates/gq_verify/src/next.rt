@@ -1,18 +1,18 @@
 // From statement to statement.
 ghost use Rattle.std.specs.Prelude.{◌≡◌, ◌≤◌, ◌-◌, ◌∷◌, [], IsTrue, length};
 ghost use Rattle.gq_model.specs.machine.Program.{size};
-ghost use Rattle.gq_program.specs.Trees.{tree_of};
+ghost use Rattle.gq_program.specs.Statement_trees.{tree_of};
 ghost use Rattle.gq_verify.specs.Rights.{IsRight};
 ghost use Rattle.gq_rules.specs.Flowing.{few_loops};
-ghost use Rattle.gq_rules.specs.internal.Steps.{next_state};
+ghost use Rattle.gq_rules.specs.internal.List_states.{next_state};
 
 use gq_caps::Totals;
 use gq_program::Statement;
 use gq_rules::flow::flow;
-use gq_rules::{Context, State};
+use gq_rules::{AbstractState, Context};
 
 /// What is known before the next statement of a list that breaks no rule.
-pub(crate) fn next(context: &Context<'_>, state: &mut State, statement: &Statement)
+pub(crate) fn next(context: &Context<'_>, state: &mut AbstractState, statement: &Statement)
     requires few { size (tree_of (statement.now ∷ [])) ≤ 4096 }
     requires loops { IsTrue (few_loops (4 - length context.now.counts) (tree_of (statement.now ∷ []))) }
     requires right { IsRight context.now state.old (tree_of (statement.now ∷ [])) }

@@ -1,8 +1,8 @@
 // Names of services that are searched for.
 ghost use Rattle.std.specs.Prelude.{◌≡◌};
-ghost use Rattle.gq_program.specs.Keys.{key_of};
+ghost use Rattle.gq_program.specs.Name_keys.{key_of};
 
-use gq_program::keys::key_of;
+use gq_program::name_keys::key_of;
 use std::marker::Model;
 
 /// The name of a service, with a number that is made of it: services with other numbers are other ones, so that a search goes over numbers.
@@ -14,7 +14,7 @@ pub struct Service<'a> {
 
 impl<'a> Model for Service<'a> {
     ghost use Rattle.std.specs.Prelude.{◌≡◌, ℕ, List};
-    ghost use Rattle.gq_program.specs.Keys.{key_of};
+    ghost use Rattle.gq_program.specs.Name_keys.{key_of};
 
     ghost Value = { List ℕ };
 

@@ -1,7 +1,7 @@
 // How many statements there are.
 ghost use Rattle.std.specs.Prelude.{◌≡◌, ◌≤◌, ◌∷◌, []};
 ghost use Rattle.gq_model.specs.machine.Program.{size};
-ghost use Rattle.gq_program.specs.Trees.{tree_of};
+ghost use Rattle.gq_program.specs.Statement_trees.{tree_of};
 
 use gq_program::{Body, Statement};
 

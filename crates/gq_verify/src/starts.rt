@@ -1,7 +1,7 @@
 // What is known where sections start.
 ghost use Rattle.std.specs.Prelude.{◌≡◌, ◌≤◌, [], ◌∷◌, IfOk, IsTrue};
 ghost use Rattle.gq_caps.specs.Measured.{AreFew};
-ghost use Rattle.gq_rules.specs.Peaks.{Peaks};
+ghost use Rattle.gq_rules.specs.List_maxima.{Peaks};
 ghost use Rattle.gq_verify.specs.internal.Mains.{MostWhereRight};
 ghost use Rattle.gq_model.specs.machine.Program.{size};
 ghost use Rattle.gq_model.specs.texts.Code.{is_section};
@@ -11,18 +11,18 @@ ghost use Rattle.gq_rules.specs.Flowing.{flowed};
 ghost use Rattle.gq_verify.specs.internal.Mains.{MainAnswers};
 ghost use Rattle.gq_verify.specs.internal.Starting.{IsStarts};
 
-use crate::ends::main_section_end;
+use crate::section_end_rules::main_section_end;
 use gq_caps::{Bank, Totals};
 use gq_model::limits::{OWN_SLOTS, SESSION_SLOTS};
 use gq_program::Section;
 use gq_rules::flow::flow;
-use gq_rules::{Broken, Context, State, Subject, at};
+use gq_rules::{AbstractState, Broken, Context, Subject, at};
 
 /// Walks through the statements of a section, and answers how many there are.
 pub(crate) fn walk(
     subject: &Subject<'_>,
     section: Section,
-    state: &mut State,
+    state: &mut AbstractState,
     peaks: &mut Totals,
 ) -> Result<u64, Broken>
     requires { AreFew peaks.old }
@@ -47,12 +47,12 @@ fn first(
     section: Section,
     own: &Bank<OWN_SLOTS>,
     bank: &Bank<SESSION_SLOTS>,
-) -> State
+) -> AbstractState
     ensures { result ≡ record { own = all_known own.now; bank = all_known bank.now; bounds = first_bounds subject.now.provided section } }
 {
     match section {
-        Section::Calling(_) => State::with_operand(*own, *bank, subject.arg()),
-        _ => State::new(*own, *bank),
+        Section::Calling(_) => AbstractState::with_operand(*own, *bank, subject.arg()),
+        _ => AbstractState::new(*own, *bank),
     }
 }
 
@@ -64,15 +64,15 @@ struct MainWalked {
     answer: Result<(), Broken>,
 }
 
-/// Walks through `main`: the kinds of the own slots as it leaves them, with the greatest of what is measured at its points, where it
-/// breaks no rule, and the rule that it breaks first.
+/// Walks through `main`. Gives the kinds of the own slots as it leaves them, with the greatest of what is measured at its points.
+/// Where it breaks a rule, gives the rule that it breaks first.
 fn walk_main(subject: &Subject<'_>) -> MainWalked
     ensures own { all_known result.own ≡ own_after subject.now }
     ensures peaks { MostWhereRight subject.now result.peaks }
     ensures small { AreFew result.peaks }
     ensures answer { MainAnswers subject.now result.answer }
 {
-    let mut state = State::new(Bank::new(), Bank::new());
+    let mut state = AbstractState::new(Bank::new(), Bank::new());
     let mut peaks = Totals::none();
     match walk(subject, Section::Main, &mut state, &mut peaks) {
         Ok(count) => {
@@ -174,19 +174,22 @@ impl Starts {
     }
 
     /// What is known where a section starts.
-    pub fn start_of(&self, subject: &Subject<'_>, section: Section) -> State
+    pub fn start_of(&self, subject: &Subject<'_>, section: Section) -> AbstractState
         requires starts { IsStarts subject.now self.now }
         requires section { IsTrue (is_section section) }
         ensures { result ≡ start_of subject.now section }
     {
         match section {
-            Section::Main => State::new(Bank::new(), Bank::new()),
-            Section::Opening => State::new(self.own, Bank::new()),
-            Section::Upgrading(level) => State::new(self.own, *self.bank_at(subject, level - 1)),
+            Section::Main => AbstractState::new(Bank::new(), Bank::new()),
+            Section::Opening => AbstractState::new(self.own, Bank::new()),
+            Section::Upgrading(level) => AbstractState::new(
+                self.own,
+                *self.bank_at(subject, level - 1),
+            ),
             Section::Calling(level) => {
-                State::with_operand(self.own, *self.bank_at(subject, level), subject.arg())
+                AbstractState::with_operand(self.own, *self.bank_at(subject, level), subject.arg())
             }
-            Section::Closing(level) => State::new(self.own, *self.bank_at(subject, level)),
+            Section::Closing(level) => AbstractState::new(self.own, *self.bank_at(subject, level)),
         }
     }
 }

@@ -5,20 +5,20 @@ ghost use Rattle.gq_model.specs.declared.program.Section.{Section};
 ghost use Rattle.gq_model.specs.texts.Code.{is_section};
 ghost use Rattle.gq_model.specs.rules.Budgets.{own, section_requests};
 ghost use Rattle.gq_model.specs.rules.Verdict.{verdict, verified, program_fault};
-ghost use Rattle.gq_verify.specs.Counting.{saturated};
+ghost use Rattle.gq_verify.specs.Saturated_numbers.{saturated};
 ghost use Rattle.gq_verify.specs.Requested.{requests_for};
-ghost use Rattle.gq_verify.specs.Faults.{known_fault};
-ghost use Rattle.gq_verify.specs.Sections.{AreThere};
+ghost use Rattle.gq_verify.specs.Program_faults.{known_fault};
+ghost use Rattle.gq_verify.specs.Named_sections.{AreThere};
 ghost use Rattle.gq_verify.specs.Subjects.{subject_of, cost_in};
 ghost use Rattle.gq_verify.specs.Visits.{Shows, section_sights};
 
 use crate::asked::Requests;
-use crate::fault::Fault;
-use crate::own::own;
-use crate::requests::section_counts;
-use crate::sections::program_fault;
+use crate::own_use::own;
+use crate::section_requests::section_counts;
+use crate::section_rules::program_fault;
+use crate::section_steps::section_cost;
 use crate::starts::Starts;
-use crate::steps::section_cost;
+use crate::verify_fault::Fault;
 use crate::visits::{Visitor, visit};
 use gq_program::{Body, Interfaces, Name, Program, Section};
 use gq_rules::{Context, Subject};
@@ -43,7 +43,7 @@ impl<'a> Model for Verified<'a> {
 
     ghost coded = { Prim.hlevel (codes, statements_code (Prim.hlevel codes)) };
 
-    ghost use Rattle.gq_verify.specs.internal.Keeping.{IsKept};
+    ghost use Rattle.gq_verify.specs.internal.Kept_numbers.{IsKept};
 
     ghost view = { λ v. v.subject };
 
@@ -59,7 +59,7 @@ impl<'a> Verified<'a> {
     }
 
     /// The most bytes of its own account that its `main` uses. At a point of it these are the prices of what the own slots hold with what they have lent, and
-    /// the heap by the greatest number of cells of each class, pools counted as full. Less than 2^42.
+    /// of the heap. The heap counts by the greatest number of cells of each class, with pools counted as full. Less than 2^42.
     pub fn own(&self) -> u64
         ensures { result ≡ own Ram self.now }
     {
@@ -101,7 +101,7 @@ impl<'a> Verified<'a> {
         program.sections()
     }
 
-    /// Shows the points of a section, where it is there. It goes over the statements once, and takes no host memory.
+    /// Shows the points of a section, where it is there. It goes over the statements once, and allocates no host memory.
     pub fn visit<V: Visitor>(&self, section: Section, visitor: &mut V)
         requires { IsTrue (is_section section) }
         ensures { Shows V.leads visitor.old (section_sights self.now section) visitor.new }
@@ -122,7 +122,7 @@ impl<'a> Verified<'a> {
     }
 
     /// The greatest numbers of requests of a section, for all sections of all services at once. It goes over the statements once, and not
-    /// over loops that make none. Refused only for want of host memory, of which it takes some for each section that is asked for.
+    /// over loops that make none. Refused only if the host refuses memory, of which it takes some for each section that is asked for.
     pub fn all_requests(&self, alloc: Global, from: Section) -> Result<Requests, AllocError>
         requires { IsTrue (is_section from) }
         ensures { IfOk result (λ n. (v : List ℕ) (r : Section) → saturated (requests_for n v r) ≡ saturated (section_requests self.now from v r)) }
@@ -134,7 +134,7 @@ impl<'a> Verified<'a> {
 
 /// Judges a program by its service, if it provides one, all interfaces, and the greatest values of its inputs. Returns what the program
 /// uses at most, or the rule that it breaks first. A service without an interface counts as none. The call goes over the statements a
-/// fixed number of times, and takes no host memory.
+/// fixed number of times, and allocates no host memory.
 pub fn verify<'a>(
     program: &'a Program,
     provides: Option<&Name>,

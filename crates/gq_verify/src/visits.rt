@@ -3,29 +3,29 @@ ghost use Rattle.std.specs.Prelude.{◌≡◌, ◌≤◌, ◌<◌, ◌+◌, ◌-
 ghost use Rattle.gq_model.specs.machine.Program.{size, Done, If, Loop};
 ghost use Rattle.gq_model.specs.rules.Flow.{flow, state_or};
 ghost use Rattle.gq_model.specs.rules.Kinds.{inside};
-ghost use Rattle.gq_program.specs.Trees.{tree_of};
+ghost use Rattle.gq_program.specs.Statement_trees.{tree_of};
 ghost use Rattle.gq_rules.specs.Flowing.{few_loops};
-ghost use Rattle.gq_rules.specs.internal.Steps.{chosen, next_state};
+ghost use Rattle.gq_rules.specs.internal.List_states.{chosen, next_state};
 ghost use Rattle.gq_verify.specs.Visits.{Sight, At_statement, At_point, Shows, sights, slots_of};
-ghost use Rattle.gq_verify.specs.internal.Alike.{AreAlike, FromAlike};
+ghost use Rattle.gq_verify.specs.internal.Slot_equal_states.{AreAlike, FromAlike};
 ghost use Rattle.gq_verify.specs.internal.Visiting.{sights_in, size_in};
 
 use crate::counting::change_slots;
 use gq_program::{Body, Instruction, Statement};
-use gq_rules::{Context, State};
+use gq_rules::{AbstractState, Context};
 
 /// What looks at the points of a section, in the order of the walk: its start, then the point after each statement; that after an `if` or a `loop` comes after
-/// those inside it. Slots alone are told: operands may be others than there are.
+/// those inside it. Slots alone are reported: operands may be others than there are.
 pub trait Visitor {
     /// What it may be, after what it is, once it is shown this.
     ghost leads: { Self → Sight → Self → Type 0 };
 
     /// A statement, with what is known before it.
-    fn statement(&mut self, context: &Context<'_>, state: &State, instruction: &Instruction)
+    fn statement(&mut self, context: &Context<'_>, state: &AbstractState, instruction: &Instruction)
         ensures { leads self.old (At_statement context.now (slots_of state.now) instruction.now) self.new };
 
     /// A point: the number of the statement that it comes after, 0 at the start of the section, and what is known of the slots there.
-    fn point(&mut self, number: u64, state: &State)
+    fn point(&mut self, number: u64, state: &AbstractState)
         ensures { leads self.old (At_point number (slots_of state.now)) self.new };
 }
 
@@ -33,7 +33,7 @@ pub trait Visitor {
 #[cycle(visiting)]
 pub(crate) fn visit<V: Visitor>(
     context: &Context<'_>,
-    state: &mut State,
+    state: &mut AbstractState,
     number: &mut u64,
     body: &Body,
     visitor: &mut V,
@@ -53,7 +53,7 @@ pub(crate) fn visit<V: Visitor>(
 #[cycle(visiting)]
 fn visit_statement<V: Visitor>(
     context: &Context<'_>,
-    state: &mut State,
+    state: &mut AbstractState,
     number: &mut u64,
     statement: &Statement,
     visitor: &mut V,
@@ -76,7 +76,7 @@ fn visit_statement<V: Visitor>(
 #[cycle(visiting)]
 fn visit_in<V: Visitor>(
     context: &Context<'_>,
-    state: &mut State,
+    state: &mut AbstractState,
     number: &mut u64,
     statement: &Statement,
     visitor: &mut V,
@@ -104,7 +104,7 @@ fn visit_in<V: Visitor>(
 #[inline(never)]
 fn visit_if<V: Visitor>(
     context: &Context<'_>,
-    state: &mut State,
+    state: &mut AbstractState,
     number: &mut u64,
     arm: &Body,
     other: &Body,
@@ -128,7 +128,7 @@ fn visit_if<V: Visitor>(
 #[inline(never)]
 fn visit_loop<V: Visitor>(
     context: &Context<'_>,
-    state: &State,
+    state: &AbstractState,
     number: &mut u64,
     count: u16,
     body: &Body,

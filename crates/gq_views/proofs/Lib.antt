@@ -9,10 +9,10 @@ mod Listed_sections
 mod Listed_programs
 mod Listed_printed
 mod Listed_leaves
-mod Pushed
-mod Told_statements
-mod Told_sections
-mod Told_services
-mod Told_nodes
-mod Told_boxes
+mod Growing_view_texts
+mod Printed_statements
+mod Printed_sections
+mod Printed_services
+mod Printed_view_nodes
+mod Printed_boxes
 mod Numbered_rows

@@ -2,7 +2,7 @@
 use Rattle.std.proofs.Common.{◌≡◌, ◌∙◌, ℕ, Bool, true, false, cond, List, [], ◌∷◌, map, Option, Some, None, Ok, Err, ap, refl, sym, subst}
 use Rattle.std.specs.Prelude.{Result, codes}
 use Rattle.toml.specs.Data.{Members}
-use Rattle.gq_model.proofs.Small.{none_some, some_none, some_same}
+use Rattle.gq_model.proofs.Small_facts.{none_some, some_none, some_same}
 use Rattle.gq_model.specs.declared.fault.CodeFault.{CodeFault}
 use Rattle.gq_model.specs.declared.fault.TextFault.{TextFault}
 use Rattle.gq_model.specs.machine.Lists.{or_first}
@@ -13,20 +13,20 @@ use Rattle.gq_model.specs.texts.Decode.{decoded}
 use Rattle.gq_model.specs.texts.Sources.{program_from, program_or_none}
 use Rattle.gq_model.specs.texts.Text.{assembled}
 use Rattle.gq_scenario.specs.Document.{described, document_fault, list_at}
-use Rattle.gq_scenario.specs.Keys.{DocumentFault}
-use Rattle.gq_scenario.specs.Reading.{ReadFault, described_or, document_in, read_from, scenario_in}
+use Rattle.gq_scenario.specs.Table_keys.{DocumentFault}
+use Rattle.gq_scenario.specs.Top_table.{ReadFault, described_or, document_in, read_from, scenario_in}
 use Rattle.gq_scenario.specs.Sizes.{leaves_in}
-use Rattle.gq_scenario.proofs.Preorder.{components-leaves_in}
+use Rattle.gq_scenario.proofs.Preorder_leaves.{components-leaves_in}
 use Rattle.gq_laws.specs.Shapes.{Each}
 use Rattle.gq_load.specs.Load.{Fault, code_fault, source_fault, text_fault}
 use Rattle.gq_load.specs.Named.{leaf_named}
 use Rattle.gq_load.proofs.Sound_programs.{IsGiven, nodes_given, programs_are}
 use Rattle.gq_load.proofs.Sound_texts.{not_ok, same_scenario}
 use Rattle.gq_world.specs.Whole.{Written}
-use Rattle.gq_views.specs.Listed.{IsGivenBy, ListsNumbers, ListsProgram}
+use Rattle.gq_views.specs.Assembled_listing.{IsGivenBy, ListsNumbers, ListsProgram}
 use Rattle.gq_views.specs.declared.margin.Margin.TheVariants.{Plain, Numbered}
 use Rattle.gq_views.specs.Listing.{listing}
-use Rattle.gq_views.specs.Written.{list_from, list_written, program_text, text_of_leaf}
+use Rattle.gq_views.specs.Views_written.{list_from, list_written, program_text, text_of_leaf}
 use Rattle.gq_views.proofs.Listed_printed.{listed}
 use Rattle.gq_views.proofs.Numbered_rows.{numbers_listing}
 use Rattle.gq_views.specs.Numbered.{numbered_listing}

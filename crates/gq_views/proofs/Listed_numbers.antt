@@ -1,4 +1,4 @@
--- Numbers are read back as they are told.
+-- Numbers are read back as they are reported.
 use Rattle.std.proofs.Common.{◌≡◌, ◌∙◌, ℕ, ◌+◌, ◌-◌, ◌*◌, ◌%◌, ◌^◌, ◌<◌, Bool, true, false, List, [], ◌∷◌, ◌++◌, length, get_or, Some, None}
 use Rattle.std.proofs.Common.{refl, ap, arith, length-append}
 use Rattle.std.proofs.Math.ListN.{get_or-append}
@@ -24,13 +24,13 @@ all_append test (x ∷ xs) ys h g = and_step (test x) (all_of test xs) (all_of t
 digit_is : (d : ℕ) → d < 10 → is_digit (48 + d) ≡ true
 digit_is d less = and_from (nat_le 48 (48 + d)) (nat_le (48 + d) 57) (le-leb 48 (48 + d) (omega arith)) (le-leb (48 + d) 57 (omega arith))
 
-pub record IsTold (n : ℕ) (ds : List ℕ) : Type 0 where
+pub record IsReported (n : ℕ) (ds : List ℕ) : Type 0 where
   pub digits : all_of is_digit ds ≡ true
   pub value : spelled_on 0 ds ≡ n
 
-pub decimal_told : (n : ℕ) → n < 2 ^ 64 → IsTold n (decimal n)
-decimal_told =
-    decimal_by_steps IsTold (λ m less. record { digits = and_from (is_digit (48 + m)) true (digit_is m less) refl; value = omega arith })
+pub decimal_is_printed : (n : ℕ) → n < 2 ^ 64 → IsReported n (decimal n)
+decimal_is_printed =
+    decimal_by_steps IsReported (λ m less. record { digits = and_from (is_digit (48 + m)) true (digit_is m less) refl; value = omega arith })
     (λ m ds l h. record {
       digits = all_append is_digit ds ((48 + m % 10) ∷ []) h.digits (and_from (is_digit (48 + m % 10)) true (digit_is (m % 10) (omega arith)) refl);
       value = omega (arith, spelled_last 0 (48 + m % 10) ds, h.value);
@@ -39,7 +39,7 @@ decimal_told =
 -- a number of at most k digits in a range
 pub number_read : (k low high n : ℕ) → 0 < k → n < 10 ^ k → n < 2 ^ 64 → between low high n ≡ true → number_in k low high (decimal n) ≡ Some n
 number_read k low high n some fits small within =
-    let t = decimal_told n small in
+    let t = decimal_is_printed n small in
     let value : between low high (spelled_on 0 (decimal n)) ≡ true = ap (between low high) t.value ∙ within in
     let long : between 1 k (length (decimal n)) ≡ true =
     and_from (nat_le 1 (length (decimal n))) (nat_le (length (decimal n)) k) (le-leb 1 (length (decimal n)) (decimal_nonempty n small))
@@ -63,8 +63,8 @@ record IsShort (n : ℕ) (ds : List ℕ) : Type 0 where
   first : 0 < n → 48 < get_or ds 0 0
   short : is_short ds ≡ true
 
-told_short : (n : ℕ) → n < 2 ^ 64 → IsShort n (decimal n)
-told_short =
+printed_short : (n : ℕ) → n < 2 ^ 64 → IsShort n (decimal n)
+printed_short =
     decimal_by_steps IsShort (λ m less. record { some = omega arith; first = λ a. omega arith; short = refl })
     (λ m ds l h. record {
       some = omega (arith, length-append ds ((48 + m % 10) ∷ []));
@@ -73,4 +73,4 @@ told_short =
     })
 
 pub decimal_short : (n : ℕ) → n < 2 ^ 64 → is_short (decimal n) ≡ true
-decimal_short n small = (told_short n small).short
+decimal_short n small = (printed_short n small).short

@@ -1,4 +1,4 @@
--- Operands are read back as they are told.
+-- Operands are read back as they are reported.
 use Rattle.std.proofs.Common.{◌≡◌, ◌∙◌, ℕ, ◌<◌, ◌≤◌, ◌^◌, Bool, true, false, List, [], ◌∷◌, ◌++◌, length, map, Option, Some, None, Ok}
 use Rattle.std.proofs.Common.{refl, ap, sym, arith, append-nil}
 use Rattle.std.specs.Prelude.{◌&&◌, nat_le, ◌==◌, if◌then◌else◌, decimal, codes}
@@ -7,15 +7,15 @@ use Rattle.std.proofs.lemmas.Bool.Decides.{nat_tests}
 use Rattle.std.proofs.lemmas.Fmt.{decimal_nonempty}
 use Rattle.gq_model.specs.declared.fault.TextFault.TheVariants as fault
 use Rattle.gq_model.specs.declared.program.Instruction.{Instruction}
-use Rattle.gq_model.specs.declared.program.Place.{Place}
-use Rattle.gq_model.specs.declared.program.Place.TheVariants.{Own, Shared, Object}
+use Rattle.gq_model.specs.declared.program.OperandSlot.{OperandSlot}
+use Rattle.gq_model.specs.declared.program.OperandSlot.TheVariants.{Own, Shared, Object}
 use Rattle.gq_model.specs.machine.Lists.{all_of, between}
 use Rattle.gq_model.specs.machine.Program.{text_eq}
 use Rattle.gq_model.specs.texts.Letters.{is_digit, is_name, is_name_byte, number_in, words}
 use Rattle.gq_model.specs.texts.Operands.{Operand, is_slot, is_slot_or_object}
 use Rattle.gq_model.specs.texts.Spelling.{Shape, Number, Slot, Service, found, instruction_in, named, numbered_slot, slot_in, slot_number}
 use Rattle.gq_views.specs.Listing.{operand_text, operands_text, place_text}
-use Rattle.gq_views.proofs.Listed_numbers.{all_append, decimal_short, decimal_told, number_read}
+use Rattle.gq_views.proofs.Listed_numbers.{all_append, decimal_short, decimal_is_printed, number_read}
 use Rattle.gq_views.proofs.Listed_lines.{decimal_solid, is_printed, is_solid, name_solid, solid_printed, word_alone, word_first}
 
 -- WORDS
@@ -43,7 +43,7 @@ letter_word : (c n : ℕ) → is_solid c ≡ true → n < 2 ^ 64 → IsWord (c �
 letter_word c n h small =
     record { first = c; rest = decimal n; is = refl; solid = and_from (is_solid c) (all_of is_solid (decimal n)) h (decimal_solid n small) }
 
-pub place_word : (p : Place) → is_slot_or_object p ≡ true → IsWord (place_text p)
+pub place_word : (p : OperandSlot) → is_slot_or_object p ≡ true → IsWord (place_text p)
 place_word (Own i) h = let less = ltb-true i 64 h in letter_word 111 i refl (omega (arith, less))
 place_word (Shared i) h = let less = ltb-true i 8 h in letter_word 115 i refl (omega (arith, less))
 place_word Object h = record { first = 111; rest = 98 ∷ 106 ∷ []; is = refl; solid = refl }
@@ -92,19 +92,19 @@ own_or : (object : Bool) (i : ℕ) → i < 64 → slot_in object (place_text (Ow
 own_or false i less = ap (named Own) (slot_numbered 63 i (omega (arith, less)) (omega (arith, less)))
 own_or true i less =
     ap (λ (b : Bool). if b then Some Object else numbered_slot (111 ∷ decimal i))
-    (not_object (decimal i) (decimal_told i (omega (arith, less))).digits (decimal_nonempty i (omega (arith, less))))
+    (not_object (decimal i) (decimal_is_printed i (omega (arith, less))).digits (decimal_nonempty i (omega (arith, less))))
     ∙ ap (named Own) (slot_numbered 63 i (omega (arith, less)) (omega (arith, less)))
 
 shared_or : (object : Bool) (i : ℕ) → i < 8 → slot_in object (place_text (Shared i)) ≡ Some (Shared i)
 shared_or false i less = ap (named Shared) (slot_numbered 7 i (omega (arith, less)) (omega (arith, less)))
 shared_or true i less = ap (named Shared) (slot_numbered 7 i (omega (arith, less)) (omega (arith, less)))
 
-pub slot_read : (p : Place) → is_slot p ≡ true → slot_in false (place_text p) ≡ Some p
+pub slot_read : (p : OperandSlot) → is_slot p ≡ true → slot_in false (place_text p) ≡ Some p
 slot_read (Own i) h = own_or false i (ltb-true i 64 h)
 slot_read (Shared i) h = shared_or false i (ltb-true i 8 h)
 slot_read Object h = cc h
 
-pub object_read : (p : Place) → is_slot_or_object p ≡ true → slot_in true (place_text p) ≡ Some p
+pub object_read : (p : OperandSlot) → is_slot_or_object p ≡ true → slot_in true (place_text p) ≡ Some p
 object_read (Own i) h = own_or true i (ltb-true i 64 h)
 object_read (Shared i) h = shared_or true i (ltb-true i 8 h)
 object_read Object h = refl
@@ -116,9 +116,10 @@ module _ (after : List ℕ) (rest : List (List ℕ)) (i : Instruction) where
       → instruction_in after (Number width low high go) (decimal n ∷ rest) ≡ Ok i
   reads_number width low high n go e h = ap (λ (o : Option ℕ). found o fault.BadNumber (λ m. instruction_in after (go m) rest)) e ∙ h
 
-  pub reads_slot : (object : Bool) (p : Place) (go : Place → Shape) → slot_in object (place_text p) ≡ Some p → instruction_in after (go p) rest ≡ Ok i
+  pub reads_slot : (object : Bool) (p : OperandSlot) (go : OperandSlot → Shape) → slot_in object (place_text p) ≡ Some p → instruction_in after (go p) rest ≡
+      Ok i
       → instruction_in after (Slot object go) (place_text p ∷ rest) ≡ Ok i
-  reads_slot object p go e h = ap (λ (o : Option Place). found o fault.BadSlot (λ q. instruction_in after (go q) rest)) e ∙ h
+  reads_slot object p go e h = ap (λ (o : Option OperandSlot). found o fault.BadSlot (λ q. instruction_in after (go q) rest)) e ∙ h
 
   pub reads_service : (v : List ℕ) (go : List ℕ → Shape) → is_name v ≡ true → instruction_in after (go v) rest ≡ Ok i
       → instruction_in after (Service go) (v ∷ rest) ≡ Ok i

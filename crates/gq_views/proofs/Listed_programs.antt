@@ -183,7 +183,7 @@ local_line k c i n L S low fits none =
     ∙ ap (λ (o : Option ℕ). once o (value (number_in 10 0 greatest_number (decimal n)))) none
     ∙ ap value (number_of_32 0 greatest_number n (omega (arith, few)) fits))
 
--- a local is told where it has a limit
+-- a local is reported where it has a limit
 local_lead : (k c i n : ℕ) (L : List (ℕ × ℕ)) (S : Sections) → i ≤ 7 → between 0 greatest_number n ≡ true → limit_of i L ≡ None → (b : Bool)
     → LeadsAt k (at L S c []) (if b then [] else local_text i n ∷ []) (at (if b then L else (i, n) ∷ L) S c [])
 local_lead k c i n L S low fits none true = leads_none k (at L S c []) (at L S c []) refl
@@ -195,11 +195,11 @@ locals_lead k c i [] L S few fits free = leads_none k (at L S c []) (at L S c []
 locals_lead k c i (n ∷ rest) L S few fits free =
     let t = and_parts (between 0 greatest_number n) (all_of (between 0 greatest_number) rest) fits in
     let L' = one_onto i n L in
-    let front : List (List ℕ) = if n == greatest_number then [] else local_text i n ∷ [] in
+    let prefix : List (List ℕ) = if n == greatest_number then [] else local_text i n ∷ [] in
     let first = local_lead k c i n L S (omega (arith, few)) t.0 (free i (omega arith)) (n == greatest_number) in
-    let next = locals_lead (k + length front) c (suc i) rest L' S (omega (arith, few)) t.1
+    let next = locals_lead (k + length prefix) c (suc i) rest L' S (omega (arith, few)) t.1
     (λ j less. other_limit i j n L (λ e. omega (arith, e, less)) ∙ free j (omega (arith, less))) in
-    leads_both k (at L S c []) (at L' S c []) (at (limits_onto (suc i) rest L') S c []) front (locals_lines (suc i) rest) first next
+    leads_both k (at L S c []) (at L' S c []) (at (limits_onto (suc i) rest L') S c []) prefix (locals_lines (suc i) rest) first next
 
 -- PROGRAMS
 

@@ -9,8 +9,8 @@ use Rattle.gq_model.specs.declared.program.Form.TheVariants.{Block, Slice, Space
 use Rattle.gq_model.specs.declared.program.Instruction.{Instruction}
 use Rattle.gq_model.specs.declared.program.Instruction.TheVariants as i
 use Rattle.gq_model.specs.declared.program.OperandStatement.TheVariants.{Plain, Numbered}
-use Rattle.gq_model.specs.declared.program.Place.{Place}
-use Rattle.gq_model.specs.declared.program.Place.TheVariants.{Own, Shared, Object}
+use Rattle.gq_model.specs.declared.program.OperandSlot.{OperandSlot}
+use Rattle.gq_model.specs.declared.program.OperandSlot.TheVariants.{Own, Shared, Object}
 use Rattle.gq_model.specs.declared.program.Width.TheVariants.{Byte, Word}
 use Rattle.gq_model.specs.machine.Lists.{all_of, between}
 use Rattle.gq_model.specs.machine.Program.{Do, Done}
@@ -47,7 +47,7 @@ high_small (suc (suc zero)) high h = omega (arith, h)
 high_small (suc (suc (suc (suc zero)))) high h = omega (arith, h)
 high_small _ high h = absurd h
 
-slot_any : (p : Place) → is_slot p ≡ true → is_slot_or_object p ≡ true
+slot_any : (p : OperandSlot) → is_slot p ≡ true → is_slot_or_object p ≡ true
 slot_any (Own n) h = h
 slot_any (Shared n) h = h
 slot_any Object h = refl

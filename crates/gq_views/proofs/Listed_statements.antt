@@ -136,8 +136,8 @@ module _ (L : List (ℕ × ℕ)) (S : List (Section × Statements)) where
       let r3 = at (c + size other) (with_more b (If arm other Done) ∷ bs) in
       let line = indented d (codes "else") in
       let inner = statements_lines (suc d) other in
-      let front = leads_both k r0 r1 r2 (line ∷ []) inner (else_line k d c j arm b bs) ih in
-      leads_both k r0 r2 r3 (line ∷ inner) (indented d (codes "end") ∷ []) front (end_else (k + length (line ∷ inner)) d (c + size other) j arm other b bs)
+      let prefix = leads_both k r0 r1 r2 (line ∷ []) inner (else_line k d c j arm b bs) ih in
+      leads_both k r0 r2 r3 (line ∷ inner) (indented d (codes "end") ∷ []) prefix (end_else (k + length (line ∷ inner)) d (c + size other) j arm other b bs)
 
   arm_ends : (k j d c : ℕ) (b : OpenBlock) (bs : List OpenBlock) (arm other : Statements)
       → LeadsAt (k + 1) (at c (opened (Second_arm arm) j Done ∷ b ∷ bs)) (statements_lines (suc d) other)

@@ -8,14 +8,14 @@ use Rattle.gq_model.specs.machine.Program.{Program, Statements, Done, Do, size}
 use Rattle.gq_model.specs.machine.Program as program
 use Rattle.gq_model.specs.texts.Fault_texts.{section_word}
 use Rattle.gq_model.specs.texts.Operands.{greatest_number}
-use Rattle.gq_program.specs.Trees.{tree_of}
-use Rattle.gq_program.specs.declared.program.Statement.{Statement}
-use Rattle.gq_program.specs.declared.program.Statement.TheVariants.{Plain, If, Loop}
-use Rattle.gq_program.proofs.Sizes.{here_is, size_first}
+use Rattle.gq_program.specs.Statement_trees.{tree_of}
+use Rattle.gq_program.specs.declared.program_tree.Statement.{Statement}
+use Rattle.gq_program.specs.declared.program_tree.Statement.TheVariants.{Plain, If, Loop}
+use Rattle.gq_program.proofs.Statement_list_sizes.{here_is, size_first}
 use Rattle.gq_views.specs.Listing.{indented, instruction_text, joined, line, locals_lines, loop_text, other_lines, sections_lines, statements_lines}
 use Rattle.gq_views.specs.Numbered.{NumbersListing, Row, blanks, counted_from, local_rows, margin, number_in, numbered_listing, numbers_of, other_rows}
 use Rattle.gq_views.specs.Numbered.{section_rows, statement_rows, text_of}
-use Rattle.gq_views.proofs.Told_sections.{next_is}
+use Rattle.gq_views.proofs.Printed_sections.{next_is}
 
 pub text_append : (a b : List Row) → text_of (a ++ b) ≡ text_of a ++ text_of b
 text_append [] b = refl
@@ -124,12 +124,12 @@ module _ (d e n : ℕ) (deeper : e ≡ d + 1) where
       three : (t a b f u v x : List ℕ) → u ≡ t ++ a → v ≡ u ++ b → x ≡ v ++ f → x ≡ t ++ (a ++ (b ++ f))
       three t a b f u v x p q r = rw (r, q, p) (simp append_assoc)
 
--- the second arm is told where it has statements
+-- the second arm is reported where it has statements
 module _ (d : ℕ) (rows : List Row) where
-  told_other : (st : Statement) (rest : List Statement) → other_rows d (tree_of (st ∷ rest)) rows ≡ (None, indented d (codes "else")) ∷ rows
-  told_other (Plain i) rest = refl
-  told_other (If arm other) rest = refl
-  told_other (Loop count body) rest = refl
+  printed_other : (st : Statement) (rest : List Statement) → other_rows d (tree_of (st ∷ rest)) rows ≡ (None, indented d (codes "else")) ∷ rows
+  printed_other (Plain i) rest = refl
+  printed_other (If arm other) rest = refl
+  printed_other (Loop count body) rest = refl
 
   pub other_text : (items : List Statement) → 0 < length items → (t u x : List ℕ) → u ≡ t ++ text_of ((None, indented d (codes "else")) ∷ [])
       → x ≡ u ++ text_of rows → x ≡ t ++ text_of (other_rows d (tree_of items) rows)
@@ -137,7 +137,7 @@ module _ (d : ℕ) (rows : List Row) where
   other_text (st ∷ rest) h t u x p q =
       let e : List Row = (None, indented d (codes "else")) ∷ [] in
       rw (q, p) (append_assoc t (text_of e) (text_of rows)
-      ∙ ap (λ l. t ++ l) (sym (ap text_of (told_other st rest) ∙ text_append e rows)))
+      ∙ ap (λ l. t ++ l) (sym (ap text_of (printed_other st rest) ∙ text_append e rows)))
 
   pub no_other : (items : List Statement) → length items ≡ 0 → (t : List ℕ) → t ≡ t ++ text_of (other_rows d (tree_of items) rows)
   no_other [] h t = sym (append-nil t)
@@ -182,14 +182,14 @@ local_line i n false t u v e p q =
     q ∙ ap (λ l. l ++ (words ++ 10 ∷ [])) p ∙ append_assoc t (margin None) (words ++ 10 ∷ [])
     ∙ ap (λ l. t ++ l) (sym (append_assoc (margin None) words (10 ∷ [])))
 
--- the line of a local that is told, behind its margin
+-- the line of a local that is reported, behind its margin
 pub local_text : (i n : ℕ) (t u v : List ℕ) → eqb n greatest_number ≡ false → u ≡ t ++ margin None → v ≡ u ++ joined (locals_lines i (n ∷ []))
     → v ≡ t ++ text_of (local_rows i (n ∷ []))
 local_text i n t u v e p q =
     let words = codes "local " ++ decimal i ++ codes " " ++ decimal n in
-    let told : List (List ℕ) = cond (eqb n greatest_number) [] (words ∷ []) in
+    let reported : List (List ℕ) = cond (eqb n greatest_number) [] (words ∷ []) in
     let rows : List Row = cond (eqb n greatest_number) [] ((None, words) ∷ []) in
-    local_line i n (eqb n greatest_number) t u v e p (q ∙ ap (λ l. u ++ joined l) (append-nil told)) ∙ ap (λ r. t ++ text_of r) (sym (append-nil rows))
+    local_line i n (eqb n greatest_number) t u v e p (q ∙ ap (λ l. u ++ joined l) (append-nil reported)) ∙ ap (λ r. t ++ text_of r) (sym (append-nil rows))
 
 -- the first local before the others
 pub locals_first : (i n : ℕ) (rest : List ℕ) → text_of (local_rows i (n ∷ rest)) ≡ text_of (local_rows i (n ∷ [])) ++ text_of (local_rows (suc i) rest)

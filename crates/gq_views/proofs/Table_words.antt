@@ -4,7 +4,7 @@ use Rattle.std.specs.Prelude.{if◌then◌else◌}
 use Rattle.std.proofs.lemmas.Bool.{and_parts}
 use Rattle.gq_model.specs.machine.Lists.{all_of}
 use Rattle.gq_model.specs.texts.Spelling.{Shape, Spelling, shape_of_opcode, word_of_opcode}
-use Rattle.gq_model.proofs.Small.{none_some}
+use Rattle.gq_model.proofs.Small_facts.{none_some}
 
 -- a test that each word of the table passes is passed by the word of the statement with a number that is there
 pub word_passes : (test : List ℕ → Bool) (ps : List Spelling) (code : ℕ) (shape : Shape) → shape_of_opcode code ps ≡ Some shape

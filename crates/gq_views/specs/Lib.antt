@@ -1,6 +1,6 @@
 pub mod Listing
 pub mod Numbered
-pub mod Listed
+pub mod Assembled_listing
 pub mod Tree
-pub mod Written
+pub mod Views_written
 pub mod internal

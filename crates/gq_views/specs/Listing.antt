@@ -1,8 +1,8 @@
--- A program as text: the one spelling of it that is told.
+-- A program as text: the one spelling of it that is reported.
 use Rattle.std.specs.Prelude.{ℕ, zero, suc, ◌==◌, if◌then◌else◌, List, [], ◌∷◌, ◌++◌, decimal, codes}
 use Rattle.gq_model.specs.declared.program.Instruction.{Instruction}
-use Rattle.gq_model.specs.declared.program.Place.{Place}
-use Rattle.gq_model.specs.declared.program.Place.TheVariants.{Own, Shared, Object}
+use Rattle.gq_model.specs.declared.program.OperandSlot.{OperandSlot}
+use Rattle.gq_model.specs.declared.program.OperandSlot.TheVariants.{Own, Shared, Object}
 use Rattle.gq_model.specs.declared.program.Section.{Section}
 use Rattle.gq_model.specs.machine.Program.{Statements, Done, Do, If, Loop, Program}
 use Rattle.gq_model.specs.texts.Operands.{Operand, Number, Slot, Bytes, Text, Service, greatest_number, opcode, operands}
@@ -11,7 +11,7 @@ use Rattle.gq_model.specs.texts.Fault_texts.{section_word}
 
 -- STATEMENTS
 
-abbrev pub place_text : Place → List ℕ
+abbrev pub place_text : OperandSlot → List ℕ
 place_text (Own i) = codes "o" ++ decimal i
 place_text (Shared i) = codes "s" ++ decimal i
 place_text Object = codes "obj"
@@ -52,7 +52,7 @@ joined (line ∷ rest) = line ++ 10 ∷ joined rest
 abbrev pub line : ℕ → List ℕ → List ℕ
 line depth text = joined (indented depth text ∷ [])
 
--- the second arm is told where it does something
+-- the second arm is reported where it does something
 abbrev pub other_lines : ℕ → Statements → List (List ℕ) → List (List ℕ)
 other_lines depth Done lines = []
 other_lines depth other lines = indented depth (codes "else") ∷ lines

@@ -24,7 +24,7 @@ abbrev pub text_of : List Row → List ℕ
 text_of [] = []
 text_of (row ∷ rest) = margin row.0 ++ row.1 ++ 10 ∷ text_of rest
 
--- the second arm is told where it does something
+-- the second arm is reported where it does something
 abbrev pub other_rows : ℕ → Statements → List Row → List Row
 other_rows depth Done rows = []
 other_rows depth other rows = (None, indented depth (codes "else")) ∷ rows

@@ -2,7 +2,7 @@
 use Rattle.std.specs.Prelude.{ℕ, suc, ◌+◌, ◌-◌, if◌then◌else◌, List, [], ◌∷◌, ◌++◌, Option, Some, None, decimal, codes, slice_get}
 use Rattle.std.specs.Prelude.{slice_index}
 use Rattle.gq_model.specs.machine.Amounts.{Resource, Ram, Caps, Amount, part}
-use Rattle.gq_model.specs.machine.Accounts.{entry, leaf_count, told}
+use Rattle.gq_model.specs.machine.Accounts.{entry, leaf_count, reported}
 use Rattle.gq_model.specs.machine.Lists.{any_of}
 use Rattle.gq_model.specs.machine.Program.{text_eq}
 use Rattle.gq_model.specs.machine.Routes.{numbered, server_of}
@@ -20,7 +20,7 @@ left_entries word r quantum children = entry word (part r quantum) ++ entry (cod
 
 abbrev pub init_text : ℕ → List ℕ → Amount → Nodes → List ℕ
 init_text version name quantum children =
-    name ++ left_entries (codes "quantum") Ram quantum children ++ told version (left_entries (codes "caps") Caps quantum children)
+    name ++ left_entries (codes "quantum") Ram quantum children ++ reported version (left_entries (codes "caps") Caps quantum children)
 
 -- what an init offers, each service with the child that serves it
 abbrev pub offers_lines : ℕ → Offers → List ℕ
@@ -49,11 +49,11 @@ inputs_entry (n ∷ rest) = codes " inputs" ++ amounts (n ∷ rest)
 
 abbrev pub budget_entries : ℕ → Option Budget → List ℕ
 budget_entries version None = []
-budget_entries version (Some b) = entry (codes "own") b.own.ram ++ told version (entry (codes "caps") b.own.caps) ++ entry (codes "steps") b.steps
+budget_entries version (Some b) = entry (codes "own") b.own.ram ++ reported version (entry (codes "caps") b.own.caps) ++ entry (codes "steps") b.steps
 
 abbrev pub leaf_text : ℕ → LeafNode → Option Budget → List ℕ
 leaf_text version node b =
-    node.name ++ entry (codes "quantum") node.quantum.ram ++ told version (entry (codes "caps") node.quantum.caps)
+    node.name ++ entry (codes "quantum") node.quantum.ram ++ reported version (entry (codes "caps") node.quantum.caps)
     ++ named_entry (codes "provides") node.provides ++ named_entry (codes "after") node.after ++ inputs_entry node.inputs
     ++ budget_entries version b
 
@@ -103,7 +103,7 @@ next_part text = codes "\\n" ++ text
 abbrev pub init_label : ℕ → List ℕ → Amount → Nodes → List ℕ
 init_label version name quantum children =
     name ++ next_part (codes "quantum " ++ decimal quantum.ram ++ entry (codes "left") (quantum.ram - handed_out Ram children))
-    ++ told version (next_part (codes "caps " ++ decimal quantum.caps ++ entry (codes "left") (quantum.caps - handed_out Caps children)))
+    ++ reported version (next_part (codes "caps " ++ decimal quantum.caps ++ entry (codes "left") (quantum.caps - handed_out Caps children)))
 
 abbrev pub provides_part : Option (List ℕ) → List ℕ
 provides_part None = []
@@ -116,11 +116,11 @@ inputs_part (n ∷ rest) = next_part (codes "inputs" ++ amounts (n ∷ rest))
 abbrev pub budget_part : ℕ → Option Budget → List ℕ
 budget_part version None = []
 budget_part version (Some b) =
-    next_part (codes "own " ++ decimal b.own.ram ++ told version (entry (codes "caps") b.own.caps) ++ entry (codes "steps") b.steps)
+    next_part (codes "own " ++ decimal b.own.ram ++ reported version (entry (codes "caps") b.own.caps) ++ entry (codes "steps") b.steps)
 
 abbrev pub leaf_label : ℕ → LeafNode → Option Budget → List ℕ
 leaf_label version node b =
-    node.name ++ next_part (codes "quantum " ++ decimal node.quantum.ram ++ told version (entry (codes "caps") node.quantum.caps))
+    node.name ++ next_part (codes "quantum " ++ decimal node.quantum.ram ++ reported version (entry (codes "caps") node.quantum.caps))
     ++ provides_part node.provides ++ inputs_part node.inputs ++ budget_part version b
 
 abbrev pub in_quotes : List ℕ → List ℕ

@@ -1,2 +1,2 @@
-pub mod Counts
-pub mod Opened
+pub mod Section_statement_counts
+pub mod Opened_services

@@ -1,23 +1,23 @@
-// An accepted scenario with all that is told of it: its leaves, the services that each opens, and what each uses at most.
+// An accepted scenario with all that is reported of it: its leaves, the services that each opens, and what each uses at most.
 ghost use Rattle.std.specs.Prelude.{◌≡◌, ◌<◌, ◌≤◌, ◌^◌, [], IfOk, length, map, slice_get};
 ghost use Rattle.gq_model.specs.machine.Routes as routes;
 ghost use Rattle.gq_model.specs.machine.Scenario as model;
 ghost use Rattle.gq_model.specs.machine.Scenario.{system};
 ghost use Rattle.gq_model.specs.rules.Accept as accept;
 ghost use Rattle.gq_model.specs.rules.Use.{services, services_in};
-ghost use Rattle.gq_views.specs.internal.Opened.{IsDrawn, opened_among, opened_by, opened_at, opened_by_all};
+ghost use Rattle.gq_views.specs.internal.Opened_services.{IsDrawn, opened_among, opened_by, opened_at, opened_by_all};
 ghost use Rattle.gq_views.specs.Tree.{first_of_each, server_label};
-ghost use Rattle.gq_scenario.specs.Trees.{version_number};
+ghost use Rattle.gq_scenario.specs.Component_trees.{version_number};
 
 use gq_load::budget::Budget;
 use gq_model::program::Name;
-use gq_program::program::Program;
+use gq_program::program_tree::Program;
 use gq_resolve::NodeTable;
 use gq_resolve::component::{Component, components};
+use gq_resolve::opened_services::{once, opened};
 use gq_resolve::routes::{numbered, server_of};
-use gq_resolve::services::{once, opened};
+use gq_scenario::component_tree::copied;
 use gq_scenario::scenario::{LeafNo, Scenario, Version};
-use gq_scenario::tree::copied;
 use std::alloc::{AllocError, Global};
 use std::marker::Model;
 
@@ -85,7 +85,7 @@ fn all_opened(
     Ok(all)
 }
 
-// What is told of an accepted scenario.
+// What is reported of an accepted scenario.
 #[derive(Drop)]
 pub(crate) struct Drawn<'a> {
     scenario: &'a Scenario,
@@ -99,7 +99,7 @@ impl<'a> Model for Drawn<'a> {
     ghost use Rattle.std.specs.Coded.{codes};
     ghost use Rattle.gq_model.specs.machine.Scenario.{Scenario};
     ghost use Rattle.gq_model.specs.internal.Stored.{statements_code, nodes_code};
-    ghost use Rattle.gq_views.specs.internal.Opened.{IsDrawn};
+    ghost use Rattle.gq_views.specs.internal.Opened_services.{IsDrawn};
 
     ghost Value = { Scenario };
 
@@ -111,7 +111,7 @@ impl<'a> Model for Drawn<'a> {
 }
 
 impl<'a> Drawn<'a> {
-    // What is told of the scenario of a table, whose leaves have these budgets.
+    // What is reported of the scenario of a table, whose leaves have these budgets.
     pub(crate) fn of(
         alloc: Global,
         table: &'a NodeTable,

@@ -1,35 +1,35 @@
 // An accepted scenario as a graph for Graphviz.
 ghost use Rattle.std.specs.Prelude.{◌≡◌, ◌+◌, ◌≤◌, ◌++◌, Err, IfOk, IfErr, IsOkAnd, OnOk, slice_get, slice_index, codes, decimal, option_map};
-ghost use Rattle.gq_model.specs.machine.Accounts.{entry, leaf_count, told};
+ghost use Rattle.gq_model.specs.machine.Accounts.{entry, leaf_count, reported};
 ghost use Rattle.gq_model.specs.machine.Scenario as model;
 ghost use Rattle.gq_model.specs.machine.Scenario.{system};
 ghost use Rattle.gq_model.specs.rules.Accept as accept;
-ghost use Rattle.gq_load.specs.Faults.{Refuses};
+ghost use Rattle.gq_load.specs.Load_faults.{Refuses};
 ghost use Rattle.gq_load.specs.Load.{loaded};
 ghost use Rattle.gq_scenario.specs.Sizes.{node_count, leaf_places};
-ghost use Rattle.gq_scenario.specs.Trees.{version_number};
-ghost use Rattle.gq_views.specs.internal.Opened.{arrows_of, opened_at};
+ghost use Rattle.gq_scenario.specs.Component_trees.{version_number};
+ghost use Rattle.gq_views.specs.internal.Opened_services.{arrows_of, opened_at};
 ghost use Rattle.gq_views.specs.Listing.{line};
 ghost use Rattle.gq_views.specs.Tree.{after_arrow, all_afters, all_services, arrow, arrow_from, arrow_to, budget_part, cluster, graph_text, in_quotes};
 ghost use Rattle.gq_views.specs.Tree.{init_label, inputs_part, leaf_label, next_part, node_boxes, node_name, point_line, provides_part};
-ghost use Rattle.gq_views.specs.Written.{graph_written};
-ghost use Rattle.gq_world.specs.Outcomes.{WritesAs};
+ghost use Rattle.gq_views.specs.Views_written.{graph_written};
+ghost use Rattle.gq_world.specs.Command_outcomes.{WritesAs};
 
 use crate::drawn::{Drawn, Opened};
 use crate::left::left_of;
 use crate::tree::push_caps;
-use crate::words::{
+use crate::view_words::{
     end_line, push_amount, push_amounts, push_entry, push_indent, push_line, push_number,
 };
 use gq_init::counted::Counted;
 use gq_load::accepted::Accepted;
 use gq_load::budget::Budget;
-use gq_load::fault::LoadError;
+use gq_load::load_fault::LoadError;
 use gq_model::program::Name;
-use gq_scenario::node::NodeNo;
+use gq_scenario::node_numbers::NodeNo;
 use gq_scenario::scenario::{Leaf, LeafNo, Node, Nodes, Quantum, Version};
 use gq_world::RunFault;
-use gq_world::text::put_text;
+use gq_world::command_text::put_text;
 use std::alloc::{AllocError, Global};
 use std::io::Write;
 
@@ -147,7 +147,7 @@ fn push_leaf(
     text: &mut Vec<u8>,
     drawn: &Drawn<'_>,
     depth: usize,
-    at: Places,
+    at: PreorderPlaces,
     leaf: &Leaf,
 ) -> Result<(), AllocError>
     ensures { OnOk result (text.new.items ≡ text.old.items ++ line depth (node_name at.node ++ codes " [label = "
@@ -211,22 +211,22 @@ fn push_point(
 
 // The places of the next node among all nodes and of the next leaf among all leaves, in preorder.
 #[derive(Clone, Copy)]
-struct Places {
+struct PreorderPlaces {
     node: usize,
     leaf: usize,
 }
 
-// The box of the init at a place, with its children; tells the places after them.
+// The box of the init at a place, with its children; reports the places after them.
 #[cycle(boxes)]
 fn push_cluster(
     text: &mut Vec<u8>,
     drawn: &Drawn<'_>,
     depth: usize,
-    at: Places,
+    at: PreorderPlaces,
     name: &[u8],
     quantum: Quantum,
     children: &Nodes,
-) -> Result<Places, AllocError>
+) -> Result<PreorderPlaces, AllocError>
     requires deep { depth + 1 + node_count children.now ≤ 4096 }
     requires nodes { at.node + 1 + node_count children.now ≤ 4096 }
     requires leaves { at.leaf + leaf_count children.now ≤ 64 }
@@ -239,7 +239,7 @@ fn push_cluster(
     push_box(text, depth, at.node)?;
     push_label(text, drawn.version(), depth + 1, name, quantum, children)?;
     push_point(text, depth + 1, at.node, children)?;
-    let first = Places {
+    let first = PreorderPlaces {
         node: at.node + 1,
         leaf: at.leaf,
     };
@@ -248,15 +248,15 @@ fn push_cluster(
     Ok(next)
 }
 
-// These nodes with those in them, of which the first has these places; tells the places after the last.
+// These nodes with those in them, of which the first has these places; reports the places after the last.
 #[cycle(boxes)]
 fn push_boxes(
     text: &mut Vec<u8>,
     drawn: &Drawn<'_>,
     depth: usize,
-    first: Places,
+    first: PreorderPlaces,
     nodes: &Nodes,
-) -> Result<Places, AllocError>
+) -> Result<PreorderPlaces, AllocError>
     requires deep { depth + node_count nodes.now ≤ 4096 }
     requires nodes { first.node + node_count nodes.now ≤ 4096 }
     requires leaves { first.leaf + leaf_count nodes.now ≤ 64 }
@@ -270,7 +270,7 @@ fn push_boxes(
         match node {
             Node::Leaf(leaf) => {
                 push_leaf(text, drawn, depth, at, leaf)?;
-                at = Places {
+                at = PreorderPlaces {
                     node: at.node + 1,
                     leaf: at.leaf + 1,
                 };
@@ -418,7 +418,7 @@ fn push_root(text: &mut Vec<u8>, drawn: &Drawn<'_>) -> Result<(), AllocError>
     let scenario = drawn.scenario();
     let _leaves = scenario.leaf_count();
     let _nodes = scenario.node_count();
-    let root = Places { node: 0, leaf: 0 };
+    let root = PreorderPlaces { node: 0, leaf: 0 };
     push_cluster(
         text,
         drawn,

@@ -3,7 +3,7 @@ ghost use Rattle.std.specs.Prelude.{◌≡◌, ◌-◌};
 ghost use Rattle.gq_model.specs.machine.Amounts.{Ram, Caps};
 ghost use Rattle.gq_model.specs.machine.Scenario as model;
 ghost use Rattle.gq_model.specs.rules.Resolve.{handed_out};
-ghost use Rattle.gq_scenario.specs.Trees.{before};
+ghost use Rattle.gq_scenario.specs.Component_trees.{before};
 
 use gq_scenario::scenario::{Node, Nodes, Quantum};
 use gq_tariff::Amount;

@@ -15,17 +15,17 @@
 //!
 //! Each of these writes the text of its definition (`specs/Written`) and nothing else, and refuses what `check` and `asm` refuse.
 //!
-//! Modules: programs (`list`, `listing`, `numbered`, `instructions`), scenarios (`tree`, `graph`), and what both need (`drawn`).
+//! Modules: programs (`list`, `listing`, `numbered_listing`, `instruction_text`), scenarios (`tree`, `graph`), and what both need (`drawn`).
 #![tactic(auto)]
 
 mod drawn;
 pub mod graph;
-pub mod instructions;
-pub mod laws;
+pub mod instruction_text;
 mod left;
 pub mod list;
 pub mod listing;
 pub mod margin;
-pub mod numbered;
+pub mod numbered_listing;
 pub mod tree;
-pub mod words;
+pub mod view_laws;
+pub mod view_words;

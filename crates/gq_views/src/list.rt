@@ -1,24 +1,24 @@
-// The program of a leaf, told.
+// The program of a leaf, reported.
 ghost use Rattle.std.specs.Prelude.{◌≡◌, Ok, Err, IfOk, IfErr, None, OnOk};
-ghost use Rattle.gq_load.specs.Faults.{PrintsFault};
+ghost use Rattle.gq_load.specs.Load_faults.{PrintsFault};
 ghost use Rattle.gq_load.specs.Load.{source_fault};
-ghost use Rattle.gq_views.specs.Written.{list_from, list_written, shown};
-ghost use Rattle.gq_world.specs.Outcomes.{IsBefore, IsFaultOf, WritesAs};
+ghost use Rattle.gq_views.specs.Views_written.{list_from, list_written, shown};
+ghost use Rattle.gq_world.specs.Command_outcomes.{IsBefore, IsFaultOf, WritesAs};
 
 use crate::listing::listing;
 use crate::margin::Margin;
-use crate::numbered::numbered_listing;
+use crate::numbered_listing::numbered_listing;
 use gq_init::counted::Counted;
-use gq_load::fault::{LoadError, LoadFault};
+use gq_load::leaf_programs::read_program;
+use gq_load::load_fault::{LoadError, LoadFault};
 use gq_load::named::leaf_named;
-use gq_load::programs::read_program;
-use gq_program::program::Program;
+use gq_program::program_tree::Program;
 use gq_reader::reader::read_scenario;
 use gq_resolve::component::components;
-use gq_scenario::fault::ScenarioError;
 use gq_scenario::scenario::{Leaf, Scenario};
+use gq_scenario::scenario_fault::ScenarioError;
 use gq_world::RunFault;
-use gq_world::text::put_text;
+use gq_world::command_text::put_text;
 use std::alloc::{AllocError, Global};
 use std::io::Write;
 
@@ -64,9 +64,10 @@ fn named_text<'a>(
     Ok(leaf_text(alloc, leaf, margin)?)
 }
 
-/// Writes the program of the leaf of this name as text: its locals that are told, then its sections, a statement a line, with numbers if the margin has them.
+/// Writes the program of the leaf of this name as text: its locals that are reported, then its sections, a statement a line, with numbers if the margin has
+/// them.
 /// No other leaf's program is read. Nothing is written where the scenario is refused, where no leaf has the name, where that leaf's text or code is no program,
-/// or where host memory is refused. After a failed write a prefix of the text was written.
+/// or where the host refuses memory. After a failed write a prefix of the text was written.
 pub fn list<'a, W: Write>(
     alloc: Global,
     scenario: &[u8],

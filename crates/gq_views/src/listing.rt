@@ -3,14 +3,14 @@ ghost use Rattle.std.specs.Prelude.{◌≡◌, ◌≤◌, ◌+◌, ◌++◌, ◌
 ghost use Rattle.gq_model.specs.machine.Program.{size};
 ghost use Rattle.gq_model.specs.texts.Code.{greatest_statements};
 ghost use Rattle.gq_model.specs.texts.Fault_texts.{section_word};
-ghost use Rattle.gq_program.specs.Trees.{tree_of};
-ghost use Rattle.gq_views.specs.internal.Counts.{total};
+ghost use Rattle.gq_program.specs.Statement_trees.{tree_of};
+ghost use Rattle.gq_views.specs.internal.Section_statement_counts.{total};
 ghost use Rattle.gq_views.specs.Listing.{instruction_text, joined, line, listing, locals_lines, loop_text, other_lines, sections_lines, statements_lines};
 
-use crate::instructions::push_instruction;
-use crate::words::{end_line, push_amount, push_indent, push_line, push_number};
+use crate::instruction_text::push_instruction;
+use crate::view_words::{end_line, push_amount, push_indent, push_line, push_number};
 use gq_model::program::{Instruction, Section};
-use gq_program::program::{Body, Program, Statement};
+use gq_program::program_tree::{Body, Program, Statement};
 use std::alloc::{AllocError, Global};
 
 // The line of a statement without statements in it.
@@ -83,7 +83,7 @@ fn push_body(text: &mut Vec<u8>, depth: usize, body: &Body) -> Result<(), AllocE
     Ok(())
 }
 
-/// Puts the heading of a section at the end of a text. Refused only for want of host memory.
+/// Puts the heading of a section at the end of a text. Refused only if the host refuses memory.
 pub fn push_heading(text: &mut Vec<u8>, section: Section) -> Result<(), AllocError>
     ensures { OnOk result (text.new.items ≡ text.old.items ++ section_word section) }
 {
@@ -127,7 +127,7 @@ fn push_sections(text: &mut Vec<u8>, sections: &[(Section, Body)]) -> Result<(),
     Ok(())
 }
 
-// The line of a local: its greatest value, where it is told.
+// The line of a local: its greatest value, where it is reported.
 pub(crate) fn push_local(text: &mut Vec<u8>, place: usize, greatest: u32) -> Result<(), AllocError>
     ensures { OnOk result (text.new.items ≡ text.old.items ++ joined (locals_lines place (greatest ∷ []))) }
 {
@@ -150,8 +150,8 @@ fn push_locals(text: &mut Vec<u8>, locals: &[u32]) -> Result<(), AllocError>
     Ok(())
 }
 
-/// The text of a program: a line for each local whose greatest value is told, then each section with its statements, a line each, two blanks deeper in each
-/// block. It is assembled as that program (`laws`). Refused only for want of host memory.
+/// The text of a program: a line for each local whose greatest value is reported, then each section with its statements, a line each, two blanks deeper in each
+/// block. It is assembled as that program (`laws`). Refused only if the host refuses memory.
 pub fn listing(alloc: Global, program: &Program) -> Result<Vec<u8>, AllocError>
     ensures { IfOk result (λ text. text.items ≡ listing program.now) }
 {

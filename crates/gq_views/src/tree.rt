@@ -1,36 +1,36 @@
 // An accepted scenario as a tree.
 ghost use Rattle.std.specs.Prelude.{◌≡◌, ◌+◌, ◌≤◌, ◌++◌, Err, IfOk, IfErr, IsOkAnd, OnOk, slice_get, codes, option_map};
-ghost use Rattle.gq_model.specs.machine.Accounts.{entry, leaf_count, told};
+ghost use Rattle.gq_model.specs.machine.Accounts.{entry, leaf_count, reported};
 ghost use Rattle.gq_model.specs.machine.Scenario.{components, system};
 ghost use Rattle.gq_model.specs.rules.Accept as accept;
-ghost use Rattle.gq_load.specs.Faults.{Refuses};
+ghost use Rattle.gq_load.specs.Load_faults.{Refuses};
 ghost use Rattle.gq_load.specs.Load.{loaded};
 ghost use Rattle.gq_scenario.specs.Sizes.{node_count};
-ghost use Rattle.gq_scenario.specs.Trees.{version_number};
-ghost use Rattle.gq_views.specs.internal.Opened.{opens_of};
+ghost use Rattle.gq_scenario.specs.Component_trees.{version_number};
+ghost use Rattle.gq_views.specs.internal.Opened_services.{opens_of};
 ghost use Rattle.gq_views.specs.Listing.{line};
 ghost use Rattle.gq_views.specs.Tree.{budget_entries, init_lines, init_text, inputs_entry, leaf_opens, leaf_text, left_entries, named_entry, nodes_text};
 ghost use Rattle.gq_views.specs.Tree.{offers_lines, server_label, tree_text};
-ghost use Rattle.gq_views.specs.Written.{tree_written};
-ghost use Rattle.gq_world.specs.Outcomes.{WritesAs};
+ghost use Rattle.gq_views.specs.Views_written.{tree_written};
+ghost use Rattle.gq_world.specs.Command_outcomes.{WritesAs};
 
 use crate::drawn::{Drawn, Opened};
 use crate::left::left_of;
-use crate::words::{end_line, push_amounts, push_entry, push_indent};
+use crate::view_words::{end_line, push_amounts, push_entry, push_indent};
 use gq_init::counted::Counted;
 use gq_load::accepted::Accepted;
 use gq_load::budget::Budget;
-use gq_load::fault::LoadError;
+use gq_load::load_fault::LoadError;
 use gq_model::program::Name;
 use gq_scenario::scenario::{Init, Leaf, Node, Nodes, Quantum, Version};
 use gq_world::RunFault;
-use gq_world::text::put_text;
+use gq_world::command_text::put_text;
 use std::alloc::{AllocError, Global};
 use std::io::Write;
 
 // Puts capabilities at the end of a text, where the version counts them.
 pub(crate) fn push_caps(text: &mut Vec<u8>, version: Version, caps: u64) -> Result<(), AllocError>
-    ensures { OnOk result (text.new.items ≡ text.old.items ++ told (version_number version) (entry (codes "caps") caps)) }
+    ensures { OnOk result (text.new.items ≡ text.old.items ++ reported (version_number version) (entry (codes "caps") caps)) }
 {
     if !version.counts_caps() {
         return Ok(());
@@ -85,13 +85,13 @@ fn push_budget(
 // Puts what a leaf is given at the end of a text.
 fn push_quantum(text: &mut Vec<u8>, version: Version, quantum: Quantum) -> Result<(), AllocError>
     ensures { OnOk result (text.new.items ≡ text.old.items
-        ++ entry (codes "quantum") quantum.ram ++ told (version_number version) (entry (codes "caps") quantum.caps)) }
+        ++ entry (codes "quantum") quantum.ram ++ reported (version_number version) (entry (codes "caps") quantum.caps)) }
 {
     push_entry(text, b"quantum", quantum.ram())?;
     push_caps(text, version, u64::from(quantum.caps()))
 }
 
-// Puts what is told of a leaf at the end of a text.
+// Puts what is reported of a leaf at the end of a text.
 fn push_leaf_text(
     text: &mut Vec<u8>,
     version: Version,
@@ -116,7 +116,7 @@ fn push_left(text: &mut Vec<u8>, word: &[u8], quantum: u64, left: u64) -> Result
     push_entry(text, b"left", left)
 }
 
-// Puts what is told of an init at the end of a text.
+// Puts what is reported of an init at the end of a text.
 fn push_init_text(
     text: &mut Vec<u8>,
     version: Version,
@@ -245,7 +245,7 @@ fn push_leaf(
     push_opens(text, drawn, depth + 1, drawn.opened(place))
 }
 
-// The lines of these nodes and of those below them, in preorder. The first leaf has this place; tells the place after the last.
+// The lines of these nodes and of those below them, in preorder. The first leaf has this place; reports the place after the last.
 fn push_nodes(
     text: &mut Vec<u8>,
     drawn: &Drawn<'_>,

@@ -8,11 +8,11 @@ use Rattle.gq_model.specs.rules.Budgets.{section_cost, section_requests}
 use Rattle.gq_model.specs.rules.Kinds.{Subject}
 use Rattle.gq_model.specs.rules.Use.{times}
 use Rattle.gq_model.specs.rules.Verdict.{greatest_cost}
-use Rattle.gq_model.proofs.Small.{add_next, add_none, none_add, none_some, some_same}
-use Rattle.gq_verify.specs.Counting.{saturated}
+use Rattle.gq_model.proofs.Small_facts.{add_next, add_none, none_add, none_some, some_same}
+use Rattle.gq_verify.specs.Saturated_numbers.{saturated}
 use Rattle.gq_verify.specs.Requested.{Requested, requests_for}
-use Rattle.gq_budget.specs.Counts.{AreCountsOf, Counted, IsCountOf}
-use Rattle.gq_budget.specs.Leaves.{leaf_of, leaves_from}
+use Rattle.gq_budget.specs.Leaf_section_counts.{AreCountsOf, Counted, IsCountOf}
+use Rattle.gq_budget.specs.Leaf_routes.{leaf_of, leaves_from}
 use Rattle.gq_budget.specs.Times.{row_of, table_of, time_at, times_table}
 use Rattle.gq_budget.specs.internal.Counted.{AreRequests, costs_of}
 

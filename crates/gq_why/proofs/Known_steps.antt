@@ -17,19 +17,19 @@ use Rattle.gq_model.specs.rules.Resolve.{after_fault, cycle_fault, offer_fault, 
 use Rattle.gq_model.specs.rules.Use.{is_there, services, step_budget, subject, times}
 use Rattle.gq_model.specs.rules.Verdict.{Fault, greatest_cost, program_fault}
 use Rattle.gq_model.specs.Promises.{budget_of}
-use Rattle.gq_model.proofs.Small.{get_within, none_some, or_first_none, some_none, some_same}
-use Rattle.gq_laws.proofs.verified.Own_costs.{told_is}
-use Rattle.gq_verify.specs.Counting.{saturated}
+use Rattle.gq_model.proofs.Small_facts.{get_within, none_some, or_first_none, some_none, some_same}
+use Rattle.gq_laws.proofs.verified_programs.Own_costs.{reported_is}
+use Rattle.gq_verify.specs.Saturated_numbers.{saturated}
 use Rattle.gq_verify.specs.Requested.{requests_for}
 use Rattle.gq_resolve.specs.Served.{AreServers, server_at}
-use Rattle.gq_budget.specs.Counts.{AreCountsOf, Counted, IsCountOf}
-use Rattle.gq_budget.specs.Leaves.{leaves_of}
+use Rattle.gq_budget.specs.Leaf_section_counts.{AreCountsOf, Counted, IsCountOf}
+use Rattle.gq_budget.specs.Leaf_routes.{leaves_of}
 use Rattle.gq_budget.specs.Times.{time_at}
 use Rattle.gq_load.specs.Load.{refused, sources_fault}
-use Rattle.gq_load.specs.Unsized.{unsized_fault, unsized_refusal}
-use Rattle.gq_load.specs.internal.Leaves.{counted_leaves}
-use Rattle.gq_load.proofs.Leaves.{leaves_same}
-use Rattle.gq_why.specs.internal.Steps.{AreCounts}
+use Rattle.gq_load.specs.Unsized_judgement.{unsized_fault, unsized_refusal}
+use Rattle.gq_load.specs.internal.Counted_leaves.{counted_leaves}
+use Rattle.gq_load.proofs.Step_counted_leaves.{leaves_same}
+use Rattle.gq_why.specs.internal.Step_parts.{AreCounts}
 use Rattle.gq_why.proofs.Counted_steps.{as_many, cost_at, counts_at, kept_small, often_at, requests_at}
 use Rattle.gq_why.proofs.Step_limits.{AreSmall, costs_small, requests_small, steps_few}
 
@@ -83,7 +83,7 @@ module _ (s : Scenario) (faultless : unsized_fault s ≡ None) where
 
     -- and no leaf takes too many steps
     few : step_budget (system s) x c ≤ greatest_cost
-    few = steps_few (components s) (budgets s) refusals.2 x c (budget_of s x c) there (told_is s x c there)
+    few = steps_few (components s) (budgets s) refusals.2 x c (budget_of s x c) there (reported_is s x c there)
 
 -- NUMBERS
 
@@ -177,16 +177,16 @@ module _ (s : Scenario) (cs : List Component) (ns : List Counted) (routes : List
 
 -- ROUTES
 
-told_so : (x : ℕ) (opens : Bool) (server : Option ℕ) → is_there x (if opens then server else None) ≡ (opens && is_there x server)
-told_so x true server = refl
-told_so x false server = refl
+printed_so : (x : ℕ) (opens : Bool) (server : Option ℕ) → is_there x (if opens then server else None) ≡ (opens && is_there x server)
+printed_so x true server = refl
+printed_so x false server = refl
 
--- where a server is told a leaf opens the service and its route leads there
-pub server_told : (s : Scenario) (routes : List (List (List ℕ × ℕ))) → AreServers s routes → (y : ℕ) (c : Component) → slice_get (components s) y ≡ Some c
+-- where a server is reported a leaf opens the service and its route leads there
+pub server_reported : (s : Scenario) (routes : List (List (List ℕ × ℕ))) → AreServers s routes → (y : ℕ) (c : Component) → slice_get (components s) y ≡ Some c
     → (service : List ℕ) (x : ℕ)
     → is_there x (server_at y service routes) ≡ (any_of (text_eq service) (services c) && is_there x (server_of (system s) c service))
-server_told s routes known y c there service x =
-    ap (is_there x) (known.told y c there service) ∙ told_so x (any_of (text_eq service) (services c)) (server_of (system s) c service)
+server_reported s routes known y c there service x =
+    ap (is_there x) (known.reported y c there service) ∙ printed_so x (any_of (text_eq service) (services c)) (server_of (system s) c service)
 
 -- LEAVES
 
@@ -201,7 +201,7 @@ counted_so s cs ns others e same h =
 pub budget_there : (s : Scenario) (bs : List Budget) (x : ℕ) → bs ≡ budgets s → x < length (components s) → x < length bs
 budget_there s bs x e less =
     let found = get_within (components s) x less in
-    let within = slice_get_within (budgets s) x (budget_of s x found.0) (told_is s x found.0 found.1) in
+    let within = slice_get_within (budgets s) x (budget_of s x found.0) (reported_is s x found.0 found.1) in
     let same = ap (λ (l : List Budget). length l) e in
     omega (arith, within, same)
 
@@ -210,4 +210,4 @@ pub budget_steps : (s : Scenario) (bs : List Budget) (x : ℕ) (c : Component) (
     → b ≡ get_or bs x b → b.steps ≡ step_budget (system s) x c
 budget_steps s bs x c b e there is =
     let all : b ≡ get_or (budgets s) x b = is ∙ ap (λ (l : List Budget). get_or l x b) e in
-    ap (λ (b : Budget). b.steps) (all ∙ get_or_from_slice_get (budgets s) x (budget_of s x c) b (told_is s x c there))
+    ap (λ (b : Budget). b.steps) (all ∙ get_or_from_slice_get (budgets s) x (budget_of s x c) b (reported_is s x c there))

@@ -9,10 +9,10 @@ use Rattle.gq_model.specs.rules.Kinds.{Subject}
 use Rattle.gq_model.specs.rules.Use.{subject}
 use Rattle.gq_model.specs.rules.Verdict.{program_fault}
 use Rattle.gq_model.proofs.Component_laws.{components_count}
-use Rattle.gq_model.proofs.Small.{some_same, none_some}
-use Rattle.gq_scenario.specs.Unsized.{unsized, without_quanta}
+use Rattle.gq_model.proofs.Small_facts.{some_same, none_some}
+use Rattle.gq_scenario.specs.Without_quantities.{unsized, without_quanta}
 use Rattle.gq_verify.specs.Subjects.{subject_of}
-use Rattle.gq_load.specs.Unsized.{unsized_fault}
+use Rattle.gq_load.specs.Unsized_judgement.{unsized_fault}
 use Rattle.gq_why.specs.Why.{leaf_lines, needs_part, own_parts, steps_part, why_lines, why_text}
 use Rattle.gq_why.proofs.Known_steps.{fine}
 

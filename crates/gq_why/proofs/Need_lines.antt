@@ -11,10 +11,10 @@ use Rattle.gq_model.specs.machine.Scenario.{Interface}
 use Rattle.gq_model.specs.rules.Kinds.{Memory, Subject, kind_price, need_of, session_cost}
 use Rattle.gq_caps.specs.Known.{all_known}
 use Rattle.gq_caps.specs.declared.kind.Kind as caps
-use Rattle.gq_resolve.proofs.Pushed.{onto}
-use Rattle.gq_why.specs.Kept.{Top, bank_cost, top_of, top_session}
+use Rattle.gq_resolve.proofs.Mapped_list_growth.{onto}
+use Rattle.gq_why.specs.First_maxima.{Top, bank_cost, top_of, top_session}
 use Rattle.gq_why.specs.Why.{Point, highest, item_line, item_lines, level_parts, need_part, or_later, place_words, point_lines, point_sum, points_at}
-use Rattle.gq_why.specs.internal.Lines.{session_lines}
+use Rattle.gq_why.specs.internal.Visitor_lines.{session_lines}
 
 -- a session costs most where its slots do
 later_same : (r : Resource) (i : Interface) (p : Point) (o : Option Point) → or_later (λ s. session_cost r i s.bank) p o ≡ or_later (bank_cost r) p o
@@ -47,10 +47,11 @@ pub session_put : (r : Resource) (i : Interface) (given cost object : ℕ) (sect
 session_put r i given cost object section k sum bank kinds cost_is object_is kinds_are t u v w x y z d e f g h l =
     let bytes = λ (object : ℕ). item_line (codes "obj") (codes "slice " ++ decimal object) (kind_price r (Memory Slice object)) in
     let slots = λ (kinds : List caps.Kind). item_lines r (codes "s") 0 (all_known kinds) in
-    let told = λ (cost object : ℕ) (kinds : List caps.Kind). decimal cost ++ codes " of " ++ decimal given ++ 10 ∷ [] ++ place_words section k ++ decimal cost
+    let reported = λ (cost object : ℕ) (kinds : List caps.Kind). decimal cost ++ codes " of " ++ decimal given ++ 10 ∷ [] ++ place_words section k ++ decimal
+    cost
     ++ 10 ∷ [] ++ bytes object ++ slots kinds in
     six t (decimal cost) (codes " of ") (decimal given) (place_words section k) (bytes object) (slots kinds) u v w x y z d e f g h l
-    ∙ (λ j. t ++ told (cost_is j) (object_is j) (kinds_are j))
+    ∙ (λ j. t ++ reported (cost_is j) (object_is j) (kinds_are j))
   where
     six : (t a o b c d e u v w x y z : List ℕ) → u ≡ t ++ a ++ o ++ b ++ 10 ∷ [] → v ≡ u ++ c → w ≡ v ++ a → x ≡ w ++ 10 ∷ [] → y ≡ x ++ d → z ≡ y ++ e →
         z ≡ t ++ (a ++ o ++ b ++ 10 ∷ [] ++ c ++ a ++ 10 ∷ [] ++ d ++ e)
@@ -68,20 +69,20 @@ need_put r words service i l given points top highest_is given_is t u w p q =
     let h = highest (bank_cost r) points in
     let o = highest (λ s. session_cost r i s.bank) points in
     let g = part r (need_of i l) in
-    let told = λ (o : Option Point). decimal (point_sum r i o) ++ codes " of " ++ decimal g ++ 10 ∷ [] ++ point_lines r i o in
-    let lines : session_lines r i given top ≡ told o =
-    ap₂ (session_lines r i) given_is highest_is ∙ (session_is r i g h ∙ ap told (sym (highest_same r i points))) in
+    let reported = λ (o : Option Point). decimal (point_sum r i o) ++ codes " of " ++ decimal g ++ 10 ∷ [] ++ point_lines r i o in
+    let lines : session_lines r i given top ≡ reported o =
+    ap₂ (session_lines r i) given_is highest_is ∙ (session_is r i g h ∙ ap reported (sym (highest_same r i points))) in
     pieces t words service (codes " at level ") (decimal l) (codes " ") (decimal (point_sum r i o)) (codes " of ") (decimal g) (point_lines r i o) u w p
     (q ∙ ap (λ l. u ++ l) lines)
 
 -- the part of a level was put at the end, and those of what is left follow
 pub level_put : (version : ℕ) (v : Subject) (service : List ℕ) (i : Interface) (l count : ℕ) → l < suc count → (t u whole : List ℕ) →
     u ≡ t ++ need_part Ram (codes "need of ") service i l (points_at v l v.program.sections)
-    ++ accounts.told version (need_part Caps (codes "need caps of ") service i l (points_at v l v.program.sections)) →
+    ++ accounts.reported version (need_part Caps (codes "need caps of ") service i l (points_at v l v.program.sections)) →
     t ++ level_parts version v service i l (suc count - l) ≡ whole → u ++ level_parts version v service i (l + 1) (suc count - (l + 1)) ≡ whole
 level_put version v service i l count within t u whole put inv =
     let ram = need_part Ram (codes "need of ") service i l (points_at v l v.program.sections) in
-    let caps = accounts.told version (need_part Caps (codes "need caps of ") service i l (points_at v l v.program.sections)) in
+    let caps = accounts.reported version (need_part Caps (codes "need caps of ") service i l (points_at v l v.program.sections)) in
     let first = ram ++ caps in
     let here : suc count - l ≡ suc (count - l) = omega (arith, within) in
     let after : count - l ≡ suc count - (l + 1) = omega arith in

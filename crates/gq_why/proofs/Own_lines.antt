@@ -7,10 +7,10 @@ use Rattle.gq_model.specs.declared.program.Section.TheVariants.{Main}
 use Rattle.gq_model.specs.machine.Amounts.{Resource}
 use Rattle.gq_model.specs.rules.Budgets.{own}
 use Rattle.gq_model.specs.rules.Kinds.{Subject}
-use Rattle.gq_why.specs.Kept.{IsCounted, Top, own_cost, top_of, top_own}
+use Rattle.gq_why.specs.First_maxima.{IsCounted, Top, own_cost, top_of, top_own}
 use Rattle.gq_why.specs.Why.{Point, class_lines, highest, own_part, place_words, places_at, places_cost, points_of, sum_by_items, sum_lines}
-use Rattle.gq_why.specs.internal.Lines.{counted_line, counted_lines, own_items, own_lines}
-use Rattle.gq_why.proofs.Counted.{lines_are}
+use Rattle.gq_why.specs.internal.Visitor_lines.{counted_line, counted_lines, own_items, own_lines}
+use Rattle.gq_why.proofs.Highest_cell_count.{lines_are}
 
 -- the lines of own slots at a point are by what is kept of it
 own_is : (r : Resource) (o : Option Point) → own_lines r (option_map (top_of (own_cost r) (λ s. s.own)) o) ≡ sum_lines r o

@@ -4,14 +4,14 @@ use Rattle.std.proofs.lemmas.List.{map-append}
 use Rattle.gq_model.specs.declared.program.Section.{Section}
 use Rattle.gq_model.specs.machine.Program.{Statements, Done, Do, If, Loop, size, section_in, body_of}
 use Rattle.gq_model.specs.rules.Flow.{at, context, flow, start_of, state_or}
-use Rattle.gq_model.specs.rules.Kinds.{State, Subject, Context, inside}
+use Rattle.gq_model.specs.rules.Kinds.{AbstractState, Subject, Context, inside}
 use Rattle.gq_model.specs.rules.Rules.{judged}
 use Rattle.gq_verify.specs.Visits.{Sight, At_point, section_sights, shown_points, sights, sights_by, slots_of}
-use Rattle.gq_verify.proofs.Shown.{shown_points-append}
+use Rattle.gq_verify.proofs.Visited_point_maxima.{shown_points-append}
 use Rattle.gq_why.specs.Why.{Point, after_each, points_of}
 
 -- a point as it is shown
-abbrev pub shown_of : Point → ℕ × State
+abbrev pub shown_of : Point → ℕ × AbstractState
 shown_of p = (p.number, slots_of p.state)
 
 joined : (xs ys : List Point) (before after : List Sight) → map shown_of xs ≡ shown_points before → map shown_of ys ≡ shown_points after →
@@ -20,12 +20,12 @@ joined xs ys before after p q =
     map-append shown_of xs ys
     ∙ (ap (λ l. l ++ map shown_of ys) p ∙ (ap (λ l. shown_points before ++ l) q ∙ sym (shown_points-append before after)))
 
-pointed : (section : Section) (n k : ℕ) (s : State) (ys : List Point) (after : List Sight) → n ≡ k → map shown_of ys ≡ shown_points after →
+pointed : (section : Section) (n k : ℕ) (s : AbstractState) (ys : List Point) (after : List Sight) → n ≡ k → map shown_of ys ≡ shown_points after →
     map shown_of (record { section = section; number = n; state = s } ∷ ys) ≡ shown_points (At_point k (slots_of s) ∷ after)
 pointed section n k s ys after e q = ap (λ m. (m, slots_of s) ∷ map shown_of ys) e ∙ ap (λ l. (k, slots_of s) ∷ l) q
 
 -- those after the statements of a list
-pub each_shown : (section : Section) (c : Context) (k n : ℕ) (s : State) (b : Statements) → n ≡ k + 1 →
+pub each_shown : (section : Section) (c : Context) (k n : ℕ) (s : AbstractState) (b : Statements) → n ≡ k + 1 →
     map shown_of (after_each section c n s b) ≡ shown_points (sights c k s b)
 each_shown section c k n s Done e = refl
 each_shown section c k n s (Do i rest) e =

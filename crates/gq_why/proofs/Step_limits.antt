@@ -15,14 +15,14 @@ use Rattle.gq_model.specs.machine.Scenario.{Component}
 use Rattle.gq_model.specs.rules.Accept.{Budget, steps_refusal, Over_steps}
 use Rattle.gq_model.specs.rules.Budgets.{asks, by_link, cost, is_one, requests, section_cost, section_requests}
 use Rattle.gq_model.specs.rules.Flow.{Flowed, at, context, flow, section_flow, start_of, state_or}
-use Rattle.gq_model.specs.rules.Kinds.{Context, State, Subject, inside, kind_at}
+use Rattle.gq_model.specs.rules.Kinds.{Context, AbstractState, Subject, inside, kind_at}
 use Rattle.gq_model.specs.rules.Rules.{judged, link_kind}
 use Rattle.gq_model.specs.rules.Use.{steps_of}
 use Rattle.gq_model.specs.rules.Verdict.{Fault, fault_of, first_fault, greatest_cost, program_fault}
 use Rattle.gq_model.proofs.Rules_laws.{accepted, same_section_is}
 use Rattle.gq_model.proofs.Section_laws.{same_self}
 use Rattle.std.proofs.lemmas.Bool.{true≢false}
-use Rattle.gq_model.proofs.Small.{none_some, or_first_none, some_none, some_same}
+use Rattle.gq_model.proofs.Small_facts.{none_some, or_first_none, some_none, some_same}
 
 -- REQUESTS
 
@@ -38,7 +38,7 @@ link_most service section None of = omega arith
 link_most service section (Some l) of = one_most service section l.0 (of l.1)
 
 -- a statement asks once at most
-asks_most : (service : List ℕ) (section : Section) (c : Context) (s : State) (i : Instruction) → asks service section c s i ≤ 1
+asks_most : (service : List ℕ) (section : Section) (c : Context) (s : AbstractState) (i : Instruction) → asks service section c s i ≤ 1
 asks_most service section c s (Open place of n) = one_most service section of Opening
 asks_most service section c s (Upgrade place n) = link_most service section (link_kind (kind_at c s place)) (λ l. Upgrading (suc l))
 asks_most service section c s (Call place) = link_most service section (link_kind (kind_at c s place)) (λ l. Calling l)
@@ -50,14 +50,14 @@ rounds_less n a b r d h k =
     let less : a ≤ 1 + b = omega (arith, h) in let more = mul-le-mul_left n less in omega (arith, more, k)
 
 -- so statements ask no more often than they take steps
-requests_less : (service : List ℕ) (section : Section) (c : Context) (s : State) (b : Statements) → requests service section c s b ≤ cost b
+requests_less : (service : List ℕ) (section : Section) (c : Context) (s : AbstractState) (b : Statements) → requests service section c s b ≤ cost b
 requests_less service section c s Done = omega arith
 requests_less service section c s (Do i rest) =
     let here = asks_most service section c s i in
     let further = requests_less service section c (state_or s (at 1 (judged c s i))) rest in
     omega (arith, here, further)
 requests_less service section c s (If arm other rest) =
-    let t : State = record s { bounds = [] } in
+    let t : AbstractState = record s { bounds = [] } in
     let first = requests_less service section c t arm in
     let second = requests_less service section c t other in
     let further = requests_less service section c (state_or t (flow c t arm)) rest in

@@ -1,4 +1,4 @@
--- What each number that is told of a leaf is made of adds up to it.
+-- What each number that is reported of a leaf is made of adds up to it.
 use Rattle.std.specs.Prelude.{◌≡◌, ℕ, ◌+◌, ◌*◌, false, List, [], ◌∷◌, Option, Some, None, slice_get, sum_by}
 use Rattle.gq_tariff.specs.Prices.{classes}
 use Rattle.gq_model.specs.declared.program.Form.TheVariants.{Slice}
@@ -8,14 +8,14 @@ use Rattle.gq_model.specs.machine.Amounts.{Resource}
 use Rattle.gq_model.specs.machine.Program.{Statements}
 use Rattle.gq_model.specs.machine.Scenario.{Interface, Scenario, System, Component, system}
 use Rattle.gq_model.specs.rules.Budgets.{own, section_cost}
-use Rattle.gq_model.specs.rules.Kinds.{Kind, Memory, State, Subject, in_main, kind_price, kinds_cost, session_cost}
+use Rattle.gq_model.specs.rules.Kinds.{Kind, Memory, AbstractState, Subject, in_main, kind_price, kinds_cost, session_cost}
 use Rattle.gq_model.specs.rules.Use.{from_leaves, step_budget}
-use Rattle.gq_scenario.specs.Unsized.{unsized}
-use Rattle.gq_load.specs.Unsized.{unsized_fault}
+use Rattle.gq_scenario.specs.Without_quantities.{unsized}
+use Rattle.gq_load.specs.Unsized_judgement.{unsized_fault}
 use Rattle.gq_why.specs.Why.{Point, highest, kind_cost, often, places_at, places_cost, points_of}
 
 -- a number at a point, if there is one
-abbrev pub number_at : (State → ℕ) → Option Point → ℕ
+abbrev pub number_at : (AbstractState → ℕ) → Option Point → ℕ
 number_at f None = 0
 number_at f (Some p) = f p.state
 

@@ -1,5 +1,5 @@
 pub mod Why
-pub mod Kept
+pub mod First_maxima
 pub mod Adds
-pub mod Written
+pub mod Why_written
 pub mod internal

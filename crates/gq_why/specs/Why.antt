@@ -6,21 +6,22 @@ use Rattle.gq_model.specs.declared.program.Form.{Form}
 use Rattle.gq_model.specs.declared.program.Form.TheVariants.{Block, Slice, Space}
 use Rattle.gq_model.specs.declared.program.Section.{Section}
 use Rattle.gq_model.specs.declared.program.Section.TheVariants.{Main}
-use Rattle.gq_model.specs.machine.Accounts.{told}
+use Rattle.gq_model.specs.machine.Accounts.{reported}
 use Rattle.gq_model.specs.machine.Amounts.{Amount, Resource, Ram, Caps, part}
-use Rattle.gq_model.specs.machine.Prices.{chunks}
+use Rattle.gq_model.specs.machine.Resource_prices.{chunks}
 use Rattle.gq_model.specs.machine.Program.{Statements, Done, Do, If, Loop, size}
 use Rattle.gq_model.specs.machine.Routes.{server_of}
 use Rattle.gq_model.specs.machine.Scenario.{Interface, Scenario, Component, System, components, interface_in, system}
 use Rattle.gq_model.specs.rules.Budgets.{own, section_cost, section_requests}
 use Rattle.gq_model.specs.rules.Flow.{at, body, context, flow, start_of, state_or}
-use Rattle.gq_model.specs.rules.Kinds.{Kind, Empty_kind, Memory, Pool_kind, Link_kind, State, Subject, Context, inside, kind_lent, kind_places, kind_price}
+use Rattle.gq_model.specs.rules.Kinds.{Kind, Empty_kind, Memory, Pool_kind, Link_kind, AbstractState, Subject, Context, inside, kind_lent, kind_places}
+use Rattle.gq_model.specs.rules.Kinds.{kind_price}
 use Rattle.gq_model.specs.rules.Kinds.{kinds_cost, level_of, need_of}
 use Rattle.gq_model.specs.rules.Kinds.{session_cost}
 use Rattle.gq_model.specs.rules.Rules.{judged}
 use Rattle.gq_model.specs.rules.Use.{is_there, step_budget, subject, times}
 use Rattle.gq_model.specs.texts.Fault_texts.{section_word}
-use Rattle.gq_scenario.specs.Unsized.{unsized}
+use Rattle.gq_scenario.specs.Without_quantities.{unsized}
 
 -- POINTS
 
@@ -28,10 +29,10 @@ use Rattle.gq_scenario.specs.Unsized.{unsized}
 pub record Point : Type 0 where
   pub section : Section
   pub number : ℕ
-  pub state : State
+  pub state : AbstractState
 
 -- the points after the statements of a list, of which the first is the k-th; that after an `if` or a `loop` comes after those inside it
-abbrev pub after_each : Section → Context → ℕ → State → Statements → List Point
+abbrev pub after_each : Section → Context → ℕ → AbstractState → Statements → List Point
 after_each section c k s Done = []
 after_each section c k s (Do i rest) =
     let t = state_or s (at 1 (judged c s i)) in record { section = section; number = k; state = t } ∷ after_each section c (suc k) t rest
@@ -58,11 +59,11 @@ points_at v l [] = []
 points_at v l (p ∷ rest) = (if is_of_level l p.0 then points_of v p.0 else []) ++ points_at v l rest
 
 -- the first of the points at which a number is greatest
-abbrev pub or_later : (State → ℕ) → Point → Option Point → Point
+abbrev pub or_later : (AbstractState → ℕ) → Point → Option Point → Point
 or_later f p None = p
 or_later f p (Some q) = if nat_lt (f p.state) (f q.state) then q else p
 
-abbrev pub highest : (State → ℕ) → List Point → Option Point
+abbrev pub highest : (AbstractState → ℕ) → List Point → Option Point
 highest f [] = None
 highest f (p ∷ rest) = Some (or_later f p (highest f rest))
 
@@ -116,7 +117,7 @@ places_line r c p (suc m) =
     place_words Main p.number ++ decimal (places_cost r c (suc m)) ++ codes " for " ++ decimal (suc m) ++ codes " places of " ++ decimal c ++ 10 ∷ []
 
 -- the places of a class at a point
-abbrev pub places_at : ℕ → State → ℕ
+abbrev pub places_at : ℕ → AbstractState → ℕ
 places_at c s = sum_by (kind_places c) s.own
 
 abbrev pub class_line : Resource → ℕ → Option Point → List ℕ
@@ -135,7 +136,7 @@ own_part r words v quantum =
 
 -- of capabilities too, where they are counted
 abbrev pub own_parts : ℕ → Subject → Amount → List ℕ
-own_parts version v quantum = own_part Ram (codes "own ") v quantum.ram ++ told version (own_part Caps (codes "own caps ") v quantum.caps)
+own_parts version v quantum = own_part Ram (codes "own ") v quantum.ram ++ reported version (own_part Caps (codes "own caps ") v quantum.caps)
 
 -- NEED
 
@@ -160,7 +161,7 @@ abbrev pub level_parts : ℕ → Subject → List ℕ → Interface → ℕ → 
 level_parts version v service i l zero = []
 level_parts version v service i l (suc n) =
     let points = points_at v l v.program.sections in
-    need_part Ram (codes "need of ") service i l points ++ told version (need_part Caps (codes "need caps of ") service i l points)
+    need_part Ram (codes "need of ") service i l points ++ reported version (need_part Caps (codes "need caps of ") service i l points)
     ++ level_parts version v service i (suc l) n
 
 abbrev pub needs_by : ℕ → Subject → List ℕ → Option Interface → List ℕ
@@ -213,7 +214,7 @@ steps_part all x c = codes "steps " ++ decimal (step_budget all x c) ++ 10 ∷ s
 
 -- A LEAF
 
--- with the quantum that it is given; what is told besides is of the system without quantities
+-- with the quantum that it is given; what is reported besides is of the system without quantities
 abbrev pub why_lines : Scenario → System → ℕ → Component → Amount → List ℕ
 why_lines s all x c quantum = own_parts s.version (subject all c) quantum ++ needs_part s (subject all c) c.node.provides ++ steps_part all x c
 

@@ -1,2 +1,2 @@
-pub mod Lines
-pub mod Steps
+pub mod Visitor_lines
+pub mod Step_parts

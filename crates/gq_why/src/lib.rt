@@ -9,16 +9,16 @@
 //! why(alloc, scenario, "cli", &mut out)?;
 //! ```
 //!
-//! It looks at the scenario without its quantities, whose points it sees by the verifier's walk (`points`).
+//! It looks at the scenario without its quantities, whose points it sees by the verifier's walk (`greatest_points`).
 //!
-//! Modules: the first points at which numbers are greatest (`points`), with what slots hold (`places`); what a leaf uses (`own`), what its sessions need
-//! (`need`), its steps (`steps`), all of it as a text (`why`), and that it adds up (`laws`).
+//! Modules: the first points at which numbers are greatest (`greatest_points`), with what slots hold (`point_lines`). What a leaf uses (`own_lines`), what its
+//! sessions need (`need`), its steps (`step_sums`), all of it as a text (`why`), and that it adds up (`why_sum_laws`).
 #![tactic(auto)]
 
-pub mod laws;
+mod greatest_points;
 mod need;
-mod own;
-mod places;
-mod points;
-mod steps;
+mod own_lines;
+mod point_lines;
+mod step_sums;
 pub mod why;
+pub mod why_sum_laws;

@@ -1,22 +1,22 @@
 // What sessions of each level need.
 ghost use Rattle.std.specs.Prelude.{◌≡◌, ◌++◌, OnOk, codes, decimal, length, option_map, suc};
-ghost use Rattle.gq_model.specs.machine.Accounts.{told};
+ghost use Rattle.gq_model.specs.machine.Accounts.{reported};
 ghost use Rattle.gq_model.specs.machine.Amounts.{Ram, Caps, part};
-ghost use Rattle.gq_scenario.specs.Trees.{version_number};
-ghost use Rattle.gq_why.specs.Kept.{top_in, top_session};
+ghost use Rattle.gq_scenario.specs.Component_trees.{version_number};
+ghost use Rattle.gq_why.specs.First_maxima.{top_in, top_session};
 ghost use Rattle.gq_why.specs.Why.{is_of_level, level_parts, need_part, needs_part, points_at};
-ghost use Rattle.gq_why.specs.internal.Lines.{session_lines};
+ghost use Rattle.gq_why.specs.internal.Visitor_lines.{session_lines};
 
-use crate::places::{push_object, push_of, push_point, push_slots};
-use crate::points::{Highest, HighestSession};
+use crate::greatest_points::{Highest, HighestSession};
+use crate::point_lines::{push_object, push_of, push_point, push_slots};
 use gq_model::program::Name;
 use gq_program::{Interface, Section};
 use gq_resolve::component::Component;
-use gq_rules::sessions::{level_of, need_of, session_cost};
+use gq_rules::session_rules::{level_of, need_of, session_cost};
 use gq_scenario::scenario::{Scenario, Version};
 use gq_tariff::{Amount, Resource};
 use gq_verify::Verified;
-use gq_views::words::{end_line, push_number};
+use gq_views::view_words::{end_line, push_number};
 use std::alloc::AllocError;
 
 /// How much of a resource an amount has.
@@ -97,7 +97,7 @@ fn push_need(
 ) -> Result<(), AllocError>
     ensures { OnOk result (text.new.items ≡ text.old.items
         ++ need_part Ram (codes "need of ") service.now interface.now level (points_at verified.now level verified.now.program.sections)
-        ++ told (version_number version) (need_part Caps (codes "need caps of ") service.now interface.now level
+        ++ reported (version_number version) (need_part Caps (codes "need caps of ") service.now interface.now level
         (points_at verified.now level verified.now.program.sections))) }
 {
     let highest = highest_at(verified, level);

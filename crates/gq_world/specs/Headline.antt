@@ -8,7 +8,7 @@ use Rattle.gq_model.specs.Promises.{IsUpheld, Upholds}
 use Rattle.gq_model.specs.texts.Turns.{turned}
 use Rattle.gq_laws.specs.Stands.{Stands}
 use Rattle.gq_load.specs.Load.{loaded}
-use Rattle.gq_world.specs.Worlds as worlds
+use Rattle.gq_world.specs.World_between_turns as worlds
 use Rattle.gq_model.specs.machine.Run.{Acts}
 
 -- the same of a world of the code, where only that it holds is said

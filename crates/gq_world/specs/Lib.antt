@@ -1,6 +1,6 @@
 pub mod Whole
-pub mod Worlds
+pub mod World_between_turns
 pub mod Headline
-pub mod Lines
-pub mod Outcomes
+pub mod Account_lines
+pub mod Command_outcomes
 pub mod internal

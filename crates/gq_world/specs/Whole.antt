@@ -8,7 +8,7 @@ use Rattle.gq_model.specs.declared.fault.TurnFault.{TurnFault}
 use Rattle.gq_model.specs.texts.Code.{code_of, hex_of}
 use Rattle.gq_model.specs.texts.Fault_texts.{turn_fault_word}
 use Rattle.gq_model.specs.texts.Turns.{Turned, turned}
-use Rattle.gq_scenario.specs.Reading.{ReadFault, read_text, scenario_in}
+use Rattle.gq_scenario.specs.Top_table.{ReadFault, read_text, scenario_in}
 use Rattle.gq_load.specs.Named.{leaf_named}
 use Rattle.gq_load.specs.Load.{Fault, source_fault, fault_text, loaded}
 use Rattle.gq_model.specs.machine.Run.{Acts}

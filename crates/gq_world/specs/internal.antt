@@ -1,2 +1,2 @@
-pub mod Keeping
-pub mod Going
+pub mod World_invariant
+pub mod Act_transitions

@@ -4,8 +4,8 @@ ghost use Rattle.gq_model.specs.machine.Accounts.{account_line, account_lines};
 ghost use Rattle.gq_model.specs.machine.Scenario.{components};
 ghost use Rattle.gq_model.specs.rules.Accept.{step_budgets};
 ghost use Rattle.gq_resolve.specs.NodeTables.{node_rows};
-ghost use Rattle.gq_init.specs.Counts.{Writes};
-ghost use Rattle.gq_world.specs.Lines.{accounts_by};
+ghost use Rattle.gq_init.specs.Writer_failures.{Writes};
+ghost use Rattle.gq_world.specs.Account_lines.{accounts_by};
 
 use crate::node_accounts::account_of;
 use gq_init::account_line::account_line;
@@ -13,7 +13,7 @@ use gq_init::counted::{Counted, WriteFault, put};
 use gq_init::line::Line;
 use gq_load::budget::Budget;
 use gq_machine::machine::Machine;
-use gq_scenario::node::NodeNo;
+use gq_scenario::node_numbers::NodeNo;
 use std::io::Write;
 
 // The line of the account of a node.
@@ -39,7 +39,7 @@ fn account_count(machine: &Machine, budgets: &[Budget]) -> usize
 }
 
 /// Writes the lines of the accounts of all nodes in preorder, up to the first that is not written whole. The step budget of a leaf is that of these
-/// budgets, of all leaves in preorder, and 0 where it has none there. They take no host memory.
+/// budgets, of all leaves in preorder, and 0 where it has none there. They allocate no host memory.
 pub fn write_accounts<W: Write>(
     machine: &Machine,
     budgets: &[Budget],

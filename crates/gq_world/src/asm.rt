@@ -1,22 +1,22 @@
 // The code of a leaf's program.
 ghost use Rattle.std.specs.Prelude.{◌≡◌, ◌∷◌, ◌++◌, [], Ok, Err, IfOk, IfErr, None, string_bytes};
 ghost use Rattle.gq_model.specs.texts.Code.{code_of, hex_of};
-ghost use Rattle.gq_load.specs.Faults.{PrintsFault};
+ghost use Rattle.gq_load.specs.Load_faults.{PrintsFault};
 ghost use Rattle.gq_load.specs.Load.{source_fault};
-ghost use Rattle.gq_world.specs.Outcomes.{IsBefore, IsFaultOf, WritesAs};
+ghost use Rattle.gq_world.specs.Command_outcomes.{IsBefore, IsFaultOf, WritesAs};
 ghost use Rattle.gq_world.specs.Whole.{asm_from, asm_written};
 
-use crate::fault::RunFault;
-use crate::text::put_text;
+use crate::command_text::put_text;
+use crate::run_fault::RunFault;
 use gq_code::program_code::encode;
 use gq_init::counted::Counted;
-use gq_load::fault::{LoadError, LoadFault};
+use gq_load::leaf_programs::read_program;
+use gq_load::load_fault::{LoadError, LoadFault};
 use gq_load::named::leaf_named;
-use gq_load::programs::read_program;
 use gq_reader::reader::read_scenario;
 use gq_resolve::component::components;
-use gq_scenario::fault::ScenarioError;
 use gq_scenario::scenario::{Leaf, Scenario};
+use gq_scenario::scenario_fault::ScenarioError;
 use std::alloc::{AllocError, Global};
 use std::io::Write;
 
@@ -59,7 +59,7 @@ fn leaf_line<'a>(alloc: Global, scenario: &Scenario, name: &'a str) -> Result<St
 
 /// Writes the code of the leaf of this name, in lower-case hexadecimal digits, and a line feed. No other leaf's program is
 /// read. Nothing is written where the scenario is refused, where no leaf has the name, where that leaf's text or code is no
-/// program, or where host memory is refused.
+/// program, or where the host refuses memory.
 pub fn asm<'a, W: Write>(
     alloc: Global,
     scenario: &[u8],

@@ -1,9 +1,9 @@
 // The budgets of a scenario's leaves, as text.
-ghost use Rattle.gq_world.specs.Outcomes.{WritesAs};
+ghost use Rattle.gq_world.specs.Command_outcomes.{WritesAs};
 ghost use Rattle.gq_world.specs.Whole.{check_written};
 
-use crate::fault::RunFault;
-use crate::text::put_text;
+use crate::command_text::put_text;
+use crate::run_fault::RunFault;
 use gq_init::counted::Counted;
 use gq_load::checked::checked_lines;
 use std::alloc::Global;

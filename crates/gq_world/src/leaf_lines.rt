@@ -2,8 +2,8 @@
 ghost use Rattle.std.specs.Prelude.{◌<◌, ◌≤◌, length};
 ghost use Rattle.gq_model.specs.machine.Doing as doing;
 ghost use Rattle.gq_model.specs.machine.Scenario.{components};
-ghost use Rattle.gq_init.specs.Counts.{Writes};
-ghost use Rattle.gq_world.specs.Worlds.{line_told};
+ghost use Rattle.gq_init.specs.Writer_failures.{Writes};
+ghost use Rattle.gq_world.specs.World_between_turns.{line_reported};
 
 use gq_init::NodeTable;
 use gq_init::counted::{Counted, WriteFault, put};
@@ -20,7 +20,7 @@ pub fn write_line<W: Write>(
 ) -> Result<(), WriteFault>
     requires leaf { leaf < length (components table.now) }
     requires text { length text.now ≤ 64 }
-    ensures { Writes W.contents out.old out.new (line_told table.now leaf (doing.Line text.now)) result }
+    ensures { Writes W.contents out.old out.new (line_reported table.now leaf (doing.Line text.now)) result }
 {
     let line = text_line(table.label(table.node(leaf)), text);
     put(out, line.as_slice())

@@ -15,15 +15,15 @@
 pub mod account_lines;
 pub mod asm;
 pub mod check;
-pub mod fault;
+pub mod command_text;
 pub mod leaf_lines;
 pub mod load;
 mod node_accounts;
 pub mod run;
-pub mod text;
+pub mod run_fault;
 pub mod world;
 
-pub use fault::RunFault;
 pub use gq_init::counted::Counted;
-pub use gq_init::{account, counted};
-pub use gq_machine::{event, settings};
+pub use gq_init::{account_report, counted};
+pub use gq_machine::{event, input_settings};
+pub use run_fault::RunFault;

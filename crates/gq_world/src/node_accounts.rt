@@ -3,15 +3,15 @@ ghost use Rattle.std.specs.Prelude.{ℕ, ◌==◌, if◌then◌else◌, ◌≡�
 ghost use Rattle.gq_model.specs.machine.Scenario.{components};
 ghost use Rattle.gq_model.specs.rules.Accept.{step_budgets};
 ghost use Rattle.gq_resolve.specs.NodeTables.{node_rows};
-ghost use Rattle.gq_scenario.specs.Trees.{version_number};
-ghost use Rattle.gq_init.specs.Told.{told_of};
-ghost use Rattle.gq_world.specs.Lines.{accounts_by, TellsOf};
+ghost use Rattle.gq_scenario.specs.Component_trees.{version_number};
+ghost use Rattle.gq_init.specs.Account_values.{reported_of};
+ghost use Rattle.gq_world.specs.Account_lines.{accounts_by, ReportsOf};
 ghost use Rattle.gq_model.specs.machine.Amounts.{counts_caps};
 
-use gq_init::account::{Account, LeafAccount};
+use gq_init::account_report::{Account, LeafAccount};
 use gq_load::budget::Budget;
 use gq_machine::machine::Machine;
-use gq_scenario::node::NodeNo;
+use gq_scenario::node_numbers::NodeNo;
 use gq_scenario::scenario::{LeafNo, Version};
 use gq_tariff::Amount;
 
@@ -33,10 +33,10 @@ fn steps_of(budgets: &[Budget], leaf: LeafNo) -> u64
     }
 }
 
-// What is told of a leaf beside its quota.
+// What is reported of a leaf beside its quota.
 fn leaf_account(machine: &Machine, budgets: &[Budget], leaf: LeafNo) -> LeafAccount
     requires { leaf < length (components machine.now.scenario) }
-    ensures { TellsOf machine.now.scenario machine.now.world (step_budgets budgets.now) leaf result }
+    ensures { ReportsOf machine.now.scenario machine.now.world (step_budgets budgets.now) leaf result }
 {
     let budget = steps_of(budgets, leaf);
     let caps = counted(
@@ -52,7 +52,7 @@ fn leaf_account(machine: &Machine, budgets: &[Budget], leaf: LeafNo) -> LeafAcco
 pub(crate) fn account_of(machine: &Machine, budgets: &[Budget], node: NodeNo) -> Account
     requires leaves { length machine.now.world.leaves ≡ length (components machine.now.scenario) }
     requires node { node < length (node_rows machine.now.scenario) }
-    ensures { IfSome (slice_get (accounts_by machine.now.scenario machine.now.world (step_budgets budgets.now)) node) (λ a. result ≡ told_of a) }
+    ensures { IfSome (slice_get (accounts_by machine.now.scenario machine.now.world (step_budgets budgets.now)) node) (λ a. result ≡ reported_of a) }
 {
     let quota = Amount {
         ram: machine.quota(node),

@@ -3,24 +3,24 @@ ghost use Rattle.std.specs.Prelude.{◌≡◌, ◌<◌, false, length, OnOk};
 ghost use Rattle.gq_model.specs.machine.Scenario.{components, system};
 ghost use Rattle.gq_model.specs.machine.Run.{act_on, turns_of, run_on};
 ghost use Rattle.gq_model.specs.machine.World.{start};
-ghost use Rattle.gq_init.specs.Counts.{Writes, written_to};
-ghost use Rattle.gq_world.specs.internal.Going.{AreBelow, RunsThrough, turns_written};
+ghost use Rattle.gq_init.specs.Writer_failures.{Writes, written_to};
+ghost use Rattle.gq_world.specs.internal.Act_transitions.{AreBelow, RunsThrough, turns_written};
 ghost use Rattle.gq_world.specs.Whole.{run_written, whole_of};
 ghost use Rattle.gq_world.specs.Headline.{WritesPromised};
-ghost use Rattle.gq_world.specs.Outcomes.{WritesAs};
+ghost use Rattle.gq_world.specs.Command_outcomes.{WritesAs};
 
-use crate::fault::RunFault;
+use crate::run_fault::RunFault;
 use crate::world::World;
 use gq_init::TurnItem;
 use gq_init::counted::{Counted, WriteFault};
-use gq_init::lines::Lines;
+use gq_init::gathered_lines::Lines;
 use gq_init::turns::{TurnsError, read_items};
 use gq_model::act::Act;
 use gq_scenario::scenario::LeafNo;
 use std::alloc::Global;
 use std::io::Write;
 
-// So many turns of a leaf, up to the first whose line is not written whole. They take no host memory.
+// So many turns of a leaf, up to the first whose line is not written whole. They allocate no host memory.
 pub(crate) fn take_turns<W: Write>(
     world: &mut World,
     leaf: LeafNo,
@@ -39,7 +39,7 @@ pub(crate) fn take_turns<W: Write>(
     Ok(())
 }
 
-// Gives a leaf turns, up to the first whose line is not written whole, or another value of an input. It takes no host memory.
+// Gives a leaf turns, up to the first whose line is not written whole, or another value of an input. It allocates no host memory.
 fn take_act<W: Write>(
     world: &mut World,
     leaf: LeafNo,
@@ -60,7 +60,7 @@ fn take_act<W: Write>(
     }
 }
 
-// All turns and settings of a list, up to the first turn whose line is not written whole. They take no host memory.
+// All turns and settings of a list, up to the first turn whose line is not written whole. They allocate no host memory.
 pub(crate) fn take_all<W: Write>(
     world: &mut World,
     turns: &[TurnItem],
@@ -77,8 +77,8 @@ pub(crate) fn take_all<W: Write>(
     Ok(())
 }
 
-/// Takes all turns and settings of a list from the start of a world, and writes the lines that they give and then the accounts of all nodes: what `run` does
-/// once it has read both texts. After a failed write a prefix of that was written. It takes no host memory.
+/// Takes all turns and settings of a list from the start of a world, and writes the lines that they give and then the accounts of all nodes. This is what `run`
+/// does once it has read both texts. After a failed write a prefix of that was written. It allocates no host memory.
 pub fn run_world<W: Write>(
     world: &mut World,
     turns: &[TurnItem],
@@ -119,7 +119,7 @@ fn run_turns<W: Write>(
 /// Runs a scenario, a text in TOML, by the turns and settings of a second text. It loads the scenario, takes all of them, and writes the lines that they give
 /// and then the accounts of all nodes.
 ///
-/// If the scenario or the turns are refused, or the host refuses memory, nothing is written. Only loading and reading the turns take host memory.
+/// If the scenario or the turns are refused, or the host refuses memory, nothing is written. Only loading and reading the turns allocate host memory.
 pub fn run<W: Write>(
     alloc: Global,
     scenario: &[u8],
@@ -128,8 +128,8 @@ pub fn run<W: Write>(
 ) -> Result<(), RunFault<'static>>
     ensures writes { WritesAs W.contents (run_written scenario.now turns.now) out.old out.new result }
 
-    // What was written is the text of a run that never came to a wrong step and kept every budget, and whose quotas sum to the total, as every run of the
-    // scenario over any turns and settings.
+    // What was written is the text of a run that never came to a wrong step and kept every budget, and whose quotas sum to the total. This holds of every run
+    // of the scenario, over any turns and settings.
     ensures promised { OnOk result (WritesPromised scenario.now turns.now (written_to W.contents out.old) (written_to W.contents out.new)) }
 {
     let mut world = World::load(alloc, scenario)?;

@@ -10,17 +10,17 @@ ghost use Rattle.gq_model.specs.machine.Step.{next};
 ghost use Rattle.gq_model.specs.rules.Accept as accept;
 ghost use Rattle.gq_resolve.specs.NodeTables.{IsNodeOf, node_rows};
 ghost use Rattle.gq_laws.specs.Stands.{Stands};
-ghost use Rattle.gq_prepared.specs.Held.{held_by_all};
-ghost use Rattle.gq_init.specs.Counts.{Writes, written_to, failures_of};
+ghost use Rattle.gq_prepared.specs.Leaf_holdings.{held_by_all};
+ghost use Rattle.gq_init.specs.Writer_failures.{Writes, written_to, failures_of};
 ghost use Rattle.gq_world.specs.Headline.{Standing, Upheld};
-ghost use Rattle.gq_init.specs.Told.{told_of};
-ghost use Rattle.gq_world.specs.Lines.{all_accounts, accounts_text};
+ghost use Rattle.gq_init.specs.Account_values.{reported_of};
+ghost use Rattle.gq_world.specs.Account_lines.{all_accounts, accounts_text};
 ghost use Rattle.gq_bytecode.specs.Nexts.{GoesAlone, NoneAlone};
 ghost use Rattle.gq_machine.specs.Events.{event_of};
-ghost use Rattle.gq_machine.specs.Settings.{input_fault};
+ghost use Rattle.gq_machine.specs.Input_settings.{input_fault};
 ghost use Rattle.gq_model.specs.texts.Turns.{inputs_at};
-ghost use Rattle.gq_world.specs.Worlds.{HasTaken, IsTurn, StopsWriting, line_told};
-ghost use Rattle.gq_world.specs.internal.Going.{HasRun, IsCut};
+ghost use Rattle.gq_world.specs.World_between_turns.{HasTaken, IsTurn, StopsWriting, line_reported};
+ghost use Rattle.gq_world.specs.internal.Act_transitions.{HasRun, IsCut};
 ghost use Rattle.gq_init.specs.Writes.{IsRaised};
 
 use crate::account_lines::write_accounts;
@@ -28,15 +28,15 @@ use crate::leaf_lines::write_line;
 use crate::node_accounts::account_of;
 use arrayvec::ArrayVec;
 use gq_init::NodeTable;
-use gq_init::account::Account;
+use gq_init::account_report::Account;
 use gq_init::counted::{Counted, WriteFault, put};
-use gq_init::lines::Lines;
-use gq_laws::accepted::accepted_laws;
+use gq_init::gathered_lines::Lines;
+use gq_laws::accepted_runs::accepted_laws;
 use gq_load::budget::Budget;
 use gq_machine::event::Event;
+use gq_machine::input_settings::InputFault;
 use gq_machine::machine::Machine;
-use gq_machine::settings::InputFault;
-use gq_scenario::node::NodeNo;
+use gq_scenario::node_numbers::NodeNo;
 use gq_scenario::scenario::LeafNo;
 use std::io::Write;
 use std::marker::Model;
@@ -59,8 +59,8 @@ pub struct World {
 }
 
 impl Model for World {
-    ghost use Rattle.gq_world.specs.Worlds.{World};
-    ghost use Rattle.gq_world.specs.internal.Keeping.{IsBudgeted};
+    ghost use Rattle.gq_world.specs.World_between_turns.{World};
+    ghost use Rattle.gq_world.specs.internal.World_invariant.{IsBudgeted};
     ghost use Rattle.gq_model.specs.internal.Stored.{statements_code, nodes_code};
     ghost use Rattle.std.specs.Coded.{codes};
 
@@ -151,7 +151,7 @@ impl World {
     /// The account of a node. A leaf uses no more than its quota, of bytes and of capabilities, and has taken no more steps than its budget.
     pub fn account(&self, node: NodeNo) -> Account
         requires { node < length (node_rows self.now.scenario) }
-        ensures told { IfSome (slice_get (all_accounts self.now) node) (λ a. result ≡ told_of a) }
+        ensures reported { IfSome (slice_get (all_accounts self.now) node) (λ a. result ≡ reported_of a) }
         ensures paid { IfSome result.leaf (λ l. l.used.ram ≤ result.quota.ram) }
         ensures paid_caps { IfSome result.leaf (λ l. l.used.caps ≤ result.quota.caps) }
         ensures within_budget { IfSome result.leaf (λ l. l.steps ≤ l.budget) }
@@ -160,7 +160,7 @@ impl World {
         account_of(&self.machine, self.budgets.as_slice(), node)
     }
 
-    // Writes the lines of the accounts of all nodes in preorder, up to the first that is not written whole. They take no host memory.
+    // Writes the lines of the accounts of all nodes in preorder, up to the first that is not written whole. They allocate no host memory.
     pub(crate) fn write_accounts<W: Write>(&self, out: &mut Counted<W>) -> Result<(), WriteFault>
         ensures { Writes W.contents out.old out.new (accounts_text self.now) result }
     {
@@ -177,8 +177,8 @@ impl World {
 
     /// What holds in every world, whatever turns it took and inputs it was given. It does nothing.
     pub fn laws(&self)
-        // Any leaf can take its turn, all is paid for, each leaf has kept its budget of steps and of each resource, the quotas
-        // sum to the total, and a session that ends gives back its donation.
+        // Any leaf can take its turn, all is paid for, and each leaf has kept its budget of steps and of each resource. The quotas sum to the total, and a
+        // session that ends gives back its donation.
         ensures upheld { Upheld self.now }
         ensures goes_on { (x : ℕ) → IsOk (next (system self.now.scenario) self.now.world x) }
     {
@@ -187,7 +187,7 @@ impl World {
     }
 
     /// One turn of a leaf: one step where it can run. Its line, if it gives one, is written with the leaf's label. After a
-    /// failed write the world is stopped. A turn takes no host memory.
+    /// failed write the world is stopped. A turn allocates no host memory.
     pub fn turn<W: Write>(&mut self, leaf: LeafNo, out: &mut Counted<W>) -> Result<Event, Stop>
         requires { leaf < length (components self.old.scenario) }
         ensures scenario { self.new.scenario ≡ self.old.scenario }
@@ -212,7 +212,7 @@ impl World {
         accepted_laws();
         let mut text = ArrayVec::new();
         match self.machine.step(leaf, &mut text) {
-            Event::Line => match self.tell(leaf, text.as_slice(), out) {
+            Event::Line => match self.report(leaf, text.as_slice(), out) {
                 Ok(()) => Ok(Event::Line),
                 Err(_) => Err(Stop::Write),
             },
@@ -220,7 +220,7 @@ impl World {
         }
     }
 
-    /// Gives an input of a leaf another value, from here on. It is no turn, and takes no host memory. A leaf that has exited keeps its inputs, which are 0.
+    /// Gives an input of a leaf another value, from here on. It is no turn, and allocates no host memory. A leaf that has exited keeps its inputs, which are 0.
     ///
     /// Refused, and then nothing is changed:
     ///
@@ -258,7 +258,7 @@ impl World {
     }
 
     /// One turn of a leaf, of which nothing is written: one step where it can run. After it `line` has the text that the leaf gave, without label and line
-    /// feed, and is empty where it gave none. A turn takes no host memory.
+    /// feed, and is empty where it gave none. A turn allocates no host memory.
     pub fn step(&mut self, leaf: LeafNo, line: &mut ArrayVec<u8, 64>) -> Event
         requires leaf { leaf < length (components self.old.scenario) }
         ensures scenario { self.new.scenario ≡ self.old.scenario }
@@ -269,9 +269,9 @@ impl World {
         self.machine.step(leaf, line)
     }
 
-    /// Turns that a leaf takes alone, at most so many: each is a step that shows nothing, and changes nothing but what is left to do, the open loops, the
-    /// operands, the locals and the steps of this leaf. It returns how many are left. Where any are left, the leaf can't take its next step alone: others
-    /// have a part in it, or the leaf can't run. The turns take no host memory.
+    /// Turns that a leaf takes alone, at most so many. Each is a step that shows nothing, and changes nothing but what is left to do, the open loops, the
+    /// operands, the locals and the steps of this leaf. It returns how many are left. Where any are left, the leaf can't take its next step alone: others have
+    /// a part in it, or the leaf can't run. The turns allocate no host memory.
     #[inline(always)]
     pub fn turns_alone(&mut self, leaf: LeafNo, turns: u32) -> u32
         requires leaf { leaf < length (components self.old.scenario) }
@@ -287,7 +287,7 @@ impl World {
     }
 
     // Turns of a leaf, at most so many, up to the first that gives a line, and those that show numbers after it. Their lines are put into `lines` and written.
-    // It tells how many are left. After a failed write the world is stopped. The turns take no host memory.
+    // It returns how many are left. After a failed write the world is stopped. The turns allocate no host memory.
     pub(crate) fn turns<W: Write>(
         &mut self,
         leaf: LeafNo,
@@ -308,7 +308,7 @@ impl World {
         ensures raised { OnErr result (IsRaised (failures_of out.old) (failures_of out.new)) }
     {
         accepted_laws();
-        let (last, left) = self.machine.turns_told(leaf, count, lines);
+        let (last, left) = self.machine.turns_reported(leaf, count, lines);
         match last {
             Err(_) => unreachable!(),
             Ok(event) => match event {
@@ -343,7 +343,7 @@ impl World {
     }
 
     // Writes the line of a leaf that gives this text. After a failed write the world is stopped.
-    fn tell<W: Write>(
+    fn report<W: Write>(
         &mut self,
         leaf: LeafNo,
         text: &[u8],
@@ -353,7 +353,7 @@ impl World {
         requires text { length text.now ≤ 64 }
         ensures scenario { self.new.scenario ≡ self.old.scenario }
         ensures world { self.new.world ≡ self.old.world }
-        ensures writes { Writes W.contents out.old out.new (line_told self.old.scenario leaf (Line text.now)) result }
+        ensures writes { Writes W.contents out.old out.new (line_reported self.old.scenario leaf (Line text.now)) result }
         ensures running { OnOk result (self.new.stopped ≡ self.old.stopped) }
         ensures stopped { OnErr result (self.new.stopped ≡ true) }
     {

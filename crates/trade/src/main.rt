@@ -5,7 +5,7 @@ mod watched;
 
 use gq_cli::command::{Command, CommandError};
 use gq_cli::command_line::command;
-use gq_cli::execute::{execute, tell};
+use gq_cli::execute::{execute, report};
 use gq_cli::rules::families;
 use gq_cli::status::Status;
 use gq_world::Counted;
@@ -33,7 +33,7 @@ struct Notes {
 // What is written is gathered before it leaves the process.
 type Out<'a> = Counted<BufWriter<Watched<'a, Stdout>>>;
 
-// Nothing is told to anybody once the reader of the output has gone.
+// Nothing is reported to anybody once the reader of the output has gone.
 type Err<'a> = Counted<Silenced<'a, Stderr>>;
 
 fn main(rt: HostRuntime) -> ExitCode {
@@ -45,7 +45,7 @@ fn main(rt: HostRuntime) -> ExitCode {
     let mut err = Counted::new(Silenced::new(rt.stderr(), &notes.out));
     let status = match asked(&rt) {
         Ok(command) => perform(&rt, &command, &notes, &mut err),
-        Err(misuse) => tell_misuse(&mut err, misuse),
+        Err(misuse) => report_misuse(&mut err, misuse),
     };
     ExitCode::from(status.code())
 }
@@ -61,17 +61,17 @@ enum Misuse {
     Usage(String),
 }
 
-// Tells why the words ask for no command.
-fn tell_misuse(err: &mut Err<'_>, misuse: Misuse) -> Status {
+// Reports why the words ask for no command.
+fn report_misuse(err: &mut Err<'_>, misuse: Misuse) -> Status {
     match misuse {
-        Misuse::Memory => tell(err, Status::HostMemory),
+        Misuse::Memory => report(err, Status::HostMemory),
         Misuse::NoText => {
-            let status = tell(err, Status::BadCommandLine);
+            let status = report(err, Status::BadCommandLine);
             add(err, "  a word is not UTF-8\n");
             status
         }
         Misuse::Usage(said) => {
-            let status = tell(err, Status::BadCommandLine);
+            let status = report(err, Status::BadCommandLine);
             add(err, said.as_str());
             status
         }
@@ -127,28 +127,28 @@ fn perform(rt: &HostRuntime, command: &Command, notes: &Notes, err: &mut Err<'_>
     let stdout = Watched::new(rt.stdout(), &notes.out);
     let mut out = match BufWriter::with_capacity(rt.alloc(), BUFFER, stdout) {
         Ok(writer) => Counted::new(writer),
-        Err(_) => return tell(err, Status::HostMemory),
+        Err(_) => return report(err, Status::HostMemory),
     };
     let status = execute_to(rt, command, notes, &mut out, err);
     let flushed = out.flush();
     drop(out);
     let status = match flushed {
-        Err(_) if status == Status::Done => tell(err, Status::FileFault),
+        Err(_) if status == Status::Done => report(err, Status::FileFault),
         _ => status,
     };
     if status == Status::FileFault {
-        tell_reasons(err, command, notes);
+        report_reasons(err, command, notes);
     }
     status
 }
 
-// Tells which stream failed and why, each on a line.
-fn tell_reasons(err: &mut Err<'_>, command: &Command, notes: &Notes) {
+// Reports which stream failed and why, each on a line.
+fn report_reasons(err: &mut Err<'_>, command: &Command, notes: &Notes) {
     let (scenario, turns) = paths(command);
-    tell_input(err, scenario, notes.scenario.get());
-    tell_input(err, turns, notes.turns.get());
+    report_input(err, scenario, notes.scenario.get());
+    report_input(err, turns, notes.turns.get());
     if let Some(error) = notes.out.get().failure {
-        tell_reason(err, "standard output", error);
+        report_reason(err, "standard output", error);
     }
 }
 
@@ -168,10 +168,10 @@ fn paths(command: &Command) -> (&str, &str) {
     }
 }
 
-// Tells why an input was not read, if it was not.
-fn tell_input(err: &mut Err<'_>, path: &str, note: Note) {
+// Reports why an input was not read, if it was not.
+fn report_input(err: &mut Err<'_>, path: &str, note: Note) {
     match note.failure {
-        Some(error) => tell_reason(err, path, error),
+        Some(error) => report_reason(err, path, error),
         None => {
             if note.read > MOST_INPUT {
                 add(err, "  ");
@@ -182,8 +182,8 @@ fn tell_input(err: &mut Err<'_>, path: &str, note: Note) {
     }
 }
 
-// Tells why a stream failed.
-fn tell_reason(err: &mut Err<'_>, path: &str, error: io::Error) {
+// Reports why a stream failed.
+fn report_reason(err: &mut Err<'_>, path: &str, error: io::Error) {
     add(err, "  ");
     add(err, path);
     let _written = writeln!(err, ": {error}");
@@ -200,11 +200,11 @@ fn execute_to(
     match command {
         Command::OfTurns(_, scenario, turns) | Command::Faults(scenario, Some(turns)) => {
             let Some(mut scenario) = open(rt, scenario.as_str(), &notes.scenario) else {
-                return tell(err, Status::FileFault);
+                return report(err, Status::FileFault);
             };
             let Some(mut turns) = open(rt, turns.as_str(), &notes.turns) else {
                 drop(scenario);
-                return tell(err, Status::FileFault);
+                return report(err, Status::FileFault);
             };
             let status = execute_on(rt, command, &mut scenario, &mut turns, out, err);
             drop(scenario);
@@ -216,7 +216,7 @@ fn execute_to(
         | Command::Fit(_, scenario)
         | Command::Faults(scenario, None) => {
             let Some(mut scenario) = open(rt, scenario.as_str(), &notes.scenario) else {
-                return tell(err, Status::FileFault);
+                return report(err, Status::FileFault);
             };
             let status = execute_on(rt, command, &mut scenario, &mut io::empty(), out, err);
             drop(scenario);

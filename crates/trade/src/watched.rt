@@ -81,7 +81,7 @@ impl<W: Write> Write for Watched<'_, W> {
     }
 }
 
-/// A writer that takes nothing any more once whoever reads another stream has gone: then nobody is to be told.
+/// A writer that takes nothing any more once whoever reads another stream has gone: then nobody is to be reported.
 #[derive(Drop)]
 pub struct Silenced<'a, W> {
     to: W,

@@ -3,9 +3,9 @@
 
 use gq_command::input::{InputError, read_input};
 use gq_command::status::Status;
-use gq_unverified::run::run_unverified;
+use gq_unverified::tested_run::run_unverified;
 use gq_world::Counted;
-use gq_world::fault::RunFault;
+use gq_world::run_fault::RunFault;
 use std::env;
 use std::fs::File;
 use std::io::Write;
@@ -19,7 +19,7 @@ fn main(rt: HostRuntime) -> ExitCode {
     ExitCode::from(status.code())
 }
 
-// Runs the scenario at the first path over the turns at the second. A wrong step, and why nothing is run, are told on standard error.
+// Runs the scenario at the first path over the turns at the second. A wrong step, and why nothing is run, are reported on standard error.
 fn perform(rt: &HostRuntime) -> Result<(), Status> {
     let Some((scenario, turns)) = paths(rt) else {
         return Err(Status::BadCommandLine);
@@ -34,11 +34,11 @@ fn perform(rt: &HostRuntime) -> Result<(), Status> {
     match ran {
         Ok(None) => Ok(()),
         Ok(Some(step)) => {
-            let _told = eprintln!(rt; "{step}");
+            let _reported = eprintln!(rt; "{step}");
             Err(Status::Refused)
         }
         Err(fault) => {
-            let _told = eprintln!(rt; "trade: {fault}");
+            let _reported = eprintln!(rt; "trade: {fault}");
             Err(status_of(&fault))
         }
     }

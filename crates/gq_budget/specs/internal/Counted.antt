@@ -4,7 +4,7 @@ use Rattle.gq_model.specs.machine.Program.{Statements}
 use Rattle.gq_model.specs.declared.program.Section.{Section}
 use Rattle.gq_model.specs.rules.Kinds.{Subject}
 use Rattle.gq_model.specs.rules.Budgets.{section_cost, section_requests}
-use Rattle.gq_verify.specs.Counting.{saturated}
+use Rattle.gq_verify.specs.Saturated_numbers.{saturated}
 use Rattle.gq_verify.specs.Requested.{Requested, requests_for}
 
 -- all requests of each of these sections of a leaf

@@ -6,9 +6,9 @@ use Rattle.gq_model.specs.declared.act.Act.{Act}
 use Rattle.gq_model.specs.machine.Scenario.{Scenario}
 use Rattle.gq_model.specs.texts.Turns.{turned}
 use Rattle.gq_init.specs.TurnReading.{Reading, answer}
-use Rattle.gq_world.specs.Outcomes.{IsCutShort, IsWhole}
+use Rattle.gq_world.specs.Command_outcomes.{IsCutShort, IsWhole}
 use Rattle.gq_world.specs.Whole.{Written}
-use Rattle.gq_world.specs.internal.Going.{turns_written}
+use Rattle.gq_world.specs.internal.Act_transitions.{turns_written}
 use Rattle.gq_cli.specs.Executed.{ReadsText}
 use Rattle.gq_cli.specs.declared.execute.Fault.{Fault}
 use Rattle.gq_cli.specs.declared.execute.Fault.TheVariants.{Refused, Memory, Read, Write}
@@ -21,7 +21,7 @@ ReadsTurns s old new (Err Memory) = Unit {0}
 ReadsTurns s old new (Err Read) = Unit {0}
 ReadsTurns s old new (Err Write) = Unit {0}
 
--- a text came from a reader, and what is told once the rest comes is what was told of both
+-- a text came from a reader, and what is reported once the rest comes is what was reported of both
 pub record HasCome (s : Scenario) (old new : Option (List ℕ)) (before after : Reading) : Type 0 where
   pub text : List ℕ
   pub taken : Consumes old new text

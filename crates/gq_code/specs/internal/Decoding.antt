@@ -1,6 +1,6 @@
 -- Parts of code, in the order in which they are read.
 use Rattle.std.specs.Prelude.{◌≡◌, ℕ, nat_lt, if◌then◌else◌, Bool, List, ◌++◌, Result, Ok, Err}
-use Rattle.gq_model.specs.declared.program.Place.{Place}
+use Rattle.gq_model.specs.declared.program.OperandSlot.{OperandSlot}
 use Rattle.gq_model.specs.machine.Lists.{between}
 use Rattle.gq_model.specs.declared.fault.CodeFault.{CodeFault}
 use Rattle.gq_model.specs.declared.fault.CodeFault.TheVariants.{Truncated, BadNesting, BadOperand}
@@ -17,7 +17,7 @@ abbrev pub ranged_at : ℕ → ℕ → ℕ → List ℕ → Decoded (ℕ × List
 ranged_at width low high bytes = decoded_then (number_at width BadNesting bytes) (λ p. checked (between low high p.0) BadOperand p)
 
 -- a slot, or the object where bytes are meant
-abbrev pub place_at : Bool → List ℕ → Decoded (Place × List ℕ)
+abbrev pub place_at : Bool → List ℕ → Decoded (OperandSlot × List ℕ)
 place_at object bytes = decoded_then (number_at 1 BadNesting bytes) (λ p. found (place_of object p.0) (λ s. Ok (s, p.1)))
 
 -- the bytes of a text after their number, which is in a range

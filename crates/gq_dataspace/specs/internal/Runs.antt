@@ -1,7 +1,7 @@
 -- The fields of a `FrameLists`: which frames of a list follow one another.
 use Rattle.std.specs.Prelude.{◌≡◌, ℕ, ◌+◌, ◌<◌, ◌≤◌, List, length, slice_index, get_or}
-use Rattle.gq_dataspace.specs.declared.lists.FrameLists.TheInside.{Inside}
-use Rattle.gq_dataspace.specs.internal.Lists.{Lists, list_at}
+use Rattle.gq_dataspace.specs.declared.frame_lists.FrameLists.TheInside.{Inside}
+use Rattle.gq_dataspace.specs.internal.Frame_lists.{Lists, list_at}
 
 -- the first n entries of the list r are r, r + 1, and so on, all below m
 pub record IsRun (xs : List ℕ) (r n m : ℕ) : Type 0 where

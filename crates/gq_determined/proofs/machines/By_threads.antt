@@ -3,8 +3,8 @@ use Rattle.std.proofs.Common.{◌≡◌, ◌≢◌, ◌<◌, ◌≤◌, ◌⊎�
 use Rattle.std.proofs.Common.{Option, Some, None, refl, ap, sym, ◌∙◌, subst, arith}
 use Rattle.std.proofs.lemmas.Bool.Decides.{eqb_tells}
 use Rattle.std.proofs.lemmas.List.{append_assoc, append-nil}
-use Rattle.gq_determined.specs.internal.Machines.{is_for}
-use Rattle.gq_determined.specs.internal.Machines as machine
+use Rattle.gq_determined.specs.internal.Thread_machines.{is_for}
+use Rattle.gq_determined.specs.internal.Thread_machines as machine
 
 is_for_some : (i : ℕ) (o : Option ℕ) → is_for i o ≡ true → o ≡ Some i
 is_for_some i None e = absurd cc
@@ -42,7 +42,7 @@ module _ (W : Type 0) (E : Type 0) (first : W) (step : W → ℕ → W) (who : W
     count : taken i before ≡ n
     own : who (after before) x ≡ Some i
     more : List E
-    front : shown i past ≡ shown i before ++ more
+    prefix : shown i past ≡ shown i before ++ more
     later : List ℕ
     is : past ≡ later ++ before
 
@@ -60,7 +60,7 @@ module _ (W : Type 0) (E : Type 0) (first : W) (step : W → ℕ → W) (who : W
             count = t.count;
             own = t.own;
             more = t.more ++ more;
-            front = e ∙ (ap (λ l. l ++ more) t.front ∙ append_assoc (shown i t.before) t.more more);
+            prefix = e ∙ (ap (λ l. l ++ more) t.prefix ∙ append_assoc (shown i t.before) t.more more);
             later = x ∷ t.later;
             is = ap (λ l. x ∷ l) t.is;
           }
@@ -75,7 +75,7 @@ module _ (W : Type 0) (E : Type 0) (first : W) (step : W → ℕ → W) (who : W
           count = sym t.1;
           own = is_for_some i (who (after past) x) e;
           more = shows (after past) x;
-          front = shown_own i past x e;
+          prefix = shown_own i past x e;
           later = x ∷ [];
           is = refl;
         }
@@ -209,17 +209,17 @@ module _ (W : Type 0) (E : Type 0) (first : W) (step : W → ℕ → W) (who : W
           let n = length a + length b in
           let less : (taken i a < taken i b) → ⊥ = more_steps n (agree_within n) i a b (omega arith) end in omega (arith, less)
 
-      abbrev pub Front : List E → List E → Type 0
-      Front one other = (rest : List E) × (other ≡ one ++ rest)
+      abbrev pub Prefix : List E → List E → Type 0
+      Prefix one other = (rest : List E) × (other ≡ one ++ rest)
 
-      front_less : (i : ℕ) (a b : List ℕ) → taken i a < taken i b → Front (shown i a) (shown i b)
-      front_less i a b less =
+      prefix_less : (i : ℕ) (a b : List ℕ) → taken i a < taken i b → Prefix (shown i a) (shown i b)
+      prefix_less i a b less =
           let turn = nth i (taken i a) b less in
-          (turn.more, turn.front ∙ ap (λ l. l ++ turn.more) (sym ((agree i a turn.before (sym turn.count)).1)))
+          (turn.more, turn.prefix ∙ ap (λ l. l ++ turn.more) (sym ((agree i a turn.before (sym turn.count)).1)))
 
-      -- what a thread shows in one run is a front of what it shows in the other, or the other way round
-      pub fronts : (i : ℕ) (a b : List ℕ) → Front (shown i a) (shown i b) ⊎ Front (shown i b) (shown i a)
-      fronts i a b = by (less_or (taken i a) (taken i b))
+      -- what a thread shows in one run is a prefix of what it shows in the other, or the other way round
+      pub prefixes : (i : ℕ) (a b : List ℕ) → Prefix (shown i a) (shown i b) ⊎ Prefix (shown i b) (shown i a)
+      prefixes i a b = by (less_or (taken i a) (taken i b))
         where
           less_or : (m n : ℕ) → (m < n) ⊎ ((m ≡ n) ⊎ (n < m))
           less_or zero zero = inr (inl refl)
@@ -231,7 +231,7 @@ module _ (W : Type 0) (E : Type 0) (first : W) (step : W → ℕ → W) (who : W
           ]
 
           by : (taken i a < taken i b) ⊎ ((taken i a ≡ taken i b) ⊎ (taken i b < taken i a))
-              → Front (shown i a) (shown i b) ⊎ Front (shown i b) (shown i a)
-          by (inl h) = inl (front_less i a b h)
+              → Prefix (shown i a) (shown i b) ⊎ Prefix (shown i b) (shown i a)
+          by (inl h) = inl (prefix_less i a b h)
           by (inr (inl e)) = inl ([], sym ((agree i a b e).1) ∙ sym (append-nil (shown i a)))
-          by (inr (inr h)) = inr (front_less i b a h)
+          by (inr (inr h)) = inr (prefix_less i b a h)

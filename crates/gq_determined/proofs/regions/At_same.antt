@@ -5,14 +5,14 @@ use Rattle.std.proofs.lemmas.Bool.Decides.{eqb_tells}
 use Rattle.gq_model.specs.declared.phase.Phase.{Phase}
 use Rattle.gq_model.specs.declared.phase.Phase.TheVariants.{Pending, Running, Blocked, Serving, Handling, Exited}
 use Rattle.gq_model.specs.machine.Scenario.{Component}
-use Rattle.gq_model.specs.machine.World.{Slot, Spot, In_leaf, In_session, In_object, Session, Current, Leaf, World, session_at, with_leaf, put_leaf_slot}
+use Rattle.gq_model.specs.machine.World.{Slot, SlotId, In_leaf, In_session, In_object, Session, Current, Leaf, World, session_at, with_leaf, put_leaf_slot}
 use Rattle.gq_model.specs.machine.World.{put_session_slot, put_object, with_slot}
 use Rattle.gq_model.specs.machine.Step.{is_named, released, all_released, resumed, active_again, unblocked}
-use Rattle.gq_model.proofs.Small.{none_some, some_same}
-use Rattle.gq_laws.proofs.linking.Worlds.{set_else}
+use Rattle.gq_model.proofs.Small_facts.{none_some, some_same}
+use Rattle.gq_laws.proofs.session_links.Written_world_links.{set_else}
 use Rattle.gq_laws.specs.internal.Renamed.{renamed_current, renamed_leaf}
 use Rattle.gq_determined.specs.internal.Threads.{seen, seen_by, IsAtSame}
-use Rattle.gq_determined.proofs.regions.Regions.{put_at}
+use Rattle.gq_determined.proofs.regions.Region_changes.{put_at}
 
 -- slots do not matter
 pub seen_slots : (leaf : Leaf) (slots : List Slot) → seen (record leaf { slots = slots }) ≡ seen leaf
@@ -27,7 +27,7 @@ seen_slots leaf slots = by leaf.phase
     by Exited = refl
 
 -- what a leaf is at, once something is put at a place
-pub slot_seen : (w : World) (q : Spot) (slot : Slot) (y : ℕ)
+pub slot_seen : (w : World) (q : SlotId) (slot : Slot) (y : ℕ)
     → option_map seen (slice_get (with_slot w q slot).leaves y) ≡ option_map seen (slice_get w.leaves y)
 slot_seen w (In_leaf x i) slot y = by (slice_get w.leaves x) refl
   where

@@ -6,27 +6,28 @@ use Rattle.std.proofs.lemmas.Bool.{true≢false}
 use Rattle.std.proofs.lemmas.Bool.Decides.{eqb_tells}
 use Rattle.gq_model.specs.declared.phase.Phase.TheVariants.{Blocked, Serving, Handling, Exited}
 use Rattle.gq_model.specs.declared.program.Section.{Section}
-use Rattle.gq_model.specs.machine.World.{Slot, Empty, Waiting, Link, Spot, In_leaf, In_session, In_object, Session, Request, Current, Leaf, World}
+use Rattle.gq_model.specs.machine.World.{Slot, Empty, Waiting, Link, SlotId, In_leaf, In_session, In_object, Session, Request, Current, Leaf, World}
 use Rattle.gq_model.specs.machine.World.{session_at, leaf_slot, session_slot, session_object, with_session, with_slot}
 use Rattle.gq_model.specs.machine.Doing.{Doing, standing}
 use Rattle.gq_model.specs.machine.Step.{is_to, kept_before, oldest, serving, resumed, active_again, unblocked, exited, exit_of}
-use Rattle.gq_model.proofs.Small.{none_some, some_same, equal_self}
-use Rattle.gq_laws.specs.Links.{outline, outline_in, stance, stance_in, one_if, at_current, links, Stands, Belongs}
-use Rattle.gq_laws.proofs.linking.Quiet.{stood}
-use Rattle.gq_laws.proofs.linking.Events.{same_phase}
-use Rattle.gq_laws.proofs.linking.Worlds.{set_else, slot_stances}
-use Rattle.gq_laws.proofs.turning.Outcomes.{closed}
-use Rattle.gq_laws.proofs.Stepping.{outlined}
-use Rattle.gq_laws.specs.internal.Renamed.{renamed_slot, renamed_spot, renamed_leaf, renamed_session, renamed_request}
+use Rattle.gq_model.proofs.Small_facts.{none_some, some_same, equal_self}
+use Rattle.gq_laws.specs.Session_links.{outline, outline_in, stance, stance_in, one_if, at_current, links, Stands, Belongs}
+use Rattle.gq_laws.proofs.session_links.Link_free_statements.{stood}
+use Rattle.gq_laws.proofs.session_links.Asked_request_changes.{same_phase}
+use Rattle.gq_laws.proofs.session_links.Written_world_links.{set_else, slot_stances}
+use Rattle.gq_laws.proofs.step_shapes.Step_end_worlds.{closed}
+use Rattle.gq_laws.proofs.Outside_step_untouched.{outlined}
+use Rattle.gq_laws.specs.internal.Renamed.{renamed_slot, renamed_slot_id, renamed_leaf, renamed_session, renamed_request}
 use Rattle.gq_determined.specs.internal.Threads.{is_active, among, slots_of, seen, IsAtSame}
-use Rattle.gq_determined.proofs.passing.Kept_by_steps.{Aside, other_leaf, other_doing}
-use Rattle.gq_determined.proofs.passing.Kept_around.{IsTaken, AreTaken, Match, IsKeptAround}
-use Rattle.gq_determined.proofs.regions.Regions.{region_leaf, region_released, region_session, region_requests, region_there}
+use Rattle.gq_determined.proofs.passing_threads.Kept_by_steps.{Aside, other_leaf, other_doing}
+use Rattle.gq_determined.proofs.passing_threads.Kept_around.{IsTaken, AreTaken, Match, IsKeptAround}
+use Rattle.gq_determined.proofs.regions.Region_changes.{region_leaf, region_released, region_session, region_requests, region_there}
 use Rattle.gq_determined.proofs.regions.At_same.{at_leaf, at_going, at_seen, released_seen}
-use Rattle.gq_determined.proofs.regions.Elsewhere.{current_of, empty_waits, else_leaf, else_released, else_session, else_requests}
-use Rattle.gq_determined.proofs.regions.Related.{IsBelow, Ours, Region, Mine, IsRelated, IsRelatedWithin, IsBefore, InRegion, puts, puts_leaf, slot_stays}
-use Rattle.gq_determined.proofs.regions.Related.{seen_other, both_none}
-use Rattle.gq_determined.proofs.regions.Related.{kept}
+use Rattle.gq_determined.proofs.regions.Outside_region_kept.{current_of, empty_waits, else_leaf, else_released, else_session, else_requests}
+use Rattle.gq_determined.proofs.regions.Related_step_worlds.{IsBelow, Ours, Region, Mine, IsRelated, IsRelatedWithin, IsBefore, InRegion, puts, puts_leaf}
+use Rattle.gq_determined.proofs.regions.Related_step_worlds.{slot_stays}
+use Rattle.gq_determined.proofs.regions.Related_step_worlds.{seen_other, both_none}
+use Rattle.gq_determined.proofs.regions.Related_step_worlds.{kept}
 
 -- REQUESTS THAT ARE LEFT
 
@@ -183,12 +184,12 @@ module _ (f : ℕ → ℕ) (aside : Aside) (d : Doing) (v : World) (i : ℕ) (ow
     client_else : s.client ≢ d.x
     client_else same = h.active (same_phase (sym stands_now ∙ (ap (links d.world).stances (sym same) ∙ client_waits.1)))
 
-    -- its spot is of the thread's region
-    spot_region : (w : World) → ((k : ℕ) (t : Session) → session_at d.world k ≡ Some t → (u : Session) × (session_at w k ≡ Some u))
-        → InRegion f aside d v i own root other c h w s.spot
-    spot_region w stay = by s.spot (h.below g.session s there) (h.linked.belongs g.session (outline s) outlined_there)
+    -- its slot is of the thread's region
+    slot_id_region : (w : World) → ((k : ℕ) (t : Session) → session_at d.world k ≡ Some t → (u : Session) × (session_at w k ≡ Some u))
+        → InRegion f aside d v i own root other c h w s.slot_id
+    slot_id_region w stay = by s.slot_id (h.below g.session s there) (h.linked.belongs g.session (outline s) outlined_there)
       where
-        by : (q : Spot) → IsBelow own root g.session q → Belongs (links d.world) q s.client → InRegion f aside d v i own root other c h w q
+        by : (q : SlotId) → IsBelow own root g.session q → Belongs (links d.world) q s.client → InRegion f aside d v i own root other c h w q
         by (In_leaf y a) below b = (sym below ∙ h.current g at, ap c b ∙ h.client g s at there)
         by (In_session j a) below b =
             let t = outlined (session_at d.world j) b.0 b.1 in (sym below ∙ h.current g at, stay j t.0 t.1)
@@ -209,16 +210,16 @@ module _ (f : ℕ → ℕ) (aside : Aside) (d : Doing) (v : World) (i : ℕ) (ow
 
     module _ (slot : Slot) (none : (k : ℕ) → slot ≡ Waiting k → ⊥) where
       abbrev put : World
-      put = with_slot served s.spot slot
+      put = with_slot served s.slot_id slot
 
       abbrev put_v : World
-      put_v = with_slot served_v (renamed_spot f s.spot) (renamed_slot f slot)
+      put_v = with_slot served_v (renamed_slot_id f s.slot_id) (renamed_slot f slot)
 
       put_related : R put put_v
-      put_related = puts f aside d v i own root other c h served served_v s.spot slot (spot_region served (λ k t e. (t, e))) (inl none) served_related
+      put_related = puts f aside d v i own root other c h served served_v s.slot_id slot (slot_id_region served (λ k t e. (t, e))) (inl none) served_related
 
       put_stance : stance_in (slice_get put.leaves s.client) ≡ Some (stance Blocked client_waits.0)
-      put_stance = slot_stances served s.spot slot s.client
+      put_stance = slot_stances served s.slot_id slot s.client
           ∙ (ap stance_in (set_else d.world.leaves d.x s.client (serving d.leaf) client_else) ∙ client_waits.1)
 
       pub woken : (w z : World) → w.leaves ≡ put.leaves → R w z → (go : List ℕ → List ℕ) → R (unblocked w s.client go) (unblocked z s.client go)
@@ -226,8 +227,8 @@ module _ (f : ℕ → ℕ) (aside : Aside) (d : Doing) (v : World) (i : ℕ) (ow
           let l = stance_there (slice_get w.leaves s.client) client_waits.0 (ap (λ leaves. stance_in (slice_get leaves s.client)) same ∙ put_stance) in
           wakes w z s.client go l.0 l.1 l.2 (h.client g s at there) k
 
-    answers : (go : List ℕ → List ℕ) → R (unblocked (with_slot served s.spot (Link g.session)) s.client go)
-        (unblocked (with_slot served_v (renamed_spot f s.spot) (Link (f g.session))) s.client go)
+    answers : (go : List ℕ → List ℕ) → R (unblocked (with_slot served s.slot_id (Link g.session)) s.client go)
+        (unblocked (with_slot served_v (renamed_slot_id f s.slot_id) (Link (f g.session))) s.client go)
     answers go = woken (Link g.session) link_waits _ _ refl (put_related (Link g.session) link_waits) go
       where
         link_waits : (k : ℕ) → Link g.session ≡ Waiting k → ⊥
@@ -238,7 +239,7 @@ module _ (f : ℕ → ℕ) (aside : Aside) (d : Doing) (v : World) (i : ℕ) (ow
         let w = put Empty never in
         let z = put_v Empty never in
         let k = put_related Empty never in
-        let t = slot_stays served s.spot Empty g.session s there in
+        let t = slot_stays served s.slot_id Empty g.session s there in
         let m = region_there f own root other i w z g.session t.0 (h.current g at) t.1 (k.regions i (inl refl)) in
         woken Empty never (record w { sessions = slice_set w.sessions g.session None }) (record z { sessions = slice_set z.sessions (f g.session) None })
         refl (record {
@@ -248,7 +249,7 @@ module _ (f : ℕ → ℕ) (aside : Aside) (d : Doing) (v : World) (i : ℕ) (ow
             ours = h.current g at;
             was = t.0;
             there = t.1;
-            spot = λ u e. absurd (none_some e);
+            slot_id = λ u e. absurd (none_some e);
             server = λ u e. absurd (none_some e);
             slots = λ u e. absurd (none_some e);
             object = λ u e. absurd (none_some e);
@@ -263,7 +264,7 @@ module _ (f : ℕ → ℕ) (aside : Aside) (d : Doing) (v : World) (i : ℕ) (ow
   abbrev M : ℕ → Type 0
   M = Mine f aside d v i own root other c
 
-  abbrev O : Spot → Type 0
+  abbrev O : SlotId → Type 0
   O = Ours f aside d v i own root other c
 
   abbrev K : World → World → Type 0
@@ -297,7 +298,7 @@ module _ (f : ℕ → ℕ) (aside : Aside) (d : Doing) (v : World) (i : ℕ) (ow
           ours = o.ours;
           was = t.session;
           there = t.there;
-          spot = λ u e. ap (λ (s : Session). s.spot) (sym (some_same e)) ∙ taken.spot;
+          slot_id = λ u e. ap (λ (s : Session). s.slot_id) (sym (some_same e)) ∙ taken.slot_id;
           server = λ u e. ap (λ (s : Session). s.server) (sym (some_same e)) ∙ taken.server;
           slots = λ u e b j at. inl (ap (λ o. session_slot o b) t.there
               ∙ (ap (λ l. slice_get l b) (sym taken.slots ∙ ap (λ (s : Session). s.slots) (some_same e)) ∙ at));

@@ -5,18 +5,19 @@ use Rattle.std.proofs.lemmas.Bool.Decides.{eqb_tells}
 use Rattle.gq_model.specs.declared.phase.Phase.{Phase}
 use Rattle.gq_model.specs.declared.phase.Phase.TheVariants.{Pending, Running, Blocked, Serving, Handling, Exited}
 use Rattle.gq_model.specs.machine.Scenario.{System}
-use Rattle.gq_model.specs.machine.World.{Slot, Empty, Bytes, Pool, Link, Waiting, Spot, In_leaf, In_session, In_object, Session, Request, Current, Leaf, World}
+use Rattle.gq_model.specs.machine.World.{Slot, Empty, Bytes, Pool, Link, Waiting, SlotId, In_leaf, In_session, In_object, Session, Request, Current, Leaf}
+use Rattle.gq_model.specs.machine.World.{World}
 use Rattle.gq_model.specs.machine.World.{session_at, slot_at, leaf_slot, session_slot, session_object}
 use Rattle.gq_laws.specs.Shapes.{Each}
-use Rattle.gq_laws.specs.Links.{Naming, Leads, Waits, named, naming, naming_in, outline, outline_in, Belongs, IsAsked, links}
-use Rattle.gq_laws.proofs.Stepping.{outlined}
-use Rattle.gq_laws.specs.internal.Renamed.{renamed_slot, renamed_spot, renamed_current, renamed_leaf, renamed_session, renamed_request}
+use Rattle.gq_laws.specs.Session_links.{Naming, Leads, Waits, named, naming, naming_in, outline, outline_in, Belongs, IsAsked, links}
+use Rattle.gq_laws.proofs.Outside_step_untouched.{outlined}
+use Rattle.gq_laws.specs.internal.Renamed.{renamed_slot, renamed_slot_id, renamed_current, renamed_leaf, renamed_session, renamed_request}
 use Rattle.gq_determined.specs.internal.Threads.{Tracked, within, among, slots_of, seen, seen_by, IsAtSame, IsSameRegion}
-use Rattle.gq_determined.proofs.regions.Regions.{within_there}
-use Rattle.gq_determined.proofs.standing.Orderly.{root_at, IsTracked}
+use Rattle.gq_determined.proofs.regions.Region_changes.{within_there}
+use Rattle.gq_determined.proofs.thread_positions.Single_thread_position.{root_at, IsTracked}
 
 -- the root of what a slot names is that of the slot
-abbrev pub rooted : Tracked → Spot → ℕ
+abbrev pub rooted : Tracked → SlotId → ℕ
 rooted g q = root_at g.own g.root q
 
 module _ (system : System) (g : Tracked) (t : IsTracked system g) where
@@ -24,12 +25,12 @@ module _ (system : System) (g : Tracked) (t : IsTracked system g) where
   w = g.world
 
   -- a session that a slot names is there, and below the slot's root
-  pub named_there : (q : Spot) (n : Naming) → naming_in (slot_at w q) ≡ Some n → (s : Session) × (session_at w (named n) ≡ Some s)
+  pub named_there : (q : SlotId) (n : Naming) → naming_in (slot_at w q) ≡ Some n → (s : Session) × (session_at w (named n) ≡ Some s)
       × (g.root (named n) ≡ rooted g q)
   named_there q n e =
       let m = t.linked.named q n e in
       let s = outlined (session_at w (named n)) m.0 m.1 in
-      (s.0, s.1, subst (λ q. g.root (named n) ≡ rooted g q) (ap (λ (s : Session). s.spot) s.2 ∙ m.2) (t.below (named n) s.0 s.1))
+      (s.0, s.1, subst (λ q. g.root (named n) ≡ rooted g q) (ap (λ (s : Session). s.slot_id) s.2 ∙ m.2) (t.below (named n) s.0 s.1))
 
   module _ (f new : ℕ → ℕ) (y : ℕ) (agree : (k : ℕ) (s : Session) → session_at w k ≡ Some s → g.root k ≡ y → new k ≡ f k) where
     slot_name : (slot : Slot) → ((n : Naming) → naming slot ≡ Some n → new (named n) ≡ f (named n)) → renamed_slot new slot ≡ renamed_slot f slot
@@ -44,26 +45,26 @@ module _ (system : System) (g : Tracked) (t : IsTracked system g) where
     slot_names [] same = refl
     slot_names (slot ∷ slots) same = λ e. slot_name slot (same zero) e ∷ slot_names slots (λ a. same (suc a)) e
 
-    at_spot : (q : Spot) → rooted g q ≡ y → (n : Naming) → naming_in (slot_at w q) ≡ Some n → new (named n) ≡ f (named n)
-    at_spot q is n e = let m = named_there q n e in agree (named n) m.0 m.1 (m.2 ∙ is)
+    at_slot_id : (q : SlotId) → rooted g q ≡ y → (n : Naming) → naming_in (slot_at w q) ≡ Some n → new (named n) ≡ f (named n)
+    at_slot_id q is n e = let m = named_there q n e in agree (named n) m.0 m.1 (m.2 ∙ is)
 
     session_name : (k : ℕ) (s : Session) → session_at w k ≡ Some s → g.root k ≡ y → renamed_session new s ≡ renamed_session f s
-    session_name k s there is = λ e. record s { spot = spot e; object = object e; slots = slots e }
+    session_name k s there is = λ e. record s { slot_id = slot_id e; object = object e; slots = slots e }
       where
-        by : (q : Spot) → g.root k ≡ rooted g q → Belongs (links w) q s.client → renamed_spot new q ≡ renamed_spot f q
+        by : (q : SlotId) → g.root k ≡ rooted g q → Belongs (links w) q s.client → renamed_slot_id new q ≡ renamed_slot_id f q
         by (In_leaf z a) below b = refl
         by (In_session j a) below b =
             let t = outlined (session_at w j) b.0 b.1 in ap (λ n. In_session n a) (agree j t.0 t.1 (sym below ∙ is))
         by (In_object j) below b = absurd b
 
-        spot : renamed_spot new s.spot ≡ renamed_spot f s.spot
-        spot = by s.spot (t.below k s there) (t.linked.belongs k (outline s) (ap outline_in there))
+        slot_id : renamed_slot_id new s.slot_id ≡ renamed_slot_id f s.slot_id
+        slot_id = by s.slot_id (t.below k s there) (t.linked.belongs k (outline s) (ap outline_in there))
 
         object : renamed_slot new s.object ≡ renamed_slot f s.object
-        object = slot_name s.object (λ n e. at_spot (In_object k) is n (ap (λ o. naming_in (session_object o)) there ∙ e))
+        object = slot_name s.object (λ n e. at_slot_id (In_object k) is n (ap (λ o. naming_in (session_object o)) there ∙ e))
 
         slots : map (renamed_slot new) s.slots ≡ map (renamed_slot f) s.slots
-        slots = slot_names s.slots (λ a n e. at_spot (In_session k a) is n (ap (λ o. naming_in (session_slot o a)) there ∙ e))
+        slots = slot_names s.slots (λ a n e. at_slot_id (In_session k a) is n (ap (λ o. naming_in (session_slot o a)) there ∙ e))
 
     request_names : (rs : List Request) → Each (IsAsked (links w)) rs
         → map (renamed_request new) (among g.root y rs) ≡ map (renamed_request f) (among g.root y rs)
@@ -104,7 +105,7 @@ module _ (system : System) (g : Tracked) (t : IsTracked system g) where
             → option_map (λ l. map (renamed_slot f) (slots_of l)) o ≡ option_map (λ l. map (renamed_slot new) (slots_of l)) o
         leaf z is None e = refl
         leaf z is (Some l) e =
-            ap Some (sym (slot_names l.slots (λ a n there. at_spot (In_leaf z a) is n (ap (λ o. naming_in (leaf_slot o a)) e ∙ there))))
+            ap Some (sym (slot_names l.slots (λ a n there. at_slot_id (In_leaf z a) is n (ap (λ o. naming_in (leaf_slot o a)) e ∙ there))))
 
   -- WHAT A LEAF IS AT
 

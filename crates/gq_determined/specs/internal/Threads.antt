@@ -15,7 +15,7 @@ use Rattle.gq_model.specs.machine.Requests.{free_place}
 use Rattle.gq_model.specs.machine.Step.{oldest, next}
 use Rattle.gq_laws.specs.internal.Renamed.{renamed_slot, renamed_leaf, renamed_request, Correspond}
 use Rattle.gq_races.specs.Races.{opens_first, opens_later, is_shared}
-use Rattle.gq_determined.specs.internal.Machines.{after, shown}
+use Rattle.gq_determined.specs.internal.Thread_machines.{after, shown}
 use Rattle.gq_determined.specs.internal.Unset.{each_turn, turns_alone}
 
 -- LEAVES THAT ARE NOT SHARED
@@ -71,7 +71,7 @@ anew f k a j = if j == k then a else f j
 
 -- what leaves showed, after a leaf showed more
 abbrev pub more_of : (ℕ → List Event) → ℕ → Bool → Event → ℕ → List Event
-more_of wrote x told event y = if y == x && told then wrote y ++ event ∷ [] else wrote y
+more_of wrote x reported event y = if y == x && reported then wrote y ++ event ∷ [] else wrote y
 
 -- after a step for a thread; if it opens a session, that has the first free number
 abbrev pub stepped_to : Tracked → ℕ → ℕ → Stepped → Tracked
@@ -219,8 +219,8 @@ SameAtEnds system =
     → IsAlike i (tracked_after system turns) (tracked_after system others) × (shown_by system i turns ≡ shown_by system i others)
 
 -- what it shows in one run is a prefix of what it shows in the other, or the other way round
-abbrev pub SameFronts : System → Type 0
-SameFronts system =
+abbrev pub SamePrefixes : System → Type 0
+SamePrefixes system =
     (i : ℕ) (turns others : List ℕ) → ((rest : List (ℕ × Event)) × (shown_by system i others ≡ shown_by system i turns ++ rest))
     ⊎ ((rest : List (ℕ × Event)) × (shown_by system i turns ≡ shown_by system i others ++ rest))
 
@@ -229,7 +229,7 @@ abbrev pub turned : List ℕ → List ℕ → List ℕ
 turned [] past = past
 turned (x ∷ turns) past = turned turns (x ∷ past)
 
--- the last turn first, of turns that are told as leaves and numbers of turns
+-- the last turn first, of turns that are reported as leaves and numbers of turns
 abbrev pub past_of : List (ℕ × ℕ) → List ℕ
 past_of turns = turned (each_turn turns) []
 

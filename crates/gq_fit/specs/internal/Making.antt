@@ -1,13 +1,13 @@
 -- What faults say of a text, and of what was made of it.
 use Rattle.std.specs.Prelude.{◌≡◌, ◌≢◌, ℕ, List, [], Result, Ok}
 use Rattle.gq_model.specs.machine.Scenario.{Scenario}
-use Rattle.gq_load.specs.Faults.{Refuses}
+use Rattle.gq_load.specs.Load_faults.{Refuses}
 use Rattle.gq_load.specs.Load.{Fault, loaded}
-use Rattle.gq_load.specs.declared.fault.LoadError.TheVariants as error
+use Rattle.gq_load.specs.declared.load_fault.LoadError.TheVariants as error
 use Rattle.gq_sizes.specs.Gives.{GivesLeast}
 use Rattle.gq_sizes.specs.Least.{sized}
-use Rattle.gq_fit.specs.declared.fault.FitFault.{FitFault}
-use Rattle.gq_fit.specs.declared.fault.FitFault.TheVariants as faults
+use Rattle.gq_fit.specs.declared.fit_fault.FitFault.{FitFault}
+use Rattle.gq_fit.specs.declared.fit_fault.FitFault.TheVariants as faults
 
 -- a text is refused with this fault
 abbrev pub IsRefusedBy : FitFault → Result Scenario Fault → Type 0

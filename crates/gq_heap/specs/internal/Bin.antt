@@ -3,7 +3,7 @@ use Rattle.std.specs.Prelude.{◌≡◌, ℕ, ◌+◌, ◌*◌, ◌/◌, ◌%◌
 use Rattle.gq_tariff.specs.Prices.{up}
 use Rattle.gq_store.specs.Store.{Store, Writes, Grows, Leaves, plus_caps}
 use Rattle.gq_heap.specs.declared.bin.Bin.{Bin}
-use Rattle.gq_heap.specs.Counts.{times}
+use Rattle.gq_heap.specs.List_occurrences.{times}
 use Rattle.gq_heap.specs.Bins.{bin_price, next_peak}
 use Rattle.gq_heap.specs.internal.Chain.{Adds, place_byte, link, Places, IsChain, descending}
 

@@ -1,7 +1,7 @@
 -- Places of one class: how the free ones are chained in the store, and which chunks they lie in.
 use Rattle.std.specs.Prelude.{◌≡◌, ℕ, zero, suc, ◌+◌, ◌*◌, ◌/◌, ◌%◌, ◌<◌, ◌≤◌, List, [], ◌∷◌, length}
 use Rattle.gq_store.specs.Store.{Store, word}
-use Rattle.gq_heap.specs.Counts.{times}
+use Rattle.gq_heap.specs.List_occurrences.{times}
 
 -- a chunk has p places of z bytes
 pub record IsSize (z p : ℕ) : Type 0 where

@@ -1,4 +1,4 @@
--- What stands at the front of a text of turns.
+-- What stands at the start of a text of turns.
 use Rattle.std.specs.Prelude.{◌≡◌, ℕ, ◌+◌, ◌==◌, List, [], ◌∷◌, ◌++◌, length, slice_index, ◌<◌, Option, Some, Result, Ok, false, true}
 use Rattle.gq_model.specs.texts.Letters.{is_digit, is_name, lines, pieces}
 use Rattle.gq_model.specs.machine.Lists.{all_of}
@@ -7,7 +7,7 @@ use Rattle.gq_model.specs.declared.act.Act.{Act}
 use Rattle.gq_model.specs.machine.Scenario.{Scenario, Component}
 use Rattle.gq_model.specs.declared.fault.TurnFault.{TurnFault}
 use Rattle.gq_model.specs.texts.Turns.{says_nothing, turn_count}
-use Rattle.gq_scenario.specs.Lines.{lines_left}
+use Rattle.gq_scenario.specs.Text_pieces.{lines_left}
 use Rattle.gq_init.specs.TurnLines.{given_in, line_turn}
 
 -- four bytes of the text

@@ -4,17 +4,17 @@ use Rattle.gq_model.specs.machine.Scenario.{Scenario, Component, components}
 use Rattle.gq_model.specs.machine.World.{first_phase}
 use Rattle.gq_bytecode.specs.Programs.{IsCodeOfProgram}
 use Rattle.gq_contents.specs.declared.content.Content.TheVariants.{Empty}
-use Rattle.gq_trade.specs.declared.node.Node.{Node}
-use Rattle.gq_trade.specs.Plans.{IsFirst}
+use Rattle.gq_trade.specs.declared.trade_node.NodeState.{NodeState}
+use Rattle.gq_trade.specs.Trades_plan.{IsFirst}
 use Rattle.gq_slots.specs.Slots.{AreNew, Slots}
-use Rattle.gq_prepared.specs.Nodes.{caps_of}
-use Rattle.gq_prepared.specs.Plans.{IsPlanOf}
+use Rattle.gq_prepared.specs.Account_nodes.{caps_of}
+use Rattle.gq_prepared.specs.Scenario_plan.{IsPlanOf}
 use Rattle.gq_leaf.specs.Coded.{Coded, first_state}
 use Rattle.gq_machine.specs.Machines.{Machine}
-use Rattle.gq_machine.specs.Worlds.{world_of}
+use Rattle.gq_machine.specs.Machine_world.{world_of}
 use Rattle.gq_machine.specs.declared.machine.Machine.TheInside.{Inside}
-use Rattle.gq_machine.specs.declared.state.Prepared.{Prepared}
-use Rattle.gq_machine.specs.internal.Holds.{IsPrepared, room}
+use Rattle.gq_machine.specs.declared.machine_state.Prepared.{Prepared}
+use Rattle.gq_machine.specs.internal.Machine_invariant.{IsPrepared, room}
 
 abbrev pub machine_seen : Inside → Machine
 machine_seen m = record { scenario = m.fixed.table; world = world_of m.fixed.table m.state.leaves.items m.state.slots }
@@ -38,7 +38,7 @@ pub record ArePrepared (s : Scenario) (n : ℕ) (ls : List Coded) (ps : List Pre
 -- the empty slots of all leaves, over accounts that are made from the scenario's plan
 pub record AreFirstSlots (s : Scenario) (t : Slots) : Type 0 where
   pub parents : List ℕ
-  pub nodes : List Node
+  pub nodes : List NodeState
   pub leaves : List ℕ
   pub objects : List ℕ
   pub plan : IsPlanOf s parents nodes leaves objects

@@ -100,8 +100,8 @@ abbrev pub entry : List ℕ → ℕ → List ℕ
 entry word n = codes " " ++ word ++ codes " " ++ decimal n
 
 -- capabilities are printed where they are counted
-abbrev pub told : ℕ → List ℕ → List ℕ
-told version text = if counts_caps version then text else []
+abbrev pub reported : ℕ → List ℕ → List ℕ
+reported version text = if counts_caps version then text else []
 
 abbrev pub leaf_entries : Option LeafAccount → List ℕ
 leaf_entries None = []
@@ -116,7 +116,7 @@ used_entry word f (Some a) = entry word (f a.used)
 abbrev pub account_line : ℕ → Account → List ℕ
 account_line version a =
     codes "account " ++ a.label ++ entry (codes "quota") a.quota.ram ++ used_entry (codes "used") (λ u. u.ram) a.leaf
-    ++ told version (entry (codes "caps") a.quota.caps ++ used_entry (codes "taken") (λ u. u.caps) a.leaf)
+    ++ reported version (entry (codes "caps") a.quota.caps ++ used_entry (codes "taken") (λ u. u.caps) a.leaf)
     ++ leaf_entries a.leaf ++ 10 ∷ []
 
 abbrev pub account_lines : ℕ → List Account → List ℕ

@@ -1,6 +1,6 @@
 -- Tests and searches over lists.
 use Rattle.std.specs.Prelude.{ℕ, max, Bool, true, false, ◌&&◌, ◌||◌, List, [], ◌∷◌, Option, Some, None}
-pub use Rattle.gq_tariff.specs.Tests.{between}
+pub use Rattle.gq_tariff.specs.Byte_tests.{between}
 
 abbrev pub any_of : {A : Type 0} → (A → Bool) → List A → Bool
 any_of test [] = false

@@ -4,7 +4,7 @@ use Rattle.std.specs.Prelude.{is_some}
 use Rattle.gq_model.specs.machine.Amounts.{Resource, part}
 use Rattle.gq_model.specs.machine.Program.{Block}
 use Rattle.gq_tariff.specs.Prices.{classes, size_for}
-use Rattle.gq_model.specs.machine.Prices.{price_memory, price_pool, heap}
+use Rattle.gq_model.specs.machine.Resource_prices.{price_memory, price_pool, heap}
 use Rattle.gq_model.specs.machine.Scenario.{System, Component}
 use Rattle.gq_model.specs.machine.World.{Slot, Empty, Waiting, Bytes, Pool, Link, Session, Phase, Pending, Running, Blocked, Serving, Handling, Exited, Leaf}
 use Rattle.gq_model.specs.machine.World.{World}

@@ -1,7 +1,7 @@
 -- What stands between two steps.
 use Rattle.std.specs.Prelude.{ℕ, Bool, List, [], ◌∷◌, Option, Some, None, replicate, slice_get, slice_set}
 use Rattle.gq_model.specs.machine.Amounts.{Amount}
-use Rattle.gq_model.specs.machine.Program.{Form, Place, Own, Shared, Object, Statements, Section, Main, section_in, body_of}
+use Rattle.gq_model.specs.machine.Program.{Form, OperandSlot, Own, Shared, Object, Statements, Section, Main, section_in, body_of}
 use Rattle.gq_model.specs.machine.Scenario.{System, Component}
 pub use Rattle.gq_model.specs.declared.phase.Phase.{Phase}
 pub use Rattle.gq_model.specs.declared.phase.Phase.TheVariants.{Pending, Running, Blocked, Serving, Handling, Exited}
@@ -14,15 +14,15 @@ pub data Slot : Type 0 where
   Link Waiting : (session : ℕ) → Slot
 
 -- where a slot stands: a leaf's own, a session's, or a session's object
-pub data Spot : Type 0 where
-  In_leaf : (leaf i : ℕ) → Spot
-  In_session : (session i : ℕ) → Spot
-  In_object : (session : ℕ) → Spot
+pub data SlotId : Type 0 where
+  In_leaf : (leaf i : ℕ) → SlotId
+  In_session : (session i : ℕ) → SlotId
+  In_object : (session : ℕ) → SlotId
 
 -- a client's slot, its server and what was given; the bank and the object are there once it is accepted
 pub record Session : Type 0 where
   pub client : ℕ
-  pub spot : Spot
+  pub slot_id : SlotId
   pub server : ℕ
   pub service : List ℕ
   pub level : ℕ
@@ -124,7 +124,7 @@ abbrev pub session_object : Option Session → Option Slot
 session_object None = None
 session_object (Some session) = Some session.object
 
-abbrev pub slot_at : World → Spot → Option Slot
+abbrev pub slot_at : World → SlotId → Option Slot
 slot_at w (In_leaf x i) = leaf_slot (slice_get w.leaves x) i
 slot_at w (In_session k i) = session_slot (session_at w k) i
 slot_at w (In_object k) = session_object (session_at w k)
@@ -141,15 +141,15 @@ abbrev pub put_object : World → Option Session → ℕ → Slot → World
 put_object w None k slot = w
 put_object w (Some session) k slot = with_session w k (record session { object = slot })
 
-abbrev pub with_slot : World → Spot → Slot → World
+abbrev pub with_slot : World → SlotId → Slot → World
 with_slot w (In_leaf x i) slot = put_leaf_slot w (slice_get w.leaves x) x i slot
 with_slot w (In_session k i) slot = put_session_slot w (session_at w k) k i slot
 with_slot w (In_object k) slot = put_object w (session_at w k) k slot
 
 -- where an operand's slot stands, if it is there: a session's only outside `main`
-abbrev pub spot_of : ℕ → Option Current → Place → Option Spot
-spot_of x current (Own i) = Some (In_leaf x i)
-spot_of x None (Shared i) = None
-spot_of x None Object = None
-spot_of x (Some current) (Shared i) = Some (In_session current.session i)
-spot_of x (Some current) Object = Some (In_object current.session)
+abbrev pub slot_id_of : ℕ → Option Current → OperandSlot → Option SlotId
+slot_id_of x current (Own i) = Some (In_leaf x i)
+slot_id_of x None (Shared i) = None
+slot_id_of x None Object = None
+slot_id_of x (Some current) (Shared i) = Some (In_session current.session i)
+slot_id_of x (Some current) Object = Some (In_object current.session)

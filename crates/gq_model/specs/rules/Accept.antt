@@ -2,7 +2,7 @@
 use Rattle.std.specs.Prelude.{◌≡◌, ℕ, suc, nat_le, ◌==◌, if◌then◌else◌, List, [], ◌∷◌, ◌++◌, Option, Some, None, codes}
 use Rattle.gq_model.specs.machine.Amounts.{Resource, Ram, Caps, Amount, amount, part, counts_caps}
 use Rattle.gq_model.specs.machine.Scenario.{Scenario, System, Component, system}
-use Rattle.gq_model.specs.machine.Accounts.{entry, told}
+use Rattle.gq_model.specs.machine.Accounts.{entry, reported}
 use Rattle.gq_model.specs.machine.Lists.{or_first}
 use Rattle.gq_model.specs.rules.Budgets.{own}
 use Rattle.gq_model.specs.rules.Verdict.{Fault, program_fault, greatest_cost}
@@ -85,7 +85,8 @@ IsAccepted s = refusal s ≡ None
 
 abbrev pub budget_line : ℕ → Component → Budget → List ℕ
 budget_line version c b =
-    codes "budget " ++ c.label ++ entry (codes "own") b.own.ram ++ told version (entry (codes "caps") b.own.caps) ++ entry (codes "steps") b.steps ++ 10 ∷ []
+    codes "budget " ++ c.label ++ entry (codes "own") b.own.ram ++ reported version (entry (codes "caps") b.own.caps) ++ entry (codes "steps") b.steps ++ 10
+    ∷ []
 
 abbrev pub budget_lines_of : ℕ → List Component → List Budget → List ℕ
 budget_lines_of version (c ∷ rest) (b ∷ budgets) = budget_line version c b ++ budget_lines_of version rest budgets

@@ -4,9 +4,9 @@ use Rattle.gq_model.specs.machine.Amounts.{Resource, Amount}
 use Rattle.gq_model.specs.machine.Program.{Instruction, Open, Upgrade, Call, Close, Statements, Done, Do, If, Loop, Section, Main, Opening, Upgrading, Calling}
 use Rattle.gq_model.specs.machine.Program.{Closing, same_section, text_eq}
 use Rattle.gq_tariff.specs.Prices.{classes}
-use Rattle.gq_model.specs.machine.Prices.{chunks}
+use Rattle.gq_model.specs.machine.Resource_prices.{chunks}
 use Rattle.gq_model.specs.machine.Lists.{greatest}
-use Rattle.gq_model.specs.rules.Kinds.{State, Subject, Context, inside, kind_at, kinds_cost, kind_places}
+use Rattle.gq_model.specs.rules.Kinds.{AbstractState, Subject, Context, inside, kind_at, kinds_cost, kind_places}
 use Rattle.gq_model.specs.rules.Rules.{link_kind, judged}
 use Rattle.gq_model.specs.rules.Flow.{at, flow, state_or, points, context, body, start_of}
 
@@ -36,7 +36,7 @@ by_link service section None of = 0
 by_link service section (Some l) of = is_one service section l.0 (of l.1)
 
 -- requests of an instruction for a section of a service
-abbrev pub asks : List ℕ → Section → Context → State → Instruction → ℕ
+abbrev pub asks : List ℕ → Section → Context → AbstractState → Instruction → ℕ
 asks service section c s (Open place v n) = is_one service section v Opening
 asks service section c s (Upgrade place n) = by_link service section (link_kind (kind_at c s place)) (λ l. Upgrading (suc l))
 asks service section c s (Call place) = by_link service section (link_kind (kind_at c s place)) (λ l. Calling l)
@@ -44,7 +44,7 @@ asks service section c s (Close place) = by_link service section (link_kind (kin
 asks service section c s _ = 0
 
 -- the greatest number of requests of a list
-abbrev pub requests : List ℕ → Section → Context → State → Statements → ℕ
+abbrev pub requests : List ℕ → Section → Context → AbstractState → Statements → ℕ
 requests v r c s Done = 0
 requests v r c s (Do i rest) = asks v r c s i + requests v r c (state_or s (at 1 (judged c s i))) rest
 requests v r c s (If arm other rest) =
@@ -58,7 +58,7 @@ section_requests v from service section = requests service section (context v fr
 -- BYTES AND CAPABILITIES
 
 -- what the heap costs by the greatest number of places of each class
-abbrev pub heap_cost : Resource → List State → List ℕ → ℕ
+abbrev pub heap_cost : Resource → List AbstractState → List ℕ → ℕ
 heap_cost r states [] = 0
 heap_cost r states (c ∷ cs) = chunks r (c * greatest (λ s. sum_by (kind_places c) s.own) states) + heap_cost r states cs
 

@@ -4,13 +4,13 @@ use Rattle.std.specs.Prelude.{slice_get}
 use Rattle.gq_model.specs.machine.Program.{Space, Statements, Done, Do, If, Loop, size, Section, Main, Opening, Upgrading, Calling, Closing, section_in}
 use Rattle.gq_model.specs.machine.Program.{body_of}
 use Rattle.gq_model.specs.machine.Scenario.{Interface, number_of}
-use Rattle.gq_model.specs.rules.Kinds.{Kind, Memory, Link_kind, State, Subject, Context, inside, same_kinds, no_kinds, own_empty}
+use Rattle.gq_model.specs.rules.Kinds.{Kind, Memory, Link_kind, AbstractState, Subject, Context, inside, same_kinds, no_kinds, own_empty}
 use Rattle.gq_model.specs.rules.Rules.{Rule, LeftoverOperand, ValueTooLarge, JoinDiffers, SessionBankChanged, LinkLeftOpen, Judged, must, popped, and_then}
 use Rattle.gq_model.specs.rules.Rules.{is_empty_kind, within_need, judged}
 
 -- the state after a list, or the rule that is broken first and the number of its statement, which counts from 1
 abbrev pub Flowed : Type 0
-Flowed = Result State (Rule × ℕ)
+Flowed = Result AbstractState (Rule × ℕ)
 
 -- the n-th statement is judged
 abbrev pub at : ℕ → Judged → Flowed
@@ -22,7 +22,7 @@ abbrev pub later : ℕ → Flowed → Flowed
 later n (Ok s) = Ok s
 later n (Err fault) = Err (fault.0, n + fault.1)
 
-abbrev pub flow_then : Flowed → (State → Flowed) → Flowed
+abbrev pub flow_then : Flowed → (AbstractState → Flowed) → Flowed
 flow_then (Ok s) go = go s
 flow_then (Err fault) go = Err fault
 
@@ -31,19 +31,19 @@ is_nil [] = true
 is_nil (a ∷ rest) = false
 
 -- no operand is left
-abbrev pub none_left : State → Judged
+abbrev pub none_left : AbstractState → Judged
 none_left s = must (is_nil s.bounds) LeftoverOperand (Ok s)
 
 -- the state in which both arms of an `if` start: the condition is the only operand
-abbrev pub chosen_from : State → Judged
+abbrev pub chosen_from : AbstractState → Judged
 chosen_from s = popped s (λ a t. none_left t)
 
 -- two ways lead to the same banks, with no operand left
-abbrev pub join : State → State → Judged
+abbrev pub join : AbstractState → AbstractState → Judged
 join s t = must (is_nil s.bounds && is_nil t.bounds) LeftoverOperand (must (same_kinds s.own t.own && same_kinds s.bank t.bank) JoinDiffers (Ok s))
 
 -- the state after a list of statements; a join is judged after what is inside
-abbrev pub flow : Context → State → Statements → Flowed
+abbrev pub flow : Context → AbstractState → Statements → Flowed
 flow c s Done = Ok s
 flow c s (Do i rest) = flow_then (at 1 (judged c s i)) (λ t. later 1 (flow c t rest))
 flow c s (If arm other rest) =
@@ -59,12 +59,12 @@ flow c s (Loop n body rest) =
     later (1 + size body) (flow c w rest))))
 
 -- the state that is reached, or this one where none is
-abbrev pub state_or : State → Flowed → State
+abbrev pub state_or : AbstractState → Flowed → AbstractState
 state_or s (Ok t) = t
 state_or s (Err fault) = s
 
 -- the states before the statements of a list and at its end
-abbrev pub points : Context → State → Statements → List State
+abbrev pub points : Context → AbstractState → Statements → List AbstractState
 points c s Done = s ∷ []
 points c s (Do i rest) = s ∷ points c (state_or s (at 1 (judged c s i))) rest
 points c s (If arm other rest) =
@@ -87,7 +87,7 @@ first_bounds provided _ = []
 -- the own bank as `main` leaves it
 abbrev pub own_after : Subject → List Kind
 own_after v =
-    let s : State = record { own = own_empty; bank = no_kinds; bounds = [] } in (state_or s (flow (context v Main) s (body v Main))).own
+    let s : AbstractState = record { own = own_empty; bank = no_kinds; bounds = [] } in (state_or s (flow (context v Main) s (body v Main))).own
 
 -- `main` starts with no slot in use
 abbrev pub own_before : Subject → Section → List Kind
@@ -97,7 +97,7 @@ own_before v _ = own_after v
 -- the session's bank that a section leaves
 abbrev pub bank_by : Subject → Section → List Kind → List Kind
 bank_by v section bank =
-    let s : State = record { own = own_after v; bank = bank; bounds = first_bounds v.provided section } in
+    let s : AbstractState = record { own = own_after v; bank = bank; bounds = first_bounds v.provided section } in
     (state_or s (flow (context v section) s (body v section))).bank
 
 -- the bank of a session of level l between requests
@@ -115,7 +115,7 @@ bank_before v (Calling l) = bank_at v l
 bank_before v (Closing l) = bank_at v l
 
 -- the state in which a section starts
-abbrev pub start_of : Subject → Section → State
+abbrev pub start_of : Subject → Section → AbstractState
 start_of v section = record { own = own_before v section; bank = bank_before v section; bounds = first_bounds v.provided section }
 
 -- ENDS OF SECTIONS
@@ -134,23 +134,23 @@ bank_is_empty [] = true
 bank_is_empty (k ∷ kinds) = is_empty_kind k && bank_is_empty kinds
 
 -- who provides nothing ends without a link
-abbrev pub main_end : Option Interface → State → Judged
+abbrev pub main_end : Option Interface → AbstractState → Judged
 main_end None s = must (not (has_link s.own)) LinkLeftOpen (Ok s)
 main_end (Some i) s = Ok s
 
 -- a buffer is a space of just its size in the first slot
-abbrev pub opening_end : ℕ → State → Judged
+abbrev pub opening_end : ℕ → AbstractState → Judged
 opening_end zero s = Ok s
 opening_end (suc n) s = must (is_space_kind (suc n) (slice_get s.bank 0)) SessionBankChanged (Ok s)
 
 -- a call leaves one operand within the bound, and the bank as it was
-abbrev pub calling_end : Option Interface → List Kind → State → Judged
+abbrev pub calling_end : Option Interface → List Kind → AbstractState → Judged
 calling_end provided bank s =
     popped s (λ a t. must (is_nil t.bounds) LeftoverOperand (must (nat_le a (number_of provided (λ i. i.reply))) ValueTooLarge
     (must (same_kinds s.bank bank) SessionBankChanged (Ok t))))
 
 -- what holds at a section's end
-abbrev pub section_end : Subject → Section → State → Judged
+abbrev pub section_end : Subject → Section → AbstractState → Judged
 section_end v Main s = and_then (none_left s) (main_end v.provided)
 section_end v Opening s = and_then (none_left s) (opening_end (number_of v.provided (λ i. i.buffer)))
 section_end v (Upgrading l) s = none_left s

@@ -2,10 +2,11 @@
 use Rattle.std.specs.Prelude.{ℕ, ◌+◌, ◌==◌, if◌then◌else◌, Bool, true, false, ◌&&◌, List, [], ◌∷◌, replicate, take, Option, Some, None, slice_get, slice_set}
 use Rattle.std.specs.Prelude.{sum_by}
 use Rattle.gq_model.specs.machine.Amounts.{Resource, Amount, part, plus, total, same_amount}
-use Rattle.gq_model.specs.machine.Program.{Place, Own, Shared, Object, Form, Block, Slice, Space, Section, Main, Opening, Upgrading, Calling, Closing, Program}
+use Rattle.gq_model.specs.machine.Program.{OperandSlot, Own, Shared, Object, Form, Block, Slice, Space, Section, Main, Opening, Upgrading, Calling, Closing}
+use Rattle.gq_model.specs.machine.Program.{Program}
 use Rattle.gq_model.specs.machine.Program.{text_eq}
 use Rattle.gq_tariff.specs.Prices.{size_for}
-use Rattle.gq_model.specs.machine.Prices.{price_memory, price_pool}
+use Rattle.gq_model.specs.machine.Resource_prices.{price_memory, price_pool}
 use Rattle.gq_model.specs.machine.Scenario.{Interface, Interfaces, number_of}
 
 -- a slot's kind: a link has its session's service, level and what was given for it
@@ -16,7 +17,7 @@ pub data Kind : Type 0 where
   Link_kind : (service : List ℕ) (level : ℕ) (given : Amount) → Kind
 
 -- what is known before a statement: the kinds in both banks, and the greatest value of each operand
-pub record State : Type 0 where
+pub record AbstractState : Type 0 where
   pub own : List Kind
   pub bank : List Kind
   pub bounds : List ℕ
@@ -76,12 +77,12 @@ abbrev pub own_empty : List Kind
 own_empty = replicate 64 Empty_kind
 
 -- a session's slots and its object are there outside `main` only
-abbrev pub kind_at : Context → State → Place → Option Kind
+abbrev pub kind_at : Context → AbstractState → OperandSlot → Option Kind
 kind_at c s (Own i) = slice_get s.own i
 kind_at c s (Shared i) = if in_main c.section then None else slice_get s.bank i
 kind_at c s Object = if in_main c.section then None else Some (Memory Slice (number_of c.subject.provided (λ i. i.object)))
 
-abbrev pub with_kind : State → Place → Kind → State
+abbrev pub with_kind : AbstractState → OperandSlot → Kind → AbstractState
 with_kind s (Own i) kind = record s { own = slice_set s.own i kind }
 with_kind s (Shared i) kind = record s { bank = slice_set s.bank i kind }
 with_kind s Object kind = s

@@ -2,14 +2,15 @@
 use Rattle.std.specs.Prelude.{ℕ, suc, ◌+◌, ◌-◌, ◌*◌, ◌/◌, ◌^◌, min, nat_lt, nat_le, ◌==◌, if◌then◌else◌, Bool, true, false, ◌&&◌, not, List, [], ◌∷◌, length}
 use Rattle.std.specs.Prelude.{Option, Some, None, Result, Ok, Err, slice_get, slice_index, slice_index_or}
 use Rattle.gq_model.specs.machine.Amounts.{Resource, Ram, Caps, Amount, amount, part, plus}
-use Rattle.gq_model.specs.machine.Program.{Place, Own, Shared, Object, Block, Slice, Space, Width, Byte, Word, bytes_of, Operator, Add, Subtract, Multiply}
+use Rattle.gq_model.specs.machine.Program.{OperandSlot, Own, Shared, Object, Block, Slice, Space, Width, Byte, Word, bytes_of, Operator, Add, Subtract}
+use Rattle.gq_model.specs.machine.Program.{Multiply}
 use Rattle.gq_model.specs.machine.Program.{And, Equal, Less, Drop, Dup, Combine, Push, Divide, Modulo, Get, Set, Index, Input, OperandStatement, Plain}
 use Rattle.gq_model.specs.machine.Program.{Numbered}
 use Rattle.gq_model.specs.machine.Program.{Instruction, Say, Out, Operands, Make, MakePool, Load, Store, Free, Take, Give, Peek, Poke, Open, Upgrade, Call}
 use Rattle.gq_model.specs.machine.Program.{Close, Section, Main}
 use Rattle.gq_tariff.specs.Prices.{up}
 use Rattle.gq_model.specs.machine.Scenario.{Interface, interface_in, number_of}
-use Rattle.gq_model.specs.rules.Kinds.{Kind, Empty_kind, Memory, Pool_kind, Link_kind, State, Context, in_main, level_of, kind_at, with_kind, need_of}
+use Rattle.gq_model.specs.rules.Kinds.{Kind, Empty_kind, Memory, Pool_kind, Link_kind, AbstractState, Context, in_main, level_of, kind_at, with_kind, need_of}
 use Rattle.gq_model.specs.rules.Kinds.{session_cost}
 pub use Rattle.gq_model.specs.declared.fault.Rule.{Rule}
 pub use Rattle.gq_model.specs.declared.fault.Rule.TheVariants.{MissingOperand, StackTooDeep, LeftoverOperand, WrongKind, SlotInUse, OutOfRange, ValueTooLarge}
@@ -19,7 +20,7 @@ pub use Rattle.gq_model.specs.machine.Memory.{is_later}
 
 -- the state after a statement, or the rule of least number that is broken there
 abbrev pub Judged : Type 0
-Judged = Result State Rule
+Judged = Result AbstractState Rule
 
 -- goes on where the test holds
 abbrev pub must : Bool → Rule → Judged → Judged
@@ -37,11 +38,11 @@ top [] go = Err MissingOperand
 top (a ∷ rest) go = go a rest
 
 -- goes on with the bound of the top operand and the state without it
-abbrev pub popped : State → (ℕ → State → Judged) → Judged
+abbrev pub popped : AbstractState → (ℕ → AbstractState → Judged) → Judged
 popped s go = top s.bounds (λ a rest. go a (record s { bounds = rest }))
 
 -- one operand more, of at most 16
-abbrev pub pushed : ℕ → State → Judged
+abbrev pub pushed : ℕ → AbstractState → Judged
 pushed a s = must (nat_lt (length s.bounds) 16) StackTooDeep (Ok (record s { bounds = a ∷ s.bounds }))
 
 -- the greatest number of 32 bits
@@ -67,17 +68,17 @@ is_heap_kind (Pool_kind n m) = true
 is_heap_kind _ = false
 
 -- outside `main` no own slot is changed
-abbrev pub may_change : Context → Place → Bool
+abbrev pub may_change : Context → OperandSlot → Bool
 may_change c (Own i) = in_main c.section
 may_change c (Shared i) = true
 may_change c Object = true
 
-abbrev pub is_shared : Place → Bool
+abbrev pub is_shared : OperandSlot → Bool
 is_shared (Shared i) = true
 is_shared _ = false
 
 -- the first slot of a session with a buffer stays from `open` to `close`
-abbrev pub is_kept : Context → Place → Bool
+abbrev pub is_kept : Context → OperandSlot → Bool
 is_kept c (Shared i) = i == 0 && is_later c.section && nat_lt 0 (number_of c.subject.provided (λ i. i.buffer))
 is_kept c _ = false
 
@@ -104,52 +105,52 @@ link_kind (Some (Link_kind service level given)) = Some (service, level, given)
 link_kind _ = None
 
 -- puts a kind into a slot that is there and Empty
-abbrev pub fill : Context → State → Place → Kind → Judged
+abbrev pub fill : Context → AbstractState → OperandSlot → Kind → Judged
 fill c s place kind =
     given (kind_at c s place) WrongKind (λ old. must (is_empty_kind old) SlotInUse (must (may_change c place) OwnBankChanged
     (must (not (is_heap_kind kind && is_shared place)) HeapInSession (Ok (with_kind s place kind)))))
 
 -- makes a slot Empty that holds memory
-abbrev pub freed : Context → State → Place → Judged
+abbrev pub freed : Context → AbstractState → OperandSlot → Judged
 freed c s place =
     given (kind_at c s place) WrongKind (λ k. must (is_memory_kind k) WrongKind (must (not (is_kept c place)) SessionBankChanged
     (must (may_change c place) OwnBankChanged (Ok (with_kind s place Empty_kind)))))
 
 -- goes on with a pool of which this entry is within range
-abbrev pub pooled : Context → State → Place → ℕ → (ℕ → Judged) → Judged
+abbrev pub pooled : Context → AbstractState → OperandSlot → ℕ → (ℕ → Judged) → Judged
 pooled c s place i go = given (pool_kind (kind_at c s place)) WrongKind (λ p. must (nat_lt i p.1) OutOfRange (go p.0))
 
 -- goes on where these bytes are within reach
-abbrev pub reached : Context → State → Place → ℕ → Width → Judged → Judged
+abbrev pub reached : Context → AbstractState → OperandSlot → ℕ → Width → Judged → Judged
 reached c s place i width next =
     given (reach c (kind_at c s place)) WrongKind (λ n. must (nat_le (i + bytes_of width) n) OutOfRange next)
 
 -- SESSIONS
 
 -- goes on with an interface's link
-abbrev pub linked : Context → State → Place → (List ℕ → ℕ → Amount → Interface → Judged) → Judged
+abbrev pub linked : Context → AbstractState → OperandSlot → (List ℕ → ℕ → Amount → Interface → Judged) → Judged
 linked c s place go =
     given (link_kind (kind_at c s place)) WrongKind (λ l. given (interface_in l.0 c.subject.interfaces) UnknownService (go l.0 l.1 l.2))
 
 -- a donation covers the need in bytes, and in capabilities is the need
-abbrev pub opened : Context → State → Place → List ℕ → ℕ → Judged
+abbrev pub opened : Context → AbstractState → OperandSlot → List ℕ → ℕ → Judged
 opened c s place service n =
     given (kind_at c s place) WrongKind (λ old. must (is_empty_kind old) SlotInUse (must (may_change c place) OwnBankChanged
     (given (interface_in service c.subject.interfaces) UnknownService (λ i. must (nat_le i.need.ram n) ShortDonation
     (Ok (with_kind s place (Link_kind service 0 (amount n i.need.caps))))))))
 
 -- an upgrade leads to the next level, if there is one
-abbrev pub upgraded : Context → State → Place → ℕ → Judged
+abbrev pub upgraded : Context → AbstractState → OperandSlot → ℕ → Judged
 upgraded c s place n =
     linked c s place (λ service level given i. must (nat_lt level (length i.upgrades)) OutOfRange (must (may_change c place) OwnBankChanged
     (let next = slice_index_or i.upgrades level (amount 0 0) in
     must (nat_le next.ram n) ShortDonation (Ok (with_kind s place (Link_kind service (suc level) (plus given (amount n next.caps))))))))
 
 -- a call's argument is within the interface's bound, and so is its reply
-abbrev pub called : Context → State → ℕ → Place → Judged
+abbrev pub called : Context → AbstractState → ℕ → OperandSlot → Judged
 called c s a place = linked c s place (λ service level given i. must (nat_le a i.arg) ValueTooLarge (pushed i.reply s))
 
-abbrev pub closed : Context → State → Place → Judged
+abbrev pub closed : Context → AbstractState → OperandSlot → Judged
 closed c s place = linked c s place (λ service level given i. must (may_change c place) OwnBankChanged (Ok (with_kind s place Empty_kind)))
 
 -- STATEMENTS
@@ -224,12 +225,12 @@ bounds_after l bounds (Numbered Index n) = round_raised (slice_get l.counts n) b
 bounds_after l bounds (Numbered Input n) = input_raised (slice_get l.inputs n) bounds
 
 -- the state with the bounds that such a statement leaves
-abbrev pub with_bounds : State → Bounded → Judged
+abbrev pub with_bounds : AbstractState → Bounded → Judged
 with_bounds s (Ok bounds) = Ok (record s { bounds = bounds })
 with_bounds s (Err rule) = Err rule
 
 -- the state after an instruction
-abbrev pub judge : Context → State → Instruction → Judged
+abbrev pub judge : Context → AbstractState → Instruction → Judged
 judge c s (Say text) = Ok s
 judge c s Out = popped s (λ a t. Ok t)
 judge c s (Operands o) = with_bounds s (bounds_after (limits c) s.bounds o)
@@ -247,7 +248,7 @@ judge c s (Upgrade place n) = upgraded c s place n
 judge c s (Call place) = popped s (λ a t. called c t a place)
 judge c s (Close place) = closed c s place
 
-abbrev pub and_then : Judged → (State → Judged) → Judged
+abbrev pub and_then : Judged → (AbstractState → Judged) → Judged
 and_then (Ok s) go = go s
 and_then (Err rule) go = Err rule
 
@@ -258,17 +259,17 @@ over Ram = OverNeed
 over Caps = OverCaps
 
 -- a session costs no more of these resources than is given for it
-abbrev pub covered : List Resource → Interface → ℕ → State → Judged
+abbrev pub covered : List Resource → Interface → ℕ → AbstractState → Judged
 covered [] i level s = Ok s
 covered (r ∷ resources) i level s =
     must (nat_le (session_cost r i s.bank) (part r (need_of i level))) (over r) (covered resources i level s)
 
 -- so it is where a session is current
-abbrev pub within_need : Section → Option Interface → State → Judged
+abbrev pub within_need : Section → Option Interface → AbstractState → Judged
 within_need Main provided s = Ok s
 within_need section None s = Ok s
 within_need section (Some i) s = covered i.counted i (level_of section) s
 
 -- an instruction, and what the session costs after it
-abbrev pub judged : Context → State → Instruction → Judged
+abbrev pub judged : Context → AbstractState → Instruction → Judged
 judged c s i = and_then (judge c s i) (within_need c.section c.subject.provided)

@@ -1,7 +1,8 @@
 -- The program that bytes spell, or their first fault.
 use Rattle.std.specs.Prelude.{ℕ, zero, suc, ◌-◌, ◌/◌, ◌%◌, nat_lt, ◌==◌, if◌then◌else◌, Bool, true, false, ◌&&◌, List, [], ◌∷◌, length, Option, Some, None}
 use Rattle.std.specs.Prelude.{Result, Ok, Err}
-use Rattle.gq_model.specs.machine.Program.{Place, Own, Shared, Object, Instruction, Statements, Done, Do, If, Loop, Section, all_sections, Program, little}
+use Rattle.gq_model.specs.machine.Program.{OperandSlot, Own, Shared, Object, Instruction, Statements, Done, Do, If, Loop, Section, all_sections, Program}
+use Rattle.gq_model.specs.machine.Program.{little}
 use Rattle.gq_model.specs.machine.Lists.{all_of, between}
 use Rattle.gq_model.specs.texts.Letters.{is_name_byte, is_said_byte}
 use Rattle.gq_model.specs.texts.Operands.{greatest_number}
@@ -41,7 +42,7 @@ checked false fault a = Err fault
 -- OPERANDS
 
 -- own slots, then those of a session, then the object where bytes are meant
-abbrev pub place_of : Bool → ℕ → Option Place
+abbrev pub place_of : Bool → ℕ → Option OperandSlot
 place_of object n =
     if nat_lt n 64 then Some (Own n) else (if nat_lt n 72 then Some (Shared (n - 64)) else (if object && n == 72 then Some Object else None))
 

@@ -1,7 +1,7 @@
 -- Bytes of texts: names, numbers, lines and words.
 use Rattle.std.specs.Prelude.{ℕ, ◌+◌, ◌-◌, ◌*◌, nat_le, ◌==◌, if◌then◌else◌, Bool, true, false, ◌&&◌, ◌||◌, not, List, [], ◌∷◌, length, Option, Some, None}
 use Rattle.gq_model.specs.machine.Lists.{all_of, between}
-pub use Rattle.gq_tariff.specs.Tests.{is_digit}
+pub use Rattle.gq_tariff.specs.Byte_tests.{is_digit}
 
 -- a blank is a space or a tab
 abbrev pub is_blank : ℕ → Bool

@@ -1,6 +1,6 @@
 -- How a statement is spelled in program text.
 use Rattle.std.specs.Prelude.{ℕ, ◌==◌, if◌then◌else◌, Bool, true, false, ◌&&◌, List, [], ◌∷◌, Option, Some, None, Result, Ok, Err, codes}
-use Rattle.gq_model.specs.machine.Program.{Place, Own, Shared, Object, Block, Slice, Space, Byte, Word, Add, Subtract, Multiply, And, Equal, Less}
+use Rattle.gq_model.specs.machine.Program.{OperandSlot, Own, Shared, Object, Block, Slice, Space, Byte, Word, Add, Subtract, Multiply, And, Equal, Less}
 use Rattle.gq_model.specs.machine.Program.{Bare, Drop, Dup, Combine, WithNumber, Push, Divide, Modulo, Get, Set, Index, Input, Plain, Numbered, Instruction}
 use Rattle.gq_model.specs.machine.Program.{Say, Out}
 use Rattle.gq_model.specs.machine.Program.{Operands, Make, MakePool, Load, Store, Free, Take, Give, Peek, Poke, Open, Upgrade, Call, Close, text_eq}
@@ -14,7 +14,7 @@ pub use Rattle.gq_model.specs.declared.fault.TextFault.TheVariants.{UnknownWord,
 pub data Shape : Type 0 where
   Made : (instruction : Instruction) → Shape
   Number : (width low high : ℕ) (go : ℕ → Shape) → Shape
-  Slot : (object : Bool) (go : Place → Shape) → Shape
+  Slot : (object : Bool) (go : OperandSlot → Shape) → Shape
   Service Said : (go : List ℕ → Shape) → Shape
 
 -- an instruction with one number
@@ -22,15 +22,15 @@ abbrev pub number : ℕ → ℕ → ℕ → (ℕ → Instruction) → Shape
 number width low high f = Number width low high (λ n. Made (f n))
 
 -- with one slot
-abbrev pub slot : (Place → Instruction) → Shape
+abbrev pub slot : (OperandSlot → Instruction) → Shape
 slot f = Slot false (λ s. Made (f s))
 
 -- with a slot, or the object, whose bytes are meant
-abbrev pub bytes : (Place → Instruction) → Shape
+abbrev pub bytes : (OperandSlot → Instruction) → Shape
 bytes f = Slot true (λ s. Made (f s))
 
 -- with a slot and a number
-abbrev pub slot_and : ℕ → ℕ → (Place → ℕ → Instruction) → Shape
+abbrev pub slot_and : ℕ → ℕ → (OperandSlot → ℕ → Instruction) → Shape
 slot_and low high f = Slot false (λ s. number 4 low high (f s))
 
 -- a statement but `if` and `loop`: its word in text, its number in code, and its operands
@@ -110,17 +110,17 @@ word_of_opcode opcode (p ∷ rest) = if opcode == p.opcode then p.word else word
 abbrev pub slot_number : ℕ → List ℕ → Option ℕ
 slot_number high text = if is_short text then number_in 2 0 high text else None
 
-abbrev pub named : (ℕ → Place) → Option ℕ → Option Place
+abbrev pub named : (ℕ → OperandSlot) → Option ℕ → Option OperandSlot
 named f None = None
 named f (Some i) = Some (f i)
 
 -- `o` and a number up to 63, or `s` and one up to 7
-abbrev pub numbered_slot : List ℕ → Option Place
+abbrev pub numbered_slot : List ℕ → Option OperandSlot
 numbered_slot [] = None
 numbered_slot (c ∷ rest) =
     if c == 111 then named Own (slot_number 63 rest) else (if c == 115 then named Shared (slot_number 7 rest) else None)
 
-abbrev pub slot_in : Bool → List ℕ → Option Place
+abbrev pub slot_in : Bool → List ℕ → Option OperandSlot
 slot_in object word = if object && text_eq word (codes "obj") then Some Object else numbered_slot word
 
 -- OPERANDS

@@ -1,8 +1,8 @@
 -- The fields of a `Pages`.
 use Rattle.std.specs.Prelude.{◌≡◌, ◌*◌, ◌≤◌, List, ℕ, length}
 use Rattle.gq_pages.specs.declared.pages.Pages.TheInside.{Inside}
-use Rattle.gq_pages.specs.Frames.{Frames}
-use Rattle.gq_pages.specs.internal.Layout.{AreFrames, frames_of, free_list, IsChain}
+use Rattle.gq_pages.specs.Frame_map.{Frames}
+use Rattle.gq_pages.specs.internal.Region_layout.{AreFrames, frames_of, free_list, IsChain}
 
 abbrev pub free_frames : Inside → List ℕ
 free_frames p = free_list p.frames p.touched p.chained p.region.bytes p.first

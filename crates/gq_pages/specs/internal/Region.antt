@@ -2,7 +2,7 @@
 use Rattle.std.specs.Prelude.{◌≡◌, ◌+◌, ◌*◌, ◌/◌, ◌%◌, ◌^◌, ◌<◌, ◌≤◌, ℕ, List, length, get_or}
 use Rattle.gq_pages.specs.declared.region.Region.TheInside.{Inside}
 
--- what a block of memory has: the bytes at its front that were written so far, and room for so many in all
+-- what a block of memory has: the bytes at its start that were written so far, and room for so many in all
 pub record Contents : Type 0 where
   pub bytes : List ℕ
   pub size : ℕ

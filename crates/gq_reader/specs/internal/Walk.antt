@@ -2,8 +2,8 @@
 use Rattle.std.specs.Prelude.{ℕ, List, Option, if◌then◌else◌, codes}
 use Rattle.toml.specs.Data.{Members}
 use Rattle.gq_model.specs.machine.Lists.{or_first}
-use Rattle.gq_scenario.specs.Keys.{DocumentFault, table_fault}
-use Rattle.gq_scenario.specs.Tables.{init_keys, leaf_keys}
+use Rattle.gq_scenario.specs.Table_keys.{DocumentFault, table_fault}
+use Rattle.gq_scenario.specs.Document_tables.{init_keys, leaf_keys}
 use Rattle.gq_scenario.specs.Document.{is_init, routes_fault}
 
 -- the table of an init, or of a leaf

@@ -7,14 +7,14 @@ use Rattle.gq_model.specs.machine.Scenario.{Component}
 use Rattle.gq_model.specs.texts.Fault_texts.{section_word}
 use Rattle.gq_sizes.specs.Size.{Given, opens_from}
 
--- the front of a line
-abbrev pub short_front : List ℕ → Section → List ℕ
-short_front label section = codes "short " ++ label ++ codes " in " ++ section_word section
+-- the prefix of a line
+abbrev pub short_prefix : List ℕ → Section → List ℕ
+short_prefix label section = codes "short " ++ label ++ codes " in " ++ section_word section
 
 -- the line of a statement of that number, which gives less than is needed
 abbrev pub short_text : List ℕ → Section → ℕ → ℕ → ℕ → List ℕ
 short_text label section number gives least =
-    short_front label section ++ codes " at " ++ decimal number ++ entry (codes "gives") gives ++ entry (codes "least") least ++ 10 ∷ []
+    short_prefix label section ++ codes " at " ++ decimal number ++ entry (codes "gives") gives ++ entry (codes "least") least ++ 10 ∷ []
 
 abbrev pub line_by : Given → List ℕ → Section → ℕ × List ℕ × ℕ → List ℕ
 line_by least label section o = if nat_lt o.2 (least o.1 0) then short_text label section o.0 o.2 (least o.1 0) else []

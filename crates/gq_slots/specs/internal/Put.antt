@@ -5,8 +5,8 @@ use Rattle.gq_heap.specs.declared.heap.Heap.{Heap}
 use Rattle.gq_trade.specs.Stores.{Memory}
 use Rattle.gq_contents.specs.declared.content.Content.{Content}
 use Rattle.gq_trade.specs.declared.session.Session.{Session}
-use Rattle.gq_trade.specs.declared.session.Spot.{Spot}
-use Rattle.gq_trade.specs.declared.session.Spot.TheVariants.{InLeaf, InSession, InObject}
+use Rattle.gq_trade.specs.declared.session.SlotId.{SlotId}
+use Rattle.gq_trade.specs.declared.session.SlotId.TheVariants.{InLeaf, InSession, InObject}
 use Rattle.gq_trade.specs.Trading.{Trading, session_at, with_memory, with_session, with_slot}
 use Rattle.gq_trade.specs.Trades.{with_trading}
 use Rattle.gq_slots.specs.Slots.{Slots}
@@ -15,7 +15,7 @@ use Rattle.gq_slots.specs.Slots.{Slots}
 abbrev pub with_object : Session → Content → Session
 with_object s t = record {
   client = s.client;
-  spot = s.spot;
+  slot_id = s.slot_id;
   server = s.server;
   service = s.service;
   level = s.level;
@@ -25,17 +25,17 @@ with_object s t = record {
   slots = s.slots;
 }
 
-abbrev pub put_trading : Trading → Spot → Content → Trading
+abbrev pub put_trading : Trading → SlotId → Content → Trading
 put_trading w (InLeaf x i) t = w
 put_trading w (InSession k i) t = with_session w k (with_slot (session_at w k) i t)
 put_trading w (InObject k) t = with_session w k (with_object (session_at w k) t)
 
-abbrev pub put_own : List (List Content) → Spot → Content → List (List Content)
+abbrev pub put_own : List (List Content) → SlotId → Content → List (List Content)
 put_own own (InLeaf x i) t = slice_set own x (slice_set (get_or own x []) i t)
 put_own own (InSession k i) t = own
 put_own own (InObject k) t = own
 
-abbrev pub put : Slots → Spot → Content → Slots
+abbrev pub put : Slots → SlotId → Content → Slots
 put s p t = record { trades = with_trading s.trades (put_trading s.trades.trading p t); own = put_own s.own p t; heaps = s.heaps }
 
 -- another memory, and another heap of the leaf x

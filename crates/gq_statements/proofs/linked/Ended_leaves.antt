@@ -3,17 +3,17 @@ use Rattle.std.proofs.Common.{◌≡◌, ℕ, ◌<◌, ◌⊎◌, inl, inr, Some
 use Rattle.gq_model.specs.declared.phase.Phase.{Phase}
 use Rattle.gq_model.specs.declared.phase.Phase.TheVariants.{Blocked, Running}
 use Rattle.gq_model.specs.machine.Scenario.{System}
-use Rattle.gq_laws.specs.Links.{IsLinkedWorld, outline}
+use Rattle.gq_laws.specs.Session_links.{IsLinkedWorld, outline}
 use Rattle.gq_trade.specs.Numbers.{IsTaken}
 use Rattle.gq_contents.specs.declared.content.Content.TheVariants as content
-use Rattle.gq_trade.specs.declared.session.Spot.{Spot}
-use Rattle.gq_trade.specs.declared.session.Spot.TheVariants.{InLeaf, InSession, InObject}
+use Rattle.gq_trade.specs.declared.session.SlotId.{SlotId}
+use Rattle.gq_trade.specs.declared.session.SlotId.TheVariants.{InLeaf, InSession, InObject}
 use Rattle.gq_trade.specs.Trading.{client_of, server_of, session_at}
-use Rattle.gq_trade.specs.Ends.{HasNoSessions}
-use Rattle.gq_slots.specs.Slots.{AreLong, Frame, IsSlot, IsSpot, Slots, holder, content_at, world_seen}
+use Rattle.gq_trade.specs.Leaf_ends.{HasNoSessions}
+use Rattle.gq_slots.specs.Slots.{AreLong, Frame, IsSlot, IsSlotId, Slots, holder, content_at, world_seen}
 use Rattle.gq_statements.specs.Systems.{AreLawful}
 use Rattle.gq_statements.specs.Linked.{IsAtRest, IsAwaited, ProvidesNothing}
-use Rattle.gq_statements.proofs.linked.Stored.{seen_at, session_has}
+use Rattle.gq_statements.proofs.linked.Stored_world_links.{seen_at, session_has}
 use Rattle.gq_statements.proofs.linked.Standing_sessions.{in_slot, pending, stands_as}
 
 pub awake : (p : Phase) → p ≡ Running → p ≡ Blocked → ⊥
@@ -34,17 +34,18 @@ module _ (system : System) (f : Frame) (s : Slots) (l : AreLawful s) (h : IsLink
     not_client : (k : ℕ) → IsTaken s.trades.trading.sessions k → client_of s.trades.trading k ≡ x → ⊥
     not_client k there e = go (stands_as system f s l h k there)
       where
-        at_spot : (p : Spot) → IsSpot s p → IsSlot p → holder s p ≡ client_of s.trades.trading k → content_at s p ≡ content.Link k → ⊥
-        at_spot (InLeaf y i) is slot holds link =
+        at_slot_id : (p : SlotId) → IsSlotId s p → IsSlot p → holder s p ≡ client_of s.trades.trading k → content_at s p ≡ content.Link k → ⊥
+        at_slot_id (InLeaf y i) is slot holds link =
             no_link i k is.1 (sym (ap (λ z. content_at s (InLeaf z i)) (holds ∙ e)) ∙ link)
-        at_spot (InSession j i) is slot holds link = no_service x none j is.0 (holds ∙ e)
-        at_spot (InObject j) is slot holds link = absurd slot
+        at_slot_id (InSession j i) is slot holds link = no_service x none j is.0 (holds ∙ e)
+        at_slot_id (InObject j) is slot holds link = absurd slot
 
-        go : (IsAtRest f s k × (content_at s (session_at s.trades.trading k).spot ≡ content.Link k)) ⊎ (IsAwaited f s k × (pending system f s l h k there ≡ 1))
+        go : (IsAtRest f s k × (content_at s (session_at s.trades.trading k).slot_id ≡ content.Link k)) ⊎
+            (IsAwaited f s k × (pending system f s l h k there ≡ 1))
             → ⊥
         go (inl a) =
             let i = in_slot system f s l h k there long in
-            at_spot (session_at s.trades.trading k).spot i.there i.slot i.holder_is a.1
+            at_slot_id (session_at s.trades.trading k).slot_id i.there i.slot i.holder_is a.1
         go (inr a) = awake (subst (λ y. (f.leaf y).phase ≡ Blocked) e a.0.blocked)
 
     pub no_sessions : HasNoSessions s.trades.trading x

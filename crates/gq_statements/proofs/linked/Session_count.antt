@@ -6,7 +6,7 @@ use Rattle.std.proofs.lemmas.List.Sums.{sum_by-cons}
 use Rattle.gq_model.specs.machine.Amounts.{Ram}
 use Rattle.gq_model.specs.machine.Scenario.{System}
 use Rattle.gq_model.specs.machine.Sums.{bank_price, slot_price, to_leaf}
-use Rattle.gq_laws.specs.Links.{IsBytes, IsLinkedWorld, one_if, outline, requests_of, shape}
+use Rattle.gq_laws.specs.Session_links.{IsBytes, IsLinkedWorld, one_if, outline, requests_of, shape}
 use Rattle.gq_laws.specs.Shapes.{Each}
 use Rattle.gq_store.specs.Store.{Store}
 use Rattle.gq_trade.specs.Numbers.{IsTaken, free_number}
@@ -16,14 +16,14 @@ use Rattle.gq_contents.specs.declared.content.Content.{Content}
 use Rattle.gq_contents.specs.declared.content.Content.TheVariants as content
 use Rattle.gq_contents.specs.Contents.{seen}
 use Rattle.gq_trade.specs.declared.session.Session.{Session}
-use Rattle.gq_trade.specs.Seen.{seen_in}
+use Rattle.gq_trade.specs.Seen_sessions.{seen_in}
 use Rattle.gq_trade.specs.Trading.{AreBetween, AreOf, account_of, its_account, server_of, session_at, session_in}
 use Rattle.gq_trade.proofs.Sessions_kept.{between_at}
 use Rattle.gq_trade.specs.Waiting.{clients_in}
 use Rattle.gq_slots.specs.Slots.{AreObjects, AreSound, Frame, IsObject, Slots, memory_of, world_seen}
 use Rattle.gq_statements.specs.Systems.{AreLawful}
-use Rattle.gq_statements.proofs.Made.{leaf_found}
-use Rattle.gq_statements.proofs.linked.Stored.{seen_at, session_has, stored_as}
+use Rattle.gq_statements.proofs.Unpaid_made_memory.{leaf_found}
+use Rattle.gq_statements.proofs.linked.Stored_world_links.{seen_at, session_has, stored_as}
 use Rattle.gq_statements.proofs.linked.Standing_sessions.{fresh_asks}
 use Rattle.gq_statements.proofs.linked.Sums_below.{apart_few, apart_within, below_first, below_le, below_none, below_once, below_once_most, below_plus}
 use Rattle.gq_statements.proofs.linked.Sums_below.{below_times}

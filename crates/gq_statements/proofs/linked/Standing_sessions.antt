@@ -1,27 +1,29 @@
--- Where sessions stand: each in a slot of its client, which tells how it stands.
+-- Where sessions stand: each in a slot of its client, which reports how it stands.
 use Rattle.std.proofs.Common.{◌≡◌, ℕ, ◌+◌, ◌<◌, ◌≤◌, ◌⊎◌, inl, inr, true, false, length, map, Option, Some, None, refl, sym, ap, subst, ◌∙◌, arith}
 use Rattle.std.proofs.lemmas.Bool.Decides.{eqb_tells}
 use Rattle.gq_model.specs.declared.phase.Phase.TheVariants.{Blocked}
 use Rattle.gq_model.specs.machine.Scenario.{System}
 use Rattle.gq_model.specs.machine.World as world
-use Rattle.gq_model.proofs.Small.{not_both, some_same}
-use Rattle.gq_laws.specs.Links.{Belongs, IsLinkedWorld, Leads, Links, Naming, Stance, Stands, Waits, at_current, by_current, links, named, naming, naming_in}
-use Rattle.gq_laws.specs.Links.{outline}
-use Rattle.gq_laws.specs.Links.{pending_of, requests_of, stance}
+use Rattle.gq_model.proofs.Small_facts.{not_both, some_same}
+use Rattle.gq_laws.specs.Session_links.{Belongs, IsLinkedWorld, Leads, Links, Naming, Stance, Stands, Waits, at_current, by_current, links, named, naming}
+use Rattle.gq_laws.specs.Session_links.{naming_in}
+use Rattle.gq_laws.specs.Session_links.{outline}
+use Rattle.gq_laws.specs.Session_links.{pending_of, requests_of, stance}
 use Rattle.gq_trade.specs.Numbers.{IsTaken}
 use Rattle.gq_trade.specs.Seen_requests.{request_seen}
 use Rattle.gq_contents.specs.declared.content.Content.TheVariants as content
 use Rattle.gq_contents.specs.Contents.{seen}
-use Rattle.gq_trade.specs.declared.session.Spot.{Spot}
-use Rattle.gq_trade.specs.declared.session.Spot.TheVariants.{InLeaf, InSession, InObject}
-use Rattle.gq_trade.specs.Seen.{spot_seen}
+use Rattle.gq_trade.specs.declared.session.SlotId.{SlotId}
+use Rattle.gq_trade.specs.declared.session.SlotId.TheVariants.{InLeaf, InSession, InObject}
+use Rattle.gq_trade.specs.Seen_sessions.{slot_id_seen}
 use Rattle.gq_trade.specs.Trading.{client_of, server_of, session_at}
 use Rattle.gq_trade.proofs.Sessions_kept.{between_at}
-use Rattle.gq_slots.specs.Slots.{AreLong, Frame, IsMark, IsSlot, IsSpot, Slots, holder, memory_of, slot_of, content_at, world_seen}
+use Rattle.gq_slots.specs.Slots.{AreLong, Frame, IsMark, IsSlot, IsSlotId, Slots, holder, memory_of, slot_of, content_at, world_seen}
 use Rattle.gq_statements.specs.Systems.{AreLawful}
 use Rattle.gq_statements.specs.Linked.{IsAtRest, IsAwaited, IsInSlot, IsOfOther, IsSlotOf, Names, ShowsSession}
-use Rattle.gq_statements.proofs.linked.Stored.{link_is, none_of, of_none, same_spots, says_stored, seen_at, session_has, session_is, spot_says, stance_is}
-use Rattle.gq_statements.proofs.linked.Stored.{waiting_is}
+use Rattle.gq_statements.proofs.linked.Stored_world_links.{link_is, none_of, of_none, same_slot_ids, says_stored, seen_at, session_has, session_is}
+use Rattle.gq_statements.proofs.linked.Stored_world_links.{slot_id_says, stance_is}
+use Rattle.gq_statements.proofs.linked.Stored_world_links.{waiting_is}
 
 -- HANDS
 
@@ -42,30 +44,30 @@ module _ (system : System) (f : Frame) (s : Slots) (l : AreLawful s) (h : IsLink
 
   -- SLOTS
 
-  says : (p : Spot) → IsSpot s p → all.slots (spot_seen p) ≡ naming (slot_of s p)
+  says : (p : SlotId) → IsSlotId s p → all.slots (slot_id_seen p) ≡ naming (slot_of s p)
   says p there = ap naming_in (l.read f p there)
 
-  owned : (p : Spot) (client : ℕ) → Belongs all (spot_seen p) client → (client ≡ holder s p) × IsSlot p
+  owned : (p : SlotId) (client : ℕ) → Belongs all (slot_id_seen p) client → (client ≡ holder s p) × IsSlot p
   owned (InLeaf x i) client b = (sym b, tt)
   owned (InSession j i) client b = let c = session_is f s j b.0 b.1 in (sym b.3 ∙ ap (λ (z : world.Session). z.server) c.1, tt)
   owned (InObject j) client b = absurd b
 
   -- a slot that names a session is that session's
-  named_is : (p : Spot) (n : Naming) → all.slots (spot_seen p) ≡ Some n → IsSlotOf s p (named n)
+  named_is : (p : SlotId) (n : Naming) → all.slots (slot_id_seen p) ≡ Some n → IsSlotOf s p (named n)
   named_is p n e =
-      let a = h.named (spot_seen p) n e in
+      let a = h.named (slot_id_seen p) n e in
       let b = session_is f s (named n) a.0 a.1 in
-      let at : spot_seen (session_at s.trades.trading (named n)).spot ≡ spot_seen p = sym (ap (λ (z : world.Session). z.spot) b.1) ∙ a.2 in
+      let at : slot_id_seen (session_at s.trades.trading (named n)).slot_id ≡ slot_id_seen p = sym (ap (λ (z : world.Session). z.slot_id) b.1) ∙ a.2 in
       let its : a.0.client ≡ client_of s.trades.trading (named n) = ap (λ (z : world.Session). z.client) b.1 in
       let own = owned p a.0.client (subst (λ q. Belongs all q a.0.client) a.2 (h.belongs (named n) a.0 a.1)) in
       record {
         there = b.0;
-        spot = same_spots (session_at s.trades.trading (named n)).spot p at;
+        slot_id = same_slot_ids (session_at s.trades.trading (named n)).slot_id p at;
         client = sym its ∙ own.0;
         slot = own.1;
       }
 
-  pub slot_of_session : (p : Spot) (k : ℕ) → IsSpot s p → Names (content_at s p) k → IsSlotOf s p k
+  pub slot_of_session : (p : SlotId) (k : ℕ) → IsSlotId s p → Names (content_at s p) k → IsSlotOf s p k
   slot_of_session p k there (inl e) =
       named_is p (Leads k) (says p there ∙ ap (λ t. naming (seen (memory_of s (holder s p)) t)) e)
   slot_of_session p k there (inr e) =
@@ -132,23 +134,23 @@ module _ (system : System) (f : Frame) (s : Slots) (l : AreLawful s) (h : IsLink
             let one : pending ≡ 1 = sym pending_is ∙ a.1 in
             omega (arith, one, none)
 
-    blocked_is : all.slots (spot_seen (session_at s.trades.trading k).spot) ≡ Some (Waits k) → (f.leaf (client_of s.trades.trading k)).phase ≡ Blocked
+    blocked_is : all.slots (slot_id_seen (session_at s.trades.trading k).slot_id) ≡ Some (Waits k) → (f.leaf (client_of s.trades.trading k)).phase ≡ Blocked
     blocked_is e =
         let a = h.waits k (outline (seen_at f s k)) (session_has f s k there) e in
         let b = stance_is f s (client_of s.trades.trading k) l (client_below k there) in
         ap (λ (t : Stance). t.phase) (some_same (sym b ∙ a.1))
 
     -- a session is at rest and its slot leads to it, or it has one request and is awaited
-    pub stands_as : (IsAtRest f s k × (content_at s (session_at s.trades.trading k).spot ≡ content.Link k)) ⊎ (IsAwaited f s k × (pending ≡ 1))
+    pub stands_as : (IsAtRest f s k × (content_at s (session_at s.trades.trading k).slot_id ≡ content.Link k)) ⊎ (IsAwaited f s k × (pending ≡ 1))
     stands_as = go (h.stands k (outline (seen_at f s k)) (session_has f s k there))
       where
         go : Stands all k (outline (seen_at f s k))
-            → (IsAtRest f s k × (content_at s (session_at s.trades.trading k).spot ≡ content.Link k)) ⊎ (IsAwaited f s k × (pending ≡ 1))
+            → (IsAtRest f s k × (content_at s (session_at s.trades.trading k).slot_id ≡ content.Link k)) ⊎ (IsAwaited f s k × (pending ≡ 1))
         go (inl a) =
-            let p = (session_at s.trades.trading k).spot in
+            let p = (session_at s.trades.trading k).slot_id in
             inl (rests a.1 (sym pending_is ∙ a.2), link_is (memory_of s (holder s p)) (content_at s p) k (says_stored f s p (Leads k) a.0))
         go (inr a) =
-            let p = (session_at s.trades.trading k).spot in
+            let p = (session_at s.trades.trading k).slot_id in
             inr (
               record {
                 there = there;
@@ -162,7 +164,7 @@ module _ (system : System) (f : Frame) (s : Slots) (l : AreLawful s) (h : IsLink
     pub awaited : 1 ≤ pending → IsAwaited f s k × (pending ≡ 1)
     awaited some = go stands_as
       where
-        go : (IsAtRest f s k × (content_at s (session_at s.trades.trading k).spot ≡ content.Link k)) ⊎ (IsAwaited f s k × (pending ≡ 1))
+        go : (IsAtRest f s k × (content_at s (session_at s.trades.trading k).slot_id ≡ content.Link k)) ⊎ (IsAwaited f s k × (pending ≡ 1))
             → IsAwaited f s k × (pending ≡ 1)
         go (inl a) =
             let b = of_none k s.trades.trading.requests a.0.none_waits in
@@ -170,28 +172,28 @@ module _ (system : System) (f : Frame) (s : Slots) (l : AreLawful s) (h : IsLink
             absurd (omega (arith, some, b, c))
         go (inr a) = a
 
-    spot_there : AreLong s → IsSpot s (session_at s.trades.trading k).spot
-    spot_there long = go (h.stands k (outline (seen_at f s k)) (session_has f s k there))
+    slot_id_there : AreLong s → IsSlotId s (session_at s.trades.trading k).slot_id
+    slot_id_there long = go (h.stands k (outline (seen_at f s k)) (session_has f s k there))
       where
-        go : Stands all k (outline (seen_at f s k)) → IsSpot s (session_at s.trades.trading k).spot
-        go (inl a) = spot_says f s (session_at s.trades.trading k).spot (Leads k) long a.0
-        go (inr a) = spot_says f s (session_at s.trades.trading k).spot (Waits k) long a.0
+        go : Stands all k (outline (seen_at f s k)) → IsSlotId s (session_at s.trades.trading k).slot_id
+        go (inl a) = slot_id_says f s (session_at s.trades.trading k).slot_id (Leads k) long a.0
+        go (inr a) = slot_id_says f s (session_at s.trades.trading k).slot_id (Waits k) long a.0
 
     pub in_slot : AreLong s → IsInSlot f s k
     in_slot long = go stands_as
       where
-        of_content : Names (content_at s (session_at s.trades.trading k).spot) k → ShowsSession f s k (content_at s (session_at s.trades.trading k).spot)
-            → IsMark (content_at s (session_at s.trades.trading k).spot) → IsInSlot f s k
-        of_content names tells mark =
-            let is = slot_of_session (session_at s.trades.trading k).spot k (spot_there long) names in
-            record { there = spot_there long; slot = is.slot; holder_is = sym is.client; tells = tells; mark = mark }
+        of_content : Names (content_at s (session_at s.trades.trading k).slot_id) k → ShowsSession f s k (content_at s (session_at s.trades.trading k).slot_id)
+            → IsMark (content_at s (session_at s.trades.trading k).slot_id) → IsInSlot f s k
+        of_content names reports mark =
+            let is = slot_of_session (session_at s.trades.trading k).slot_id k (slot_id_there long) names in
+            record { there = slot_id_there long; slot = is.slot; holder_is = sym is.client; reports = reports; mark = mark }
 
-        go : (IsAtRest f s k × (content_at s (session_at s.trades.trading k).spot ≡ content.Link k)) ⊎ (IsAwaited f s k × (pending ≡ 1)) → IsInSlot f s k
+        go : (IsAtRest f s k × (content_at s (session_at s.trades.trading k).slot_id ≡ content.Link k)) ⊎ (IsAwaited f s k × (pending ≡ 1)) → IsInSlot f s k
         go (inl a) = of_content (inl a.1) (inl a) (subst IsMark (sym a.1) tt)
         go (inr a) = of_content (inr a.0.waits) (inr (no_rest a.1, a.0.waits)) (subst IsMark (sym a.0.waits) tt)
 
   -- a slot that waits is of a session that is awaited
-  pub awaited_at : (p : Spot) (k : ℕ) → IsSpot s p → content_at s p ≡ content.Waiting k → IsAwaited f s k
+  pub awaited_at : (p : SlotId) (k : ℕ) → IsSlotId s p → content_at s p ≡ content.Waiting k → IsAwaited f s k
   awaited_at p k is e = go (stands_as k there)
     where
       there : IsTaken s.trades.trading.sessions k
@@ -200,6 +202,7 @@ module _ (system : System) (f : Frame) (s : Slots) (l : AreLawful s) (h : IsLink
       apart : content.Link k ≡ content.Waiting k → ⊥
       apart q = cc
 
-      go : (IsAtRest f s k × (content_at s (session_at s.trades.trading k).spot ≡ content.Link k)) ⊎ (IsAwaited f s k × (pending k there ≡ 1)) → IsAwaited f s k
-      go (inl a) = absurd (apart (sym a.1 ∙ ap (content_at s) (slot_of_session p k is (inr e)).spot ∙ e))
+      go : (IsAtRest f s k × (content_at s (session_at s.trades.trading k).slot_id ≡ content.Link k)) ⊎ (IsAwaited f s k × (pending k there ≡ 1)) → IsAwaited f
+          s k
+      go (inl a) = absurd (apart (sym a.1 ∙ ap (content_at s) (slot_of_session p k is (inr e)).slot_id ∙ e))
       go (inr a) = a.0

@@ -3,10 +3,10 @@ use Rattle.std.proofs.Common.{◌≡◌, ℕ, zero, suc, ◌+◌, ◌*◌, ◌<�
 use Rattle.std.proofs.Common.{arith, ◌==◌}
 use Rattle.std.proofs.lemmas.Bool.Decides.{eqb_tells}
 use Rattle.std.proofs.lemmas.List.{get_or-set_other}
-use Rattle.gq_laws.specs.Links.{one_if}
+use Rattle.gq_laws.specs.Session_links.{one_if}
 use Rattle.gq_laws.specs.Shapes.{Each}
 use Rattle.gq_ram.specs.declared.account.Account.{Account}
-use Rattle.gq_ram.specs.Entries.{Entries, account_at, its_account, no_account, sum_over}
+use Rattle.gq_ram.specs.Account_table.{Entries, account_at, its_account, no_account, sum_over}
 use Rattle.gq_trade.specs.Waiting.{AreApart, AreOther}
 
 abbrev pub sum_below : (ℕ → ℕ) → ℕ → ℕ

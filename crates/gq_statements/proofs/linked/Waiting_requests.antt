@@ -4,9 +4,9 @@ use Rattle.std.proofs.lemmas.Bool.Decides.{eqb_tells}
 use Rattle.gq_model.specs.declared.phase.Phase.TheVariants.{Blocked}
 use Rattle.gq_model.specs.machine.Scenario.{System}
 use Rattle.gq_model.specs.machine.World as world
-use Rattle.gq_model.proofs.Small.{equal_self, some_same, none_some}
-use Rattle.gq_laws.specs.Links.{IsBytes, IsLinkedWorld, Links, by_current, is_open, links, one_if, outline, requests_of, shape, stance}
-use Rattle.gq_laws.specs.Links as linked
+use Rattle.gq_model.proofs.Small_facts.{equal_self, some_same, none_some}
+use Rattle.gq_laws.specs.Session_links.{IsBytes, IsLinkedWorld, Links, by_current, is_open, links, one_if, outline, requests_of, shape, stance}
+use Rattle.gq_laws.specs.Session_links as linked
 use Rattle.gq_laws.specs.Shapes.{Each}
 use Rattle.gq_store.specs.Store.{Store}
 use Rattle.gq_trade.specs.Numbers.{IsTaken}
@@ -25,9 +25,9 @@ use Rattle.gq_trade.proofs.Sessions_kept.{taken_from}
 use Rattle.gq_trade.specs.Waiting.{AreOther, IsIdle, clients_in}
 use Rattle.gq_slots.specs.Slots.{AreSound, Frame, Slots, memory_of, world_seen}
 use Rattle.gq_statements.specs.Systems.{AreLawful}
-use Rattle.gq_statements.proofs.Standing.{unmade_oldest}
+use Rattle.gq_statements.proofs.Seen_slot_content.{unmade_oldest}
 use Rattle.gq_statements.specs.Linked.{IsAsked, IsAwaited, IsFor, IsHandled}
-use Rattle.gq_statements.proofs.linked.Stored.{none_of, session_is, stance_is}
+use Rattle.gq_statements.proofs.linked.Stored_world_links.{none_of, session_is, stance_is}
 use Rattle.gq_statements.proofs.linked.Standing_sessions.{awaited}
 
 -- LISTS

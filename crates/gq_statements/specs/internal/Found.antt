@@ -1,7 +1,7 @@
 -- Which bytes a statement names.
 use Rattle.std.specs.Prelude.{◌≡◌, ℕ, List, [], Option, Some, None, Err}
 use Rattle.gq_tariff.specs.Prices.{up}
-use Rattle.gq_model.specs.declared.program.Place.{Place}
+use Rattle.gq_model.specs.declared.program.OperandSlot.{OperandSlot}
 use Rattle.gq_model.specs.machine.World as world
 use Rattle.gq_model.specs.machine.Doing.{Doing, Stepped}
 use Rattle.gq_model.specs.declared.fault.Wrong.TheVariants.{WrongKind}
@@ -9,10 +9,10 @@ use Rattle.gq_model.specs.machine.Memory.{bytes_at, pool_at}
 use Rattle.gq_contents.specs.declared.content.Content.{Content}
 use Rattle.gq_contents.specs.declared.content.Content.TheVariants.{Empty, Block, Slice, Space, Pool, Link, Waiting}
 use Rattle.gq_contents.specs.Contents.{bytes_in, entry_count, entry_size, size_of}
-use Rattle.gq_trade.specs.declared.session.Spot.{Spot}
-use Rattle.gq_trade.specs.Seen.{spot_seen}
+use Rattle.gq_trade.specs.declared.session.SlotId.{SlotId}
+use Rattle.gq_trade.specs.Seen_sessions.{slot_id_seen}
 use Rattle.gq_trade.specs.Trades.{IsLive}
-use Rattle.gq_slots.specs.Slots.{Frame, IsSlot, IsSpot, Slots, content_at, holder, slot_of, world_seen}
+use Rattle.gq_slots.specs.Slots.{Frame, IsSlot, IsSlotId, Slots, content_at, holder, slot_of, world_seen}
 
 -- how many bytes it has, if it is one of bytes
 abbrev pub byte_count : Content → Option ℕ
@@ -33,22 +33,22 @@ with_bytes new (world.Link k) = world.Link k
 with_bytes new (world.Waiting k) = world.Waiting k
 
 -- n bytes in a slot that is there, of a leaf that is live
-pub record AreBytes (s : Slots) (p : Spot) (n : ℕ) : Type 0 where
-  pub there : IsSpot s p
+pub record AreBytes (s : Slots) (p : SlotId) (n : ℕ) : Type 0 where
+  pub there : IsSlotId s p
   pub live : IsLive s.trades (holder s p)
   pub size : n ≡ size_of (content_at s p)
 
 -- n bytes in a slot that is there, which the leaf x pays for
-pub record AreOwnBytes (s : Slots) (x : ℕ) (p : Spot) (n : ℕ) : Type 0 where
-  pub there : IsSpot s p
+pub record AreOwnBytes (s : Slots) (x : ℕ) (p : SlotId) (n : ℕ) : Type 0 where
+  pub there : IsSlotId s p
   pub own : holder s p ≡ x
   pub size : n ≡ size_of (content_at s p)
 
 -- A step goes on with the bytes of this slot in the world w, or none are named.
-abbrev pub IsFound : Doing → world.World → Place → Slots → Option (Spot × ℕ) → Type 0
+abbrev pub IsFound : Doing → world.World → OperandSlot → Slots → Option (SlotId × ℕ) → Type 0
 IsFound d w place s None = (go : List ℕ → (List ℕ → world.World) → Stepped) → bytes_at d w place go ≡ Err WrongKind
 IsFound d w place s (Some f) = (go : List ℕ → (List ℕ → world.World) → Stepped) → bytes_at d w place go
-    ≡ go (bytes_in (slot_of s f.0)) (λ new. world.with_slot w (spot_seen f.0) (with_bytes new (slot_of s f.0)))
+    ≡ go (bytes_in (slot_of s f.0)) (λ new. world.with_slot w (slot_id_seen f.0) (with_bytes new (slot_of s f.0)))
 
 -- the entries of a pool
 abbrev pub entries_in : world.Slot → List (Option (List ℕ))
@@ -59,17 +59,17 @@ entries_in (world.Link k) = []
 entries_in (world.Waiting k) = []
 
 -- a pool of m entries of n bytes in a slot that is there, which the leaf x pays for
-pub record IsOwnPool (s : Slots) (x : ℕ) (p : Spot) (n m : ℕ) : Type 0 where
-  pub there : IsSpot s p
+pub record IsOwnPool (s : Slots) (x : ℕ) (p : SlotId) (n m : ℕ) : Type 0 where
+  pub there : IsSlotId s p
   pub kind : IsSlot p
   pub holder_is : holder s p ≡ x
   pub size : n ≡ entry_size (content_at s p)
   pub count : m ≡ entry_count (content_at s p)
-  pub reads : (f : Frame) → world.slot_at (world_seen f s) (spot_seen p) ≡ Some (slot_of s p)
+  pub reads : (f : Frame) → world.slot_at (world_seen f s) (slot_id_seen p) ≡ Some (slot_of s p)
   pub slot : slot_of s p ≡ world.Pool n (entries_in (slot_of s p))
 
 -- A step goes on with the pool of this slot in the world w, whose entries have so many bytes, or none is named.
-abbrev pub IsPool : Doing → world.World → Place → Slots → Option (Spot × ℕ × ℕ) → Type 0
+abbrev pub IsPool : Doing → world.World → OperandSlot → Slots → Option (SlotId × ℕ × ℕ) → Type 0
 IsPool d w place s None = (go : ℕ → List (Option (List ℕ)) → (List (Option (List ℕ)) → world.World) → Stepped) → pool_at d w place go ≡ Err WrongKind
 IsPool d w place s (Some p) = (go : ℕ → List (Option (List ℕ)) → (List (Option (List ℕ)) → world.World) → Stepped) → pool_at d w place go
-    ≡ go p.1 (entries_in (slot_of s p.0)) (λ new. world.with_slot w (spot_seen p.0) (world.Pool p.1 new))
+    ≡ go p.1 (entries_in (slot_of s p.0)) (λ new. world.with_slot w (slot_id_seen p.0) (world.Pool p.1 new))

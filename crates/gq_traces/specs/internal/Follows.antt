@@ -1,6 +1,6 @@
--- Turns that are taken untold.
+-- Turns that are taken unreported.
 use Rattle.std.specs.Prelude.{◌≡◌}
-use Rattle.gq_world.specs.Worlds.{World}
+use Rattle.gq_world.specs.World_between_turns.{World}
 use Rattle.gq_traces.specs.Trace.{Traced}
 use Rattle.gq_traces.specs.declared.follow.Followed.{Followed}
 use Rattle.gq_traces.specs.internal.Flat.{AllStand, AreAheads, ArePrograms, programs_of}

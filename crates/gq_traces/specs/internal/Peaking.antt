@@ -7,8 +7,8 @@ use Rattle.gq_model.specs.machine.Run.{Ran, Acts, act_on, turn_from}
 use Rattle.gq_model.specs.machine.Scenario.{Scenario, System, system}
 use Rattle.gq_model.specs.machine.World as model
 use Rattle.gq_model.specs.texts.Turns.{turns_given}
-use Rattle.gq_world.specs.Worlds.{World}
-use Rattle.gq_traces.specs.Peaks.{peak_in, quota_in, used_in}
+use Rattle.gq_world.specs.World_between_turns.{World}
+use Rattle.gq_traces.specs.Account_peaks.{peak_in, quota_in, used_in}
 use Rattle.gq_traces.specs.declared.peaks.LeafPeaks.{LeafPeaks}
 use Rattle.gq_traces.specs.declared.peaks.Peak.{Peak}
 

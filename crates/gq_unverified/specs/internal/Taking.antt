@@ -5,30 +5,30 @@ use Rattle.gq_model.specs.declared.fault.Wrong.{Wrong}
 use Rattle.gq_model.specs.machine.Run.{Ran, Acts}
 use Rattle.gq_model.specs.machine.World.{World}
 use Rattle.gq_model.specs.texts.Turns.{turns_given}
-use Rattle.gq_init.specs.Counts.{failures_of}
+use Rattle.gq_init.specs.Writer_failures.{failures_of}
 use Rattle.gq_init.specs.Writes.{IsRaised}
 use Rattle.gq_init.specs.declared.counted.Counted.{Counted}
-use Rattle.gq_laws.specs.Turns.{steps_of}
-use Rattle.gq_world.specs.internal.Going.{going}
+use Rattle.gq_laws.specs.Turn_effects.{steps_of}
+use Rattle.gq_world.specs.internal.Act_transitions.{going}
 
 -- the turns were taken, up to this wrong step if there is one, and what they write was written
 pub record HasCome (turns : Ran → Ran) (old new : World) (wrong : Option (ℕ × Wrong)) (before after : Option (List ℕ)) : Type 0 where
   pub text : List ℕ
   pub written : Appends before after text
-  pub ran : (front : List ℕ) → turns (going old front) ≡ record { world = new; text = front ++ text; wrong = wrong }
+  pub ran : (prefix : List ℕ) → turns (going old prefix) ≡ record { world = new; text = prefix ++ text; wrong = wrong }
 
 -- what is left of the turns, from here, does what all of them do from the old world
 pub record HasLeft (left all : Ran → Ran) (old now : World) (before after : Option (List ℕ)) : Type 0 where
   pub text : List ℕ
   pub written : Appends before after text
-  pub same : (front : List ℕ) → left (going now (front ++ text)) ≡ all (going old front)
+  pub same : (prefix : List ℕ) → left (going now (prefix ++ text)) ≡ all (going old prefix)
 
 -- a prefix of what the turns write was written
 pub record IsCut (turns : Ran → Ran) (old : World) (before after : Option (List ℕ)) : Type 0 where
   pub text : List ℕ
   pub more : List ℕ → List ℕ
   pub written : Appends before after text
-  pub front : (front : List ℕ) → (turns (going old front)).text ≡ front ++ text ++ more front
+  pub prefix : (prefix : List ℕ) → (turns (going old prefix)).text ≡ prefix ++ text ++ more prefix
 
 -- the steps of so many turns more can be counted
 abbrev pub HasRoom : World → ℕ → Type 0

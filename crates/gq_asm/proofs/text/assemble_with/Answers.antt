@@ -1,9 +1,9 @@
 use Rattle.std.proofs.Common.{◌≡◌, suc, arith, option_copied, Err, sym, subst, ◌∙◌}
 use Rattle.gq_model.proofs.Assembled_programs.{assembled_is}
 use Rattle.gq_model.specs.texts.Text.{assembled}
-use Rattle.gq_asm.specs.Faults.{Assembles}
-use Rattle.gq_asm.specs.declared.faults.AssembleError.{AssembleError}
-use Rattle.gq_asm.specs.internal.State.{reading_of}
+use Rattle.gq_asm.specs.Assembly_faults.{Assembles}
+use Rattle.gq_asm.specs.declared.asm_fault.AssembleError.{AssembleError}
+use Rattle.gq_asm.specs.internal.Assembly_state.{reading_of}
 use Rattle.gq_asm.proofs.Asm_lines.{goes_on, fails_here, shorter}
 use Rattle.gq_asm.proofs.text.assemble_with.Goals as goal
 

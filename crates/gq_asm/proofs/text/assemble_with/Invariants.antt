@@ -1,7 +1,7 @@
 use Rattle.std.proofs.Common.{◌≡◌, option_copied}
 use Rattle.gq_model.specs.texts.Text.{lines_read, assembled}
-use Rattle.gq_asm.specs.internal.Lines.{lines_left, size_left}
-use Rattle.gq_asm.specs.internal.State.{reading_of}
+use Rattle.gq_asm.specs.internal.Source_lines.{lines_left, size_left}
+use Rattle.gq_asm.specs.internal.Assembly_state.{reading_of}
 use Rattle.gq_asm.proofs.text.assemble_with.Given as goal
 
 abbrev pub invariant-loop-left : goal.invariant-loop-left

@@ -1,6 +1,6 @@
 use Rattle.std.proofs.Common.{◌≡◌, ◌++◌, drop, true}
 use Rattle.gq_model.specs.texts.Text.{in_order}
-use Rattle.gq_asm.specs.internal.Order.{is_distinct}
+use Rattle.gq_asm.specs.internal.Section_order.{is_distinct}
 use Rattle.gq_asm.proofs.text.in_order.Given as goal
 
 abbrev pub invariant-loop-section : goal.invariant-loop-section

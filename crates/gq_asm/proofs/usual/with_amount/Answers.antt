@@ -1,7 +1,7 @@
 use Rattle.std.proofs.Common.{sym, subst}
 use Rattle.gq_model.specs.declared.program.Instruction.{Instruction}
 use Rattle.gq_program.specs.declared.shapes.Shape.TheVariants.{Amount}
-use Rattle.gq_program.specs.Spelling.{shape_of, amount_low, amount_high, amount_instruction}
+use Rattle.gq_program.specs.Statement_table.{shape_of, amount_low, amount_high, amount_instruction}
 use Rattle.gq_asm.specs.internal.Words_operands.{Completes}
 use Rattle.gq_asm.proofs.Usual_lines.{amount_completes, on_blank}
 use Rattle.gq_asm.proofs.usual.with_amount.Goals as goal

@@ -1,7 +1,7 @@
 use Rattle.std.proofs.Common.{true, sym, subst}
 use Rattle.gq_model.specs.declared.program.Instruction.{Instruction}
 use Rattle.gq_program.specs.declared.shapes.Shape.TheVariants.{Bytes}
-use Rattle.gq_program.specs.Spelling.{shape_of, bytes_instruction}
+use Rattle.gq_program.specs.Statement_table.{shape_of, bytes_instruction}
 use Rattle.gq_asm.specs.internal.Words_operands.{Completes}
 use Rattle.gq_asm.proofs.Usual_lines.{slot_completes}
 use Rattle.gq_asm.proofs.usual.with_bytes.Goals as goal

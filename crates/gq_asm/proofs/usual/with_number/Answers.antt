@@ -4,7 +4,7 @@ use Rattle.gq_program.specs.declared.shapes.Shape.TheVariants.{Number}
 use Rattle.gq_model.specs.declared.program.Instruction.TheVariants.{Operands}
 use Rattle.gq_model.specs.declared.program.OperandStatement.TheVariants.{Numbered}
 use Rattle.gq_model.specs.texts.Operands.{number_entry}
-use Rattle.gq_program.specs.Spelling.{shape_of}
+use Rattle.gq_program.specs.Statement_table.{shape_of}
 use Rattle.gq_asm.specs.internal.Words_operands.{Completes}
 use Rattle.gq_asm.proofs.Usual_lines.{number_completes}
 use Rattle.gq_asm.proofs.usual.with_number.Goals as goal

@@ -1,7 +1,7 @@
 use Rattle.std.proofs.Common.{ℕ, List, sym, subst}
 use Rattle.gq_model.specs.declared.program.Instruction.TheVariants as program
 use Rattle.gq_program.specs.declared.shapes.Shape.TheVariants.{Open}
-use Rattle.gq_program.specs.Spelling.{shape_of}
+use Rattle.gq_program.specs.Statement_table.{shape_of}
 use Rattle.gq_asm.specs.internal.Words_operands.{Completes}
 use Rattle.gq_asm.proofs.Usual_lines.{named, on_blank, service_completes}
 use Rattle.gq_asm.proofs.usual.with_service.Goals as goal

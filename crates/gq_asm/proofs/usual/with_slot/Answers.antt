@@ -1,7 +1,7 @@
 use Rattle.std.proofs.Common.{false, sym, subst}
 use Rattle.gq_model.specs.declared.program.Instruction.{Instruction}
 use Rattle.gq_program.specs.declared.shapes.Shape.TheVariants.{Slot}
-use Rattle.gq_program.specs.Spelling.{shape_of, slot_instruction}
+use Rattle.gq_program.specs.Statement_table.{shape_of, slot_instruction}
 use Rattle.gq_asm.specs.internal.Words_operands.{Completes}
 use Rattle.gq_asm.proofs.Usual_lines.{slot_completes}
 use Rattle.gq_asm.proofs.usual.with_slot.Goals as goal

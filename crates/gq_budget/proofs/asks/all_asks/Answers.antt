@@ -2,8 +2,8 @@ use Rattle.std.proofs.Common.{map}
 use Rattle.std.proofs.lemmas.Slice.Zip.{either_empty_from_Zip}
 use Rattle.std.specs.Slice.Iter.{iter_rest}
 use Rattle.std.specs.Iterator.Adapters.{zip_first, zip_second}
-use Rattle.gq_budget.specs.internal.Rounds.{all_asks}
-use Rattle.gq_budget.proofs.Lists.{none_left, asks_none}
+use Rattle.gq_budget.specs.internal.Run_rounds.{all_asks}
+use Rattle.gq_budget.proofs.Zipped_lists.{none_left, asks_none}
 use Rattle.gq_budget.proofs.asks.all_asks.Goals as goal
 
 pub returns : goal.returns

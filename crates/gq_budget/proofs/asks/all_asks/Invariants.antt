@@ -1,7 +1,7 @@
 use Rattle.std.proofs.Common.{◌≡◌, ◌++◌, map}
 use Rattle.std.specs.Slice.Iter.{iter_rest}
 use Rattle.std.specs.Iterator.Adapters.{zip_first, zip_second}
-use Rattle.gq_budget.specs.internal.Rounds.{all_asks}
+use Rattle.gq_budget.specs.internal.Run_rounds.{all_asks}
 use Rattle.gq_budget.proofs.asks.all_asks.Given as goal
 
 -- the leaves so far, with those that are left, are all

@@ -1,8 +1,8 @@
 use Rattle.std.proofs.Common.{arith, ap, sym, ◌+◌, ◌*◌, ◌-◌, ◌^◌, ◌∙◌, min, drop, get_or}
-use Rattle.gq_verify.specs.Counting.{saturated}
-use Rattle.gq_budget.specs.internal.Order.{no_asker}
-use Rattle.gq_budget.specs.internal.Rounds.{asked_sum}
-use Rattle.gq_budget.proofs.Asked.{asked_more, asked_past}
+use Rattle.gq_verify.specs.Saturated_numbers.{saturated}
+use Rattle.gq_budget.specs.internal.Asking_order.{no_asker}
+use Rattle.gq_budget.specs.internal.Run_rounds.{asked_sum}
+use Rattle.gq_budget.proofs.Section_request_counts.{asked_more, asked_past}
 use Rattle.gq_budget.proofs.asks.asked.Goals as goal
 use Rattle.gq_budget.proofs.asks.asked.Goals.{then-is_for, else-is_for}
 

@@ -1,6 +1,6 @@
 use Rattle.std.proofs.Common.{◌≡◌, ◌≤◌, ◌+◌, ◌-◌, ◌^◌, drop}
-use Rattle.gq_verify.specs.Counting.{saturated}
-use Rattle.gq_budget.specs.internal.Rounds.{asked_sum}
+use Rattle.gq_verify.specs.Saturated_numbers.{saturated}
+use Rattle.gq_budget.specs.internal.Run_rounds.{asked_sum}
 use Rattle.gq_budget.proofs.asks.asked.Given as goal
 
 -- the sum so far, with how often those that are left ask, is that of all

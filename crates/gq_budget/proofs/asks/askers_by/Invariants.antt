@@ -1,5 +1,5 @@
 use Rattle.std.proofs.Common.{◌≡◌, ◌++◌, drop}
-use Rattle.gq_budget.specs.internal.Rounds.{askers_by}
+use Rattle.gq_budget.specs.internal.Run_rounds.{askers_by}
 use Rattle.gq_budget.proofs.asks.askers_by.Given as goal
 
 -- who asks so far, with who of the leaves that are left asks, are all

@@ -2,10 +2,10 @@ use Rattle.std.proofs.Common.{ap, ◌∙◌}
 use Rattle.std.proofs.lemmas.Slice.Zip.{Zip-more, either_empty_from_Zip}
 use Rattle.std.specs.Slice.Iter.{iter_rest}
 use Rattle.std.specs.Iterator.Adapters.{zip_first, zip_second}
-use Rattle.gq_verify.specs.Counting.{saturated}
-use Rattle.gq_budget.specs.internal.Sums.{products}
-use Rattle.gq_budget.specs.internal.Rounds.{budgets_by}
-use Rattle.gq_budget.proofs.Lists.{one_more, none_left, budgets_none, budgets_first}
+use Rattle.gq_verify.specs.Saturated_numbers.{saturated}
+use Rattle.gq_budget.specs.internal.Product_sums.{products}
+use Rattle.gq_budget.specs.internal.Run_rounds.{budgets_by}
+use Rattle.gq_budget.proofs.Zipped_lists.{one_more, none_left, budgets_none, budgets_first}
 use Rattle.gq_budget.proofs.budgets.budgets.Goals as goal
 
 pub loop-leaf-preserved : goal.loop-leaf-preserved

@@ -1,7 +1,7 @@
 use Rattle.std.proofs.Common.{◌≡◌, ◌++◌}
 use Rattle.std.specs.Slice.Iter.{iter_rest}
 use Rattle.std.specs.Iterator.Adapters.{zip_first, zip_second}
-use Rattle.gq_budget.specs.internal.Rounds.{budgets_by}
+use Rattle.gq_budget.specs.internal.Run_rounds.{budgets_by}
 use Rattle.gq_budget.proofs.budgets.budgets.Given as goal
 
 -- the budgets so far, with those of the leaves that are left, are those of all

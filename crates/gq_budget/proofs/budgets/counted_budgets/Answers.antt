@@ -1,6 +1,6 @@
 use Rattle.std.proofs.Common.{ap, ◌∙◌}
-use Rattle.gq_budget.specs.internal.Rounds.{budgets_by}
-use Rattle.gq_budget.proofs.Kept.{budgets_kept}
+use Rattle.gq_budget.specs.internal.Run_rounds.{budgets_by}
+use Rattle.gq_budget.proofs.Saturated_run_counts.{budgets_kept}
 use Rattle.gq_budget.proofs.budgets.counted_budgets.Goals as goal
 
 pub returns : goal.returns

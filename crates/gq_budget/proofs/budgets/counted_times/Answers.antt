@@ -1,7 +1,7 @@
 use Rattle.std.proofs.Common.{map, ap, ◌∙◌, suc, [], length}
-use Rattle.gq_budget.specs.internal.Rounds.{rounds}
-use Rattle.gq_budget.proofs.Kept.{times_kept}
-use Rattle.gq_budget.proofs.Leads.{as_many}
+use Rattle.gq_budget.specs.internal.Run_rounds.{rounds}
+use Rattle.gq_budget.proofs.Saturated_run_counts.{times_kept}
+use Rattle.gq_budget.proofs.Route_use_relation.{as_many}
 use Rattle.gq_budget.proofs.budgets.counted_times.Goals as goal
 
 pub returns : goal.returns

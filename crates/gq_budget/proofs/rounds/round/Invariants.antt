@@ -1,5 +1,5 @@
 use Rattle.std.proofs.Common.{◌≡◌, ◌++◌, drop}
-use Rattle.gq_budget.specs.internal.Rounds.{round}
+use Rattle.gq_budget.specs.internal.Run_rounds.{round}
 use Rattle.gq_budget.proofs.rounds.round.Given as goal
 
 -- the leaves so far, with those that are left, are all

@@ -1,6 +1,6 @@
 use Rattle.std.proofs.Common.{sym, ap, ◌∙◌}
-use Rattle.gq_budget.specs.internal.Rounds.{round}
-use Rattle.gq_budget.proofs.Ends.{rounds_end}
+use Rattle.gq_budget.specs.internal.Run_rounds.{round}
+use Rattle.gq_budget.proofs.Stable_last_round.{rounds_end}
 use Rattle.gq_budget.proofs.rounds.rounds.Goals as goal
 
 pub returns-then-are_same : goal.returns-then-are_same

@@ -1,5 +1,5 @@
 use Rattle.std.proofs.Common.{◌≡◌, [], suc}
-use Rattle.gq_budget.specs.internal.Rounds.{rounds}
+use Rattle.gq_budget.specs.internal.Run_rounds.{rounds}
 use Rattle.gq_budget.proofs.rounds.rounds.Given as goal
 
 -- the table after the rounds so far

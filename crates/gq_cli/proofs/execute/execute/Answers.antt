@@ -1,7 +1,7 @@
 -- A command was done, was refused, or a write failed.
 use Rattle.std.proofs.Common.{ap, Err, inl, inr, refl, subst, ◌∙◌}
-use Rattle.gq_cli.specs.Executed.{Executes, IsTold, writes_refusals}
-use Rattle.gq_cli.proofs.Inputs.{all_told, cut_short, done_either, part_told, refused_either}
+use Rattle.gq_cli.specs.Executed.{Executes, IsReported, writes_refusals}
+use Rattle.gq_cli.proofs.Command_input_results.{all_reported, cut_short, done_either, part_reported, refused_either}
 use Rattle.gq_cli.proofs.execute.execute.Goals as goal
 
 pub returns-in-Ok-clause-done : goal.returns-in-Ok-clause-done
@@ -24,15 +24,15 @@ returns-in-Err-Refused-clause-refused g c same =
     let e = c.in-Err-Refused in
     refused_either c.args.rules.now c.args.command.now (g.R.Read.remaining c.args.scenario.now) (g.R.Read.remaining c.perform.new.scenario)
     (g.T.Read.remaining c.args.turns.now) (g.T.Read.remaining c.perform.new.turns) (g.W.Write.contents c.args.out.now.writer)
-    (g.W.Write.contents c.perform.new.out.writer) c.args.out.now.failures c.perform.new.out.failures g.E.Write.contents c.args.err.now c.tell_line.new.err
+    (g.W.Write.contents c.perform.new.out.writer) c.args.out.now.failures c.perform.new.out.failures g.E.Write.contents c.args.err.now c.report_line.new.err
     e.field-0 e.line e.field-0-is
-    (subst (IsTold g.E.Write.contents c.args.err.now c.tell_line.new.err) c.as_bytes.ensures.value c.tell_line.ensures)
+    (subst (IsReported g.E.Write.contents c.args.err.now c.report_line.new.err) c.as_bytes.ensures.value c.report_line.ensures)
     (writes_refusals c.args.command.now) refl e.ensures.ended e.ensures.faults
 
 pub returns-in-Err-Refused-clause-faults : goal.returns-in-Err-Refused-clause-faults
 returns-in-Err-Refused-clause-faults g c writes same =
     let e = c.in-Err-Refused in
-    all_told c.args.rules.now c.args.command.now (g.R.Read.remaining c.args.scenario.now) (g.R.Read.remaining c.perform.new.scenario)
+    all_reported c.args.rules.now c.args.command.now (g.R.Read.remaining c.args.scenario.now) (g.R.Read.remaining c.perform.new.scenario)
     (g.T.Read.remaining c.args.turns.now) (g.T.Read.remaining c.perform.new.turns) (g.W.Write.contents c.args.out.now.writer)
     (g.W.Write.contents c.perform.new.out.writer) c.args.out.now.failures c.perform.new.out.failures e.field-0 e.line e.field-0-is
     (e.ensures.faults writes)
@@ -40,7 +40,7 @@ returns-in-Err-Refused-clause-faults g c writes same =
 pub returns-in-Err-Write-clause-faults_cut : goal.returns-in-Err-Write-clause-faults_cut
 returns-in-Err-Write-clause-faults_cut g c writes same =
     let e = c.in-Err-Write in
-    inr (part_told c.args.rules.now c.args.command.now (g.R.Read.remaining c.args.scenario.now) (g.R.Read.remaining c.perform.new.scenario)
+    inr (part_reported c.args.rules.now c.args.command.now (g.R.Read.remaining c.args.scenario.now) (g.R.Read.remaining c.perform.new.scenario)
     (g.T.Read.remaining c.args.turns.now) (g.T.Read.remaining c.perform.new.turns) (g.W.Write.contents c.args.out.now.writer)
     (g.W.Write.contents c.perform.new.out.writer) c.args.out.now.failures c.perform.new.out.failures e.field-0 e.field-0-is (e.ensures.faults writes))
 

@@ -1,9 +1,9 @@
 -- Both texts were read whole.
 use Rattle.std.proofs.Common.{rules}
 use Rattle.std.proofs.lemmas.List.{places}
-use Rattle.gq_cli.specs.Ends.{Ended}
+use Rattle.gq_cli.specs.Early_command_ends.{Ended}
 use Rattle.gq_cli.specs.Executed.{Of_both}
-use Rattle.gq_cli.proofs.Inputs.{reads_both, upheld_otherwise}
+use Rattle.gq_cli.proofs.Command_input_results.{reads_both, upheld_otherwise}
 use Rattle.gq_cli.proofs.execute.of_both.Goals as goal
 
 pub returns-clause-ended : goal.returns-clause-ended

@@ -2,10 +2,10 @@
 use Rattle.std.proofs.Common.{refl, rules}
 use Rattle.std.proofs.lemmas.List.{places}
 use Rattle.std.proofs.lemmas.Result.{on_ok_weaker}
-use Rattle.gq_cli.specs.Ends.{Ended}
+use Rattle.gq_cli.specs.Early_command_ends.{Ended}
 use Rattle.gq_command.specs.declared.command.TurnsCommand.TheVariants.{Run}
 use Rattle.gq_cli.specs.Executed.{IsUpheldBy, Of_both}
-use Rattle.gq_cli.proofs.Inputs.{reads_both}
+use Rattle.gq_cli.proofs.Command_input_results.{reads_both}
 use Rattle.gq_cli.proofs.execute.run_files.Goals as goal
 
 pub returns-clause-ended : goal.returns-clause-ended

@@ -1,5 +1,5 @@
 -- The scenario was loaded.
-use Rattle.gq_cli.proofs.Runs.{promised_as}
+use Rattle.gq_cli.proofs.Read_turn_run.{promised_as}
 use Rattle.gq_cli.proofs.execute.run_reader.Goals as goal
 
 pub returns-in-Ok-clause-upheld : goal.returns-in-Ok-clause-upheld

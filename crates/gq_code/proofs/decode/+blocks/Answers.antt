@@ -1,8 +1,8 @@
 use Rattle.std.proofs.Common.{arith}
 use Rattle.std.proofs.lemmas.Result.{err_from_is_err_and}
 use Rattle.gq_code.specs.internal.Bodies.{body_in}
-use Rattle.gq_code.proofs.Decoding.{rest_length}
-use Rattle.gq_code.proofs.Bodies.{loop_placed, placed_stop, loop_stop, loop_end}
+use Rattle.gq_code.proofs.Code_byte_parts.{rest_length}
+use Rattle.gq_code.proofs.Coded_body_decoding.{loop_placed, placed_stop, loop_stop, loop_end}
 use Rattle.gq_code.proofs.decode.+blocks.Goals as goal
 
 pub read_body-returns-in_err-with : goal.read_body-returns-in_err-with

@@ -1,8 +1,8 @@
 use Rattle.std.proofs.Common.{arith}
 use Rattle.std.proofs.lemmas.Result.{err_from_is_err_and}
 use Rattle.gq_model.proofs.Decoded_programs.{decoded_is}
-use Rattle.gq_code.proofs.Ranges.{all_between}
-use Rattle.gq_code.proofs.Sections.{program, decoded_ok, decoded_err}
+use Rattle.gq_code.proofs.Operand_type_ranges.{all_between}
+use Rattle.gq_code.proofs.Coded_section_limits.{program, decoded_ok, decoded_err}
 use Rattle.gq_code.proofs.decode.decode.Goals as goal
 
 pub from_parts-requires : goal.from_parts-requires

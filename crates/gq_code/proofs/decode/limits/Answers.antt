@@ -1,7 +1,7 @@
 use Rattle.std.proofs.Common.{◌∙◌, refl, length-set}
 use Rattle.std.proofs.lemmas.Result.{err_from_is_err_and}
 use Rattle.gq_model.specs.texts.Decode.{limits_at}
-use Rattle.gq_code.proofs.Sections.{limits_turn, limits_stop, limits_end, limits_start}
+use Rattle.gq_code.proofs.Coded_section_limits.{limits_turn, limits_stop, limits_end, limits_start}
 use Rattle.gq_code.proofs.decode.limits.Goals as goal
 
 pub loop-i-init : goal.loop-i-init

@@ -1,6 +1,6 @@
 use Rattle.std.proofs.lemmas.Result.{err_from_is_err_and}
-use Rattle.gq_program.specs.Spelling.{shape_of}
-use Rattle.gq_code.proofs.Bodies.{coded_ok, coded_err}
+use Rattle.gq_program.specs.Statement_table.{shape_of}
+use Rattle.gq_code.proofs.Coded_body_decoding.{coded_ok, coded_err}
 use Rattle.gq_code.proofs.decode.push_coded.Goals as goal
 
 pub returns-in_err-rest-clause-read : goal.returns-in_err-rest-clause-read

@@ -3,7 +3,7 @@ use Rattle.std.proofs.lemmas.Grind.{common_steps}
 use Rattle.std.proofs.Common.{◌%◌}
 use Rattle.std.proofs.lemmas.Result.{err_from_is_err_and}
 use Rattle.gq_model.specs.texts.Decode.{sections_at}
-use Rattle.gq_code.proofs.Sections.{bit_is, bit_not, sections_turn, sections_skip, sections_stop}
+use Rattle.gq_code.proofs.Coded_section_limits.{bit_is, bit_not, sections_turn, sections_skip, sections_stop}
 use Rattle.gq_code.proofs.decode.sections.Goals.{then-bits-eq1+in_ok-body+in_ok-push, else-bits-eq1}
 use Rattle.gq_code.proofs.decode.sections.Goals as goal
 

@@ -1,7 +1,7 @@
 use Rattle.std.proofs.Common.{ap, arith}
 use Rattle.gq_model.specs.machine.Program.{size}
-use Rattle.gq_code.proofs.Codes.{has_here}
-use Rattle.gq_program.proofs.Sizes.{size_here}
+use Rattle.gq_code.proofs.Coded_statements.{has_here}
+use Rattle.gq_program.proofs.Statement_list_sizes.{size_here}
 use Rattle.gq_code.proofs.encode.+bodies.Goals as goal
 
 pub encode_body-write_statement-requires : goal.encode_body-write_statement-requires

@@ -1,7 +1,7 @@
 use Rattle.std.proofs.Common.{◌≡◌, ◌++◌, ◌+◌, ◌*◌, ◌∷◌, [], drop, IsTrue}
 use Rattle.gq_model.specs.machine.Program.{size}
 use Rattle.gq_model.specs.texts.Code.{body_code}
-use Rattle.gq_program.specs.Trees.{tree_of}
+use Rattle.gq_program.specs.Statement_trees.{tree_of}
 use Rattle.gq_code.specs.Codes.{has_code}
 use Rattle.gq_code.proofs.encode.+bodies.Given as goal
 

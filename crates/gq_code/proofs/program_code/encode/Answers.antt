@@ -1,6 +1,6 @@
 use Rattle.std.proofs.Common.{sym, subst, IsTrue}
-use Rattle.gq_code.specs.internal.Sections.{have_codes}
-use Rattle.gq_code.proofs.Programs.{sections_have, sections_of}
+use Rattle.gq_code.specs.internal.Coded_sections.{have_codes}
+use Rattle.gq_code.proofs.Section_order_bits.{sections_have, sections_of}
 use Rattle.gq_code.proofs.program_code.encode.Goals as goal
 
 pub write_sections-requires : goal.write_sections-requires

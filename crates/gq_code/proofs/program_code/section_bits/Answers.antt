@@ -1,4 +1,4 @@
-use Rattle.gq_code.proofs.Programs.{bits_fit}
+use Rattle.gq_code.proofs.Section_order_bits.{bits_fit}
 use Rattle.gq_code.proofs.program_code.section_bits.Goals as goal
 
 pub overflow_add-bits : goal.overflow_add-bits

@@ -1,6 +1,6 @@
 use Rattle.std.proofs.Common.{◌≡◌, ◌++◌, drop, IsTrue}
 use Rattle.gq_model.specs.texts.Code.{sections_code}
-use Rattle.gq_code.specs.internal.Sections.{have_codes}
+use Rattle.gq_code.specs.internal.Coded_sections.{have_codes}
 use Rattle.gq_code.proofs.program_code.write_sections.Given as goal
 
 -- the bytes so far, with those of the sections that are left, are all

@@ -2,7 +2,7 @@ use Rattle.std.proofs.Common.{ap, sym, subst, ◌≡◌, ◌≢◌, ◌∙◌, m
 use Rattle.std.proofs.lemmas.Result.{IfOk-weaker, IfErr-weaker}
 use Rattle.clap.specs.Words.{Text, app_of, fault_of, is_simple, is_simple_and_free, subcommand_of, subcommand_rows_of, HasKind}
 use Rattle.gq_command.specs.CommandLine.{trade}
-use Rattle.gq_command.proofs.Asked.{asked-ok, asked-err, misused-ok, misused-err, some_words, trade_free, trade_simple}
+use Rattle.gq_command.proofs.Parser_answer_command.{asked-ok, asked-err, misused-ok, misused-err, some_words, trade_free, trade_simple}
 use Rattle.gq_command.proofs.command_line.command.Goals as goal
 
 pub returns-in-Ok-clause-asked : goal.returns-in-Ok-clause-asked

@@ -1,6 +1,6 @@
 use Rattle.std.proofs.Common.{◌∙◌}
 use Rattle.clap.specs.Words.{found_of}
-use Rattle.gq_command.proofs.Rows.{first-row}
+use Rattle.gq_command.proofs.Parser_value_rows.{first-row}
 use Rattle.gq_command.proofs.command_line.first_named.Goals as goal
 
 pub returns : goal.returns

@@ -1,4 +1,4 @@
-use Rattle.gq_command.proofs.Numbers.{number_not_read, number_read}
+use Rattle.gq_command.proofs.Number_word_reading.{number_not_read, number_read}
 use Rattle.gq_command.proofs.command_line.number_of.Goals as goal
 
 pub returns-in-Ok : goal.returns-in-Ok

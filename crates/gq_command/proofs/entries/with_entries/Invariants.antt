@@ -2,7 +2,7 @@
 use Rattle.std.proofs.Common.{◌≡◌, map, drop}
 use Rattle.clap.specs.Words.{app_of}
 use Rattle.gq_command.specs.CommandLine.{with_commands}
-use Rattle.gq_command.specs.internal.Entries.{entered}
+use Rattle.gq_command.specs.internal.Command_entries.{entered}
 use Rattle.gq_command.proofs.entries.with_entries.Given as goal
 
 abbrev pub invariant-loop-entry : goal.invariant-loop-entry

@@ -1,5 +1,5 @@
 use Rattle.std.proofs.Common.{refl, sym, ◌∙◌, subst, option_map}
-use Rattle.gq_command.specs.Stored.{IsFirstLine}
+use Rattle.gq_command.specs.Stored_run.{IsFirstLine}
 use Rattle.gq_command.proofs.Stored_laws.{border-turns, parted-step, fallback}
 use Rattle.gq_command.proofs.stored.parted.Goals as goal
 

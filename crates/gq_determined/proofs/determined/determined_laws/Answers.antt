@@ -1,6 +1,6 @@
-use Rattle.gq_determined.proofs.accounting.Left.{leaves_same}
-use Rattle.gq_determined.proofs.writing.All_lines.{all_write_same}
-use Rattle.gq_determined.proofs.writing.Written.{writes_same}
+use Rattle.gq_determined.proofs.rest_accounts.Rest_account_law.{leaves_same}
+use Rattle.gq_determined.proofs.written_lines.All_lines.{all_write_same}
+use Rattle.gq_determined.proofs.written_lines.Written_lines_law.{writes_same}
 use Rattle.gq_determined.proofs.determined.determined_laws.Goals as goal
 
 pub returns-clause-writes : goal.returns-clause-writes

@@ -1,6 +1,6 @@
 use Rattle.std.proofs.Common.{◌≡◌, ◌+◌, ◌≤◌, length, map, filter, drop}
 use Rattle.gq_faults.specs.Documents.{is_inner}
-use Rattle.gq_faults.specs.Nodes.{node_of}
+use Rattle.gq_faults.specs.Document_nodes.{node_of}
 use Rattle.gq_faults.proofs.counts.count_inits.Given as goal
 
 abbrev pub invariant-loop-node : goal.invariant-loop-node

@@ -1,12 +1,12 @@
 use Rattle.std.proofs.Common.{◌+◌, List, map, drop}
-use Rattle.gq_load.specs.internal.Judged.{leaf_refusal}
+use Rattle.gq_load.specs.internal.Judged_programs.{leaf_refusal}
 use Rattle.gq_model.specs.machine.Scenario.{Component}
 use Rattle.gq_model.specs.texts.Fault_texts.{refusal_text}
 use Rattle.gq_model.specs.rules.Accept.{Refusal}
-use Rattle.gq_faults.specs.Lists.{all_found, listed_if}
+use Rattle.gq_faults.specs.Found_lists.{all_found, listed_if}
 use Rattle.gq_faults.specs.Found_lines.{lines_found}
-use Rattle.gq_faults.proofs.Adding.{mapped_next, mapped_end, all_there, sources_next}
-use Rattle.gq_faults.proofs.Behind.{then_more}
+use Rattle.gq_faults.proofs.Appended_faults.{mapped_next, mapped_end, all_there, sources_next}
+use Rattle.gq_faults.proofs.Joined_fault_lists.{then_more}
 use Rattle.gq_faults.proofs.sources.push_rules.Goals as goal
 
 pub push_rule-requires : goal.push_rule-requires

@@ -1,8 +1,8 @@
 use Rattle.std.proofs.Common.{◌≡◌, ◌++◌, None, map, drop}
 use Rattle.gq_load.specs.Load.{sources_fault}
-use Rattle.gq_load.specs.internal.Judged.{leaf_refusal}
+use Rattle.gq_load.specs.internal.Judged_programs.{leaf_refusal}
 use Rattle.gq_model.specs.texts.Fault_texts.{refusal_text}
-use Rattle.gq_faults.specs.Lists.{all_found, listed_if}
+use Rattle.gq_faults.specs.Found_lists.{all_found, listed_if}
 use Rattle.gq_faults.specs.Found_lines.{lines_found}
 use Rattle.gq_faults.proofs.sources.push_rules.Given as goal
 

@@ -1,6 +1,6 @@
 use Rattle.gq_load.specs.Load.{source_fault}
 use Rattle.gq_faults.specs.Found_lines.{lines_found}
-use Rattle.gq_faults.proofs.Adding.{one_printed, none_printed}
+use Rattle.gq_faults.proofs.Appended_faults.{one_printed, none_printed}
 use Rattle.gq_faults.proofs.sources.push_source.Goals as goal
 
 pub returns-in_ok-way-in-Some : goal.returns-in_ok-way-in-Some

@@ -1,7 +1,7 @@
 use Rattle.std.proofs.Common.{◌≡◌, ◌++◌, map, drop}
 use Rattle.gq_load.specs.Load.{fault_text, source_fault}
 use Rattle.gq_model.specs.machine.Scenario.{Component}
-use Rattle.gq_faults.specs.Lists.{all_found, listed_if}
+use Rattle.gq_faults.specs.Found_lists.{all_found, listed_if}
 use Rattle.gq_faults.specs.Found_lines.{lines_found}
 use Rattle.gq_faults.proofs.sources.push_sources.Given as goal
 

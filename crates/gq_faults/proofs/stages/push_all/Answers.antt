@@ -1,13 +1,13 @@
 use Rattle.std.proofs.Common.{◌≡◌, ◌∙◌, ap, sym, arith, length, map}
 use Rattle.std.proofs.lemmas.Bool.Decides.{nat_tests}
-use Rattle.gq_init.proofs.Known.{on_ok}
+use Rattle.gq_init.proofs.Written_byte_facts.{on_ok}
 use Rattle.gq_model.specs.machine.Scenario.{components, system}
 use Rattle.gq_model.specs.texts.Fault_texts.{refusal_text}
 use Rattle.gq_load.specs.Load.{Refused_for, fault_text}
-use Rattle.gq_faults.specs.Lists.{or_else}
+use Rattle.gq_faults.specs.Found_lists.{or_else}
 use Rattle.gq_faults.specs.Scenario_faults.{rest_faults, rules_faults, scenario_faults, sources_faults}
 use Rattle.gq_faults.specs.Found_lines.{lines_found}
-use Rattle.gq_faults.proofs.Staged.{none_of, programs, some_sources, some_rules, no_rules, from_none, onto_none, found_rules, rules_as, rules_clean}
+use Rattle.gq_faults.proofs.Fault_stages.{none_of, programs, some_sources, some_rules, no_rules, from_none, onto_none, found_rules, rules_as, rules_clean}
 use Rattle.gq_faults.proofs.stages.push_all.Goals as goal
 
 pub returns-then-not-is_empty : goal.returns-then-not-is_empty

@@ -1,12 +1,12 @@
 use Rattle.std.proofs.Common.{◌≡◌, ◌++◌, ◌∙◌, ap, arith, length, map}
 use Rattle.std.proofs.lemmas.Bool.Decides.{nat_tests}
-use Rattle.gq_init.proofs.Known.{on_ok}
+use Rattle.gq_init.proofs.Written_byte_facts.{on_ok}
 use Rattle.gq_model.specs.machine.Scenario.{components}
 use Rattle.gq_model.specs.rules.Accept.{budgets}
 use Rattle.gq_model.specs.texts.Fault_texts.{refusal_text, unresolved_text}
 use Rattle.gq_faults.specs.Scenario_faults.{over_budgets, rest_faults, unresolved_all}
 use Rattle.gq_faults.specs.Found_lines.{lines_found}
-use Rattle.gq_faults.proofs.Staged.{no_unresolved, none_of, some_unresolved, resolved, from_none, onto_none}
+use Rattle.gq_faults.proofs.Fault_stages.{no_unresolved, none_of, some_unresolved, resolved, from_none, onto_none}
 use Rattle.gq_faults.proofs.stages.push_rest.Goals as goal
 
 pub returns-then-not-is_empty : goal.returns-then-not-is_empty

@@ -5,7 +5,7 @@ use Rattle.gq_model.specs.machine.Scenario.{Component, system}
 use Rattle.gq_model.specs.texts.Fault_texts.{unresolved_text}
 use Rattle.gq_faults.specs.Scenario_faults.{after_faults, all_bad_offers, cycles, quanta_faults, routes_lost}
 use Rattle.gq_faults.specs.Found_lines.{lines_found}
-use Rattle.gq_faults.proofs.Adding.{two_more, then_two}
+use Rattle.gq_faults.proofs.Appended_faults.{two_more, then_two}
 use Rattle.gq_faults.proofs.stages.push_unresolved.Goals as goal
 
 pub returns : goal.returns

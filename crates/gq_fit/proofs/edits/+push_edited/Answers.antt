@@ -1,7 +1,7 @@
 -- What was put at the end differs in values alone.
 use Rattle.std.proofs.Common.{◌∙◌, ◌++◌, ap}
 use Rattle.std.proofs.lemmas.Result.{on_ok_weaker}
-use Rattle.gq_fit.proofs.Changing.{changed, one_more, split_twice}
+use Rattle.gq_fit.proofs.Text_value_changes.{changed, one_more, split_twice}
 use Rattle.gq_fit.proofs.edits.+push_edited.Goals as goal
 
 pub returns : goal.returns

@@ -1,5 +1,5 @@
 use Rattle.std.proofs.Common.{refl, ◌-◌}
-use Rattle.gq_heap.proofs.Bins.{gives}
+use Rattle.gq_heap.proofs.Bin_take_give.{gives}
 use Rattle.gq_heap.proofs.bin.give.Goals as goal
 
 pub returns-clause-gives : goal.returns-clause-gives

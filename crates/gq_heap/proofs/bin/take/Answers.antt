@@ -1,6 +1,6 @@
 use Rattle.std.proofs.Common.{◌+◌, refl, arith}
 use Rattle.std.proofs.lemmas.Result.{err_from_is_err_and}
-use Rattle.gq_heap.proofs.Bins.{exceeded_iff, caps_iff, bin_few, first_chunk, taken, at_err, at_ok, same_ok}
+use Rattle.gq_heap.proofs.Bin_take_give.{exceeded_iff, caps_iff, bin_few, first_chunk, taken, at_err, at_ok, same_ok}
 use Rattle.gq_heap.proofs.bin.take.Goals as goal
 
 pub returns-in_err-head-clause-exceeded : goal.returns-in_err-head-clause-exceeded

@@ -1,14 +1,14 @@
 use Rattle.std.proofs.Common.{rules}
 use Rattle.std.proofs.Common.{arith}
-use Rattle.gq_heap.proofs.Sizes.{place_inside}
+use Rattle.gq_heap.proofs.Cell_page_numbers.{place_inside}
 use Rattle.gq_heap.proofs.chain.push.Goals as goal
 
 pub overflow_mul-index : goal.overflow_mul-index
-overflow_mul-index g c = rw c.spot-chunk.ensures.index (omega (arith, place_inside _ _ c.requires.size c.args.place))
+overflow_mul-index g c = rw c.cell_position-chunk.ensures.index (omega (arith, place_inside _ _ c.requires.size c.args.place))
 
 pub store4-requires : goal.store4-requires
 store4-requires g c =
-    rw (c.new.ensures, c.spot-chunk.ensures.chunk, c.spot-chunk.ensures.index)
+    rw (c.new.ensures, c.cell_position-chunk.ensures.chunk, c.cell_position-chunk.ensures.index)
     (omega (arith, place_inside _ _ c.requires.size c.args.place, c.requires.size.least))
 
 pub returns-clause-link : goal.returns-clause-link

@@ -3,7 +3,7 @@ use Rattle.std.proofs.Math.Seq.{take-add}
 use Rattle.std.proofs.lemmas.List.{take_rest}
 use Rattle.std.proofs.lemmas.Bool.Decides.{nat_tests}
 use Rattle.std.specs.Io.KnownBytes.{Appends}
-use Rattle.gq_init.proofs.Known.{appends_both}
+use Rattle.gq_init.proofs.Written_byte_facts.{appends_both}
 use Rattle.gq_init.proofs.counted.put.Goals as goal
 
 pub loop-done-preserved : goal.loop-done-preserved

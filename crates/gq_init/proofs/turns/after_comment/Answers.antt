@@ -1,6 +1,6 @@
 use Rattle.std.proofs.Common.{◌+◌}
 use Rattle.std.proofs.lemmas.List.{take_rest}
-use Rattle.gq_init.proofs.Ahead.{comment_ended, comment_open}
+use Rattle.gq_init.proofs.First_turn_line.{comment_ended, comment_open}
 use Rattle.gq_init.proofs.turns.after_comment.Goals as goal
 
 pub returns-in-Some-clause-line : goal.returns-in-Some-clause-line

@@ -1,14 +1,14 @@
 use Rattle.std.proofs.Common.{◌≤◌, ◌+◌, ◌*◌, get_or, sym, subst, ◌∙◌, arith}
 use Rattle.std.proofs.lemmas.List.{take_rest}
-use Rattle.gq_init.proofs.Ahead.{AreDigits, count_told, next_digit}
-use Rattle.gq_init.proofs.Counts.{power_below}
+use Rattle.gq_init.proofs.First_turn_line.{AreDigits, count_reported, next_digit}
+use Rattle.gq_init.proofs.Line_number_counts.{power_below}
 use Rattle.gq_init.proofs.turns.count_ahead.Goals as goal
 
 pub returns-then-byte-eq10 : goal.returns-then-byte-eq10
 returns-then-byte-eq10 c =
     let text = c.args.text.now in
     let l = c.loop-place in
-    rw (take_rest text (l.place + 1)) (count_told text l.place l.number l.auto.place (omega (arith, c.loop-place-test.true, c.min-place-end.ensures))
+    rw (take_rest text (l.place + 1)) (count_reported text l.place l.number l.auto.place (omega (arith, c.loop-place-test.true, c.min-place-end.ensures))
     (omega (arith, c.loop-place-test.true, c.min-place-end.ensures)) c.if-byte-eq10.true l.invariant)
 
 pub overflow_mul-number : goal.overflow_mul-number

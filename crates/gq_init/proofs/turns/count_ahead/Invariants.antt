@@ -1,4 +1,4 @@
-use Rattle.gq_init.proofs.Ahead.{AreDigits}
+use Rattle.gq_init.proofs.First_turn_line.{AreDigits}
 use Rattle.gq_init.proofs.turns.count_ahead.Given as goal
 
 -- what was looked at is digits that spell the number

@@ -3,7 +3,7 @@ use Rattle.std.proofs.lemmas.Bool.Decides.{nat_tests}
 use Rattle.std.proofs.lemmas.List.{drop_all}
 use Rattle.gq_model.specs.machine.Lists.{all_of}
 use Rattle.gq_model.specs.texts.Letters.{is_digit, spelled_on}
-use Rattle.gq_init.proofs.Counts.{power_below, turn_count-some}
+use Rattle.gq_init.proofs.Line_number_counts.{power_below, turn_count-some}
 use Rattle.gq_init.proofs.turns.read_count.Goals as goal
 
 pub overflow_mul-number : goal.overflow_mul-number

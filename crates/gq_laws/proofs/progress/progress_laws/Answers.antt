@@ -1,7 +1,7 @@
-use Rattle.gq_laws.proofs.progress.Lasting.{reached_lasts}
-use Rattle.gq_laws.proofs.progress.Going.{goes_on}
-use Rattle.gq_laws.proofs.progress.Ending.{work_ends, rounds_suffice}
-use Rattle.gq_laws.proofs.progress.Running.{runs_through}
+use Rattle.gq_laws.proofs.progress.Lasting_world_invariant.{reached_lasts}
+use Rattle.gq_laws.proofs.progress.No_deadlock.{goes_on}
+use Rattle.gq_laws.proofs.progress.Work_ends.{work_ends, rounds_suffice}
+use Rattle.gq_laws.proofs.progress.Run_turn_composition.{runs_through}
 use Rattle.gq_laws.proofs.progress.progress_laws.Goals as goal
 
 pub returns-clause-goes_on : goal.returns-clause-goes_on

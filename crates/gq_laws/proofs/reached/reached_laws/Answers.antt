@@ -1,4 +1,4 @@
-use Rattle.gq_laws.proofs.gathering.Worlds.{reached_whole, reached_linked, reached_paid, reached_closes, reached_ends, reached_sums}
+use Rattle.gq_laws.proofs.upheld_worlds.Any_reached_world.{reached_whole, reached_linked, reached_paid, reached_closes, reached_ends, reached_sums}
 use Rattle.gq_laws.proofs.reached.reached_laws.Goals as goal
 
 pub returns-clause-whole : goal.returns-clause-whole

@@ -1,5 +1,5 @@
 -- Laws of services that are routed to a leaf.
-use Rattle.gq_laws.proofs.ready.Servers.{found, provided, declared}
+use Rattle.gq_laws.proofs.ready.Routed_leaf_services.{found, provided, declared}
 use Rattle.gq_laws.proofs.ready.served.Goals as goal
 
 pub returns : goal.returns

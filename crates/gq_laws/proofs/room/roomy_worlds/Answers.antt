@@ -1,5 +1,5 @@
 -- Laws of room for replies.
-use Rattle.gq_laws.proofs.room.Worlds.{start_roomy, kept_roomy}
+use Rattle.gq_laws.proofs.room.Reply_room_invariant.{start_roomy, kept_roomy}
 use Rattle.gq_laws.proofs.room.roomy_worlds.Goals as goal
 
 pub returns-clause-first : goal.returns-clause-first

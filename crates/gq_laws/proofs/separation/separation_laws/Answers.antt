@@ -1,7 +1,7 @@
-use Rattle.gq_laws.proofs.gathering.Worlds.{reached_linked}
+use Rattle.gq_laws.proofs.upheld_worlds.Any_reached_world.{reached_linked}
 use Rattle.gq_model.specs.machine.Scenario.{system}
-use Rattle.gq_laws.proofs.Stepping.{step_untouched, step_requests}
-use Rattle.gq_laws.proofs.Accounting.{same_accounts}
+use Rattle.gq_laws.proofs.Outside_step_untouched.{step_untouched, step_requests}
+use Rattle.gq_laws.proofs.Group_account_sums.{same_accounts}
 use Rattle.gq_laws.proofs.Separation_turning.{turns_touch_nothing}
 use Rattle.gq_laws.proofs.separation.separation_laws.Goals as goal
 

@@ -1,4 +1,4 @@
-use Rattle.gq_leaf.proofs.Frames as frames
+use Rattle.gq_leaf.proofs.Leaf_frame_changes as frames
 use Rattle.gq_leaf.proofs.stepping.changed_frame.Goals as goal
 
 pub returns : goal.returns

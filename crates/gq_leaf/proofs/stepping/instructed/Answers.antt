@@ -1,4 +1,4 @@
-use Rattle.gq_leaf.proofs.Instructed as steps
+use Rattle.gq_leaf.proofs.Instruction_step as steps
 use Rattle.gq_leaf.proofs.stepping.instructed.Goals as goal
 
 pub returns : goal.returns

@@ -1,7 +1,7 @@
 use Rattle.std.proofs.Common.{◌≡◌, length, ap, ◌∙◌, arith}
 use Rattle.std.specs.Vec.{with_items}
 use Rattle.std.proofs.lemmas.List.{with_items_is}
-use Rattle.gq_list_store.proofs.Slots.{slot_room, clears}
+use Rattle.gq_list_store.proofs.List_store_slots.{slot_room, clears}
 use Rattle.gq_list_store.proofs.ListStoreByteStore.clear.Goals as goal
 
 pub clear-requires : goal.clear-requires

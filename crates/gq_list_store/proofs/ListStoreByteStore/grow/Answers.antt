@@ -1,7 +1,7 @@
 use Rattle.std.proofs.Common.{◌≡◌, ◌*◌, length, refl, ap, ◌∙◌, arith}
 use Rattle.std.specs.Vec.{with_items}
 use Rattle.std.proofs.lemmas.List.{with_items_is}
-use Rattle.gq_list_store.proofs.Slots.{grows, all_taken}
+use Rattle.gq_list_store.proofs.List_store_slots.{grows, all_taken}
 use Rattle.gq_list_store.proofs.ListStoreByteStore.grow.Goals as goal
 
 pub returns-in_default-clause-exceeded : goal.returns-in_default-clause-exceeded

@@ -1,6 +1,6 @@
 use Rattle.std.proofs.Common.{get_or, refl, sym, ap, ◌∙◌}
 use Rattle.std.proofs.lemmas.List.{get_or_read_under}
-use Rattle.gq_list_store.proofs.Slots.{byte_is}
+use Rattle.gq_list_store.proofs.List_store_slots.{byte_is}
 use Rattle.gq_list_store.proofs.ListStoreByteStore.load.Goals as goal
 
 pub returns : goal.returns

@@ -1,4 +1,4 @@
-use Rattle.gq_list_store.proofs.Slots.{writes}
+use Rattle.gq_list_store.proofs.List_store_slots.{writes}
 use Rattle.gq_list_store.proofs.ListStoreByteStore.store.Goals as goal
 
 pub returns-clause-alone : goal.returns-clause-alone

@@ -1,5 +1,5 @@
 use Rattle.gq_list_store.specs.View.{store_of}
-use Rattle.gq_list_store.proofs.Slots.{writes_four, is_word, word_of}
+use Rattle.gq_list_store.proofs.List_store_slots.{writes_four, is_word, word_of}
 use Rattle.gq_list_store.proofs.ListStoreByteStore.store4.Goals as goal
 
 pub returns-clause-alone : goal.returns-clause-alone

@@ -1,5 +1,5 @@
-use Rattle.gq_heap.proofs.Callers.{room_there}
-use Rattle.gq_list_store.proofs.Steps.{block_laid, slice_laid, first_laid, second_laid}
+use Rattle.gq_heap.proofs.Heap_caller_facts.{room_there}
+use Rattle.gq_list_store.proofs.Shared_store_steps.{block_laid, slice_laid, first_laid, second_laid}
 use Rattle.gq_list_store.proofs.sharing.lay.Goals as goal
 
 pub store-requires-clause-inside : goal.store-requires-clause-inside

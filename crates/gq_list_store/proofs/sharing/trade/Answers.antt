@@ -1,6 +1,7 @@
 use Rattle.std.proofs.Common.{◌∙◌, arith}
-use Rattle.gq_heap.proofs.Callers.{room_there}
-use Rattle.gq_list_store.proofs.Steps.{first_takes, first_puts, second_takes, second_gives, second_ends, second_is, left_is, left_block, reads_entry}
+use Rattle.gq_heap.proofs.Heap_caller_facts.{room_there}
+use Rattle.gq_list_store.proofs.Shared_store_steps.{first_takes, first_puts, second_takes, second_gives, second_ends, second_is, left_is, left_block}
+use Rattle.gq_list_store.proofs.Shared_store_steps.{reads_entry}
 use Rattle.gq_list_store.proofs.sharing.trade.Goals as goal
 
 pub take-requires-2-clause-kept : goal.take-requires-2-clause-kept

@@ -1,13 +1,13 @@
 use Rattle.std.proofs.Common.{◌≡◌, ◌∙◌, None, ap, length, refl}
 use Rattle.std.proofs.lemmas.Result.{err_from_is_err_and}
 use Rattle.gq_model.specs.machine.Scenario.{system}
-use Rattle.gq_load.specs.internal.Budgets.{kept_from, budget_refusal}
-use Rattle.gq_load.specs.Faults.{PrintsFault}
-use Rattle.gq_load.specs.internal.Judged.{first_refusal}
+use Rattle.gq_load.specs.internal.Saturated_budgets.{kept_from, budget_refusal}
+use Rattle.gq_load.specs.Load_faults.{PrintsFault}
+use Rattle.gq_load.specs.internal.Judged_programs.{first_refusal}
 use Rattle.gq_load.specs.Load.{refused}
-use Rattle.gq_load.specs.declared.fault.LoadError.TheVariants as error
-use Rattle.gq_load.proofs.Budgets.{kept_count}
-use Rattle.gq_load.proofs.Refusals.{for_resolve, for_budgets, accepted, kept_are, of_scenario, of_kept}
+use Rattle.gq_load.specs.declared.load_fault.LoadError.TheVariants as error
+use Rattle.gq_load.proofs.Saturated_step_budgets.{kept_count}
+use Rattle.gq_load.proofs.First_refusal_reason.{for_resolve, for_budgets, accepted, kept_are, of_scenario, of_kept}
 use Rattle.gq_load.proofs.accepted.judge.Goals as goal
 
 pub returns-in_err-routes-clause-refused : goal.returns-in_err-routes-clause-refused

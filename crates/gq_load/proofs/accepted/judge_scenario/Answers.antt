@@ -1,9 +1,9 @@
 use Rattle.std.proofs.Common.{◌∙◌, ap, sym}
 use Rattle.std.proofs.lemmas.Result.{err_from_is_err_and}
-use Rattle.gq_load.specs.Faults.{PrintsFault}
-use Rattle.gq_load.specs.internal.Judged.{first_refusal}
+use Rattle.gq_load.specs.Load_faults.{PrintsFault}
+use Rattle.gq_load.specs.internal.Judged_programs.{first_refusal}
 use Rattle.gq_load.specs.Load.{refused, sources_fault}
-use Rattle.gq_load.proofs.Refusals.{for_program, for_refusal, of_scenario}
+use Rattle.gq_load.proofs.First_refusal_reason.{for_program, for_refusal, of_scenario}
 use Rattle.gq_load.proofs.accepted.judge_scenario.Goals as goal
 
 pub returns-in_err-surveys-clause-refused : goal.returns-in_err-surveys-clause-refused

@@ -1,13 +1,13 @@
 use Rattle.std.proofs.Common.{◌∙◌, ap, sym, subst, map, length}
 use Rattle.gq_model.specs.machine.Scenario.{components, system}
-use Rattle.gq_budget.specs.Budgets.{budgets_from}
-use Rattle.gq_budget.specs.Counts.{AreCountsOf}
-use Rattle.gq_load.specs.internal.Judged.{judged_by}
-use Rattle.gq_load.specs.internal.Leaves.{counted_leaves}
-use Rattle.gq_load.specs.internal.Budgets.{budgets_with}
+use Rattle.gq_budget.specs.Step_budgets.{budgets_from}
+use Rattle.gq_budget.specs.Leaf_section_counts.{AreCountsOf}
+use Rattle.gq_load.specs.internal.Judged_programs.{judged_by}
+use Rattle.gq_load.specs.internal.Counted_leaves.{counted_leaves}
+use Rattle.gq_load.specs.internal.Saturated_budgets.{budgets_with}
 use Rattle.gq_load.specs.internal.Surveys.{own_of}
-use Rattle.gq_load.proofs.Budgets.{kept_same, steps_count, owns_count}
-use Rattle.gq_load.proofs.Leaves.{leaves_same}
+use Rattle.gq_load.proofs.Saturated_step_budgets.{kept_same, steps_count, owns_count}
+use Rattle.gq_load.proofs.Step_counted_leaves.{leaves_same}
 use Rattle.gq_load.proofs.accepted.kept_budgets.Goals as goal
 
 pub steps_of-requires-clause-counted : goal.steps_of-requires-clause-counted

@@ -1,6 +1,6 @@
 use Rattle.std.proofs.Common.{◌≡◌, ◌++◌, drop}
-use Rattle.gq_scenario.specs.Trees.{version_number}
-use Rattle.gq_load.specs.internal.Budgets.{budgets_with}
+use Rattle.gq_scenario.specs.Component_trees.{version_number}
+use Rattle.gq_load.specs.internal.Saturated_budgets.{budgets_with}
 use Rattle.gq_load.proofs.budget.budgets_of.Given as goal
 
 -- the budgets so far, with those that are left, are all

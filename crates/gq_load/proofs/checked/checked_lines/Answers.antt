@@ -1,4 +1,4 @@
-use Rattle.gq_load.proofs.Refusals.{refuses_so}
+use Rattle.gq_load.proofs.First_refusal_reason.{refuses_so}
 use Rattle.gq_load.proofs.checked.checked_lines.Goals as goal
 
 pub returns-in-Ok-clause-refused : goal.returns-in-Ok-clause-refused

@@ -3,10 +3,10 @@ use Rattle.std.proofs.lemmas.Result.{err_from_is_err_and}
 use Rattle.gq_model.specs.machine.Lists.{or_first}
 use Rattle.gq_model.specs.machine.Scenario.{components, system}
 use Rattle.gq_model.proofs.Component_laws.{budgets_count}
-use Rattle.gq_load.specs.Faults.{PrintsFault}
-use Rattle.gq_load.specs.internal.Judged.{first_refusal}
+use Rattle.gq_load.specs.Load_faults.{PrintsFault}
+use Rattle.gq_load.specs.internal.Judged_programs.{first_refusal}
 use Rattle.gq_load.specs.Load.{refused, sources_fault}
-use Rattle.gq_load.proofs.Refusals.{for_survey, of_scenario}
+use Rattle.gq_load.proofs.First_refusal_reason.{for_survey, of_scenario}
 use Rattle.gq_load.proofs.checked.scenario_lines.Goals as goal
 
 pub returns-in_err-surveys-clause-refused : goal.returns-in_err-surveys-clause-refused

@@ -1,4 +1,4 @@
-use Rattle.gq_laws.proofs.gathering.Runs.{run_upholds}
+use Rattle.gq_laws.proofs.upheld_worlds.Upheld_runs.{run_upholds}
 use Rattle.gq_load.proofs.Sound_texts.{loaded_sound}
 use Rattle.gq_load.proofs.loaded.loaded_laws.Goals as goal
 

@@ -1,5 +1,5 @@
 use Rattle.std.proofs.Common.{◌≡◌, drop}
-use Rattle.gq_load.specs.Over.{over_refusal}
+use Rattle.gq_load.specs.Over_limits.{over_refusal}
 use Rattle.gq_load.proofs.over.check_over.Given as goal
 
 -- no leaf so far is refused

@@ -1,5 +1,5 @@
 use Rattle.std.proofs.Common.{◌≡◌, drop, map}
-use Rattle.gq_load.specs.internal.Judged.{first_refusal}
+use Rattle.gq_load.specs.internal.Judged_programs.{first_refusal}
 use Rattle.gq_load.proofs.First_leaves.{AreFirst}
 use Rattle.gq_load.proofs.surveys.survey_programs.Given as goal
 

@@ -1,6 +1,6 @@
 use Rattle.std.proofs.Common.{◌≡◌, drop, map}
 use Rattle.gq_load.specs.Load.{sources_fault}
-use Rattle.gq_load.specs.internal.Judged.{first_refusal}
+use Rattle.gq_load.specs.internal.Judged_programs.{first_refusal}
 use Rattle.gq_load.proofs.First_leaves.{AreFirst}
 use Rattle.gq_load.proofs.surveys.survey_sources.Given as goal
 

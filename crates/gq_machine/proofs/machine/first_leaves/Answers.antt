@@ -1,6 +1,6 @@
 -- One leaf more at the start of its program.
 use Rattle.gq_model.specs.machine.Scenario.{components}
-use Rattle.gq_machine.proofs.Firsts.{first_more}
+use Rattle.gq_machine.proofs.First_machine_leaves.{first_more}
 use Rattle.gq_machine.proofs.machine.first_leaves.Goals as goal
 
 pub loop-number-preserved : goal.loop-number-preserved

@@ -1,5 +1,5 @@
 -- The phase in which a leaf starts.
-use Rattle.gq_machine.proofs.Firsts.{runs, waits}
+use Rattle.gq_machine.proofs.First_machine_leaves.{runs, waits}
 use Rattle.gq_machine.proofs.machine.first_phase.Goals as goal
 
 pub returns-in-None : goal.returns-in-None

@@ -1,7 +1,7 @@
 -- One leaf more that is prepared.
 use Rattle.std.proofs.Common.{arith}
 use Rattle.gq_model.specs.machine.Scenario.{components}
-use Rattle.gq_machine.proofs.Firsts.{code_there, item_at, prepared_more}
+use Rattle.gq_machine.proofs.First_machine_leaves.{code_there, item_at, prepared_more}
 use Rattle.gq_machine.proofs.machine.prepared.Goals as goal
 
 pub prepared_of-requires-clause-code : goal.prepared_of-requires-clause-code

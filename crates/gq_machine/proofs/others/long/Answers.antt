@@ -3,19 +3,19 @@ use Rattle.std.proofs.Common.{◌≡◌, ℕ, List, Some, Ok, refl, sym, ap, sub
 use Rattle.std.specs.Prelude.{slice_get}
 use Rattle.gq_model.specs.declared.program.Instruction.{Instruction}
 use Rattle.gq_model.specs.declared.program.Instruction.TheVariants.{Open, Say}
-use Rattle.gq_model.specs.declared.program.Place.{Place}
+use Rattle.gq_model.specs.declared.program.OperandSlot.{OperandSlot}
 use Rattle.gq_model.specs.machine.Doing.{Line}
 use Rattle.gq_bytecode.specs.declared.operation.Operation.TheVariants.{Long}
 use Rattle.gq_leaf.specs.Coded.{Coded, operation_of}
-use Rattle.gq_machine.specs.Worlds.{world_of}
-use Rattle.gq_machine.specs.declared.state.State.{State}
-use Rattle.gq_machine.specs.internal.Holds.{IsLong, OfLeaf}
+use Rattle.gq_machine.specs.Machine_world.{world_of}
+use Rattle.gq_machine.specs.declared.machine_state.MachineState.{MachineState}
+use Rattle.gq_machine.specs.internal.Machine_invariant.{IsLong, OfLeaf}
 use Rattle.gq_machine.specs.internal.Longs.{IsLongOne}
-use Rattle.gq_machine.proofs.Opens.{long_is, prepared_at}
-use Rattle.gq_machine.proofs.Standing.{item_there, of_leaf}
+use Rattle.gq_machine.proofs.Open_statement_targets.{long_is, prepared_at}
+use Rattle.gq_machine.proofs.Stepping_leaf_facts.{item_there, of_leaf}
 use Rattle.gq_machine.proofs.others.long.Goals as goal
 
-none_else : (i : Instruction) → IsLongOne i → ((text : List ℕ) → i ≡ Say text → ⊥) → ((place : Place) (name : List ℕ) (n : ℕ) → i ≡ Open place name n → ⊥)
+none_else : (i : Instruction) → IsLongOne i → ((text : List ℕ) → i ≡ Say text → ⊥) → ((place : OperandSlot) (name : List ℕ) (n : ℕ) → i ≡ Open place name n → ⊥)
     → ⊥
 none_else (Say text) h says opens = says text refl
 none_else (Open place name n) h says opens = opens place name n refl
@@ -34,7 +34,7 @@ unreachable-requires c =
     none_else c.long.result.now (long_is f can.component old p.has p.is c.args.statement next c.long.result.now c.long.ensures) c.in_default.not-Say
     c.in_default.not-Open
 
-is_long : (m : State) (x statement : ℕ) (i : Instruction) (l : Coded) → slice_get m.leaves.items x ≡ Some l → slice_get l.code.longs statement ≡ Some i
+is_long : (m : MachineState) (x statement : ℕ) (i : Instruction) (l : Coded) → slice_get m.leaves.items x ≡ Some l → slice_get l.code.longs statement ≡ Some i
     → IsLong m x statement i
 is_long m x statement i l there e = subst (OfLeaf (λ (k : Coded). slice_get k.code.longs statement ≡ Some i)) (sym there) e
 

@@ -4,7 +4,7 @@ use Rattle.std.specs.Prelude.{IsTrue}
 use Rattle.gq_bytecode.specs.Cores.{is_shared}
 use Rattle.gq_bytecode.specs.declared.operation.Operation.{Operation}
 use Rattle.gq_bytecode.specs.declared.operation.Operation.TheVariants.{End, Long, Out}
-use Rattle.gq_machine.specs.internal.Kinds.{is_quiet}
+use Rattle.gq_machine.specs.internal.Operation_kinds.{is_quiet}
 use Rattle.gq_machine.proofs.others.shared.Goals as goal
 
 quiet_else : (does : Operation) → IsTrue (is_shared does) → (does ≡ Out → ⊥) → ((n : ℕ) → does ≡ Long n → ⊥) → (does ≡ End → ⊥) → IsTrue (is_quiet does)

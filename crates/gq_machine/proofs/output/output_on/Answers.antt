@@ -1,8 +1,8 @@
 -- A line, and the numbers that follow it.
 use Rattle.std.proofs.Common.{◌≡◌, ◌<◌, ◌-◌, ◌++◌, ◌∙◌, ◌∷◌, ℕ, List, [], length, length-append, ap, subst, arith}
-use Rattle.gq_init.specs.LeafLines.{Lines, front_of, line_with}
-use Rattle.gq_machine.specs.internal.Going.{Says}
-use Rattle.gq_machine.proofs.Going.{label}
+use Rattle.gq_init.specs.LeafLines.{Lines, prefix_of, line_with}
+use Rattle.gq_machine.specs.internal.Turn_transitions.{Says}
+use Rattle.gq_machine.proofs.Leaf_alone_turns.{label}
 use Rattle.gq_machine.proofs.output.output_on.Goals as goal
 
 -- no lines, with one more
@@ -26,7 +26,7 @@ returns-clause-said c =
 line_some : (was bytes speaker text : List ℕ) → bytes ≡ was ++ line_with speaker text → 0 < length bytes
 line_some was bytes speaker text e =
     let count = ap length e ∙ length-append was (line_with speaker text) in
-    let line = length-append (front_of speaker) (text ++ 10 ∷ []) in
+    let line = length-append (prefix_of speaker) (text ++ 10 ∷ []) in
     let end = length-append text (10 ∷ []) in
     omega (arith, count, line, end)
 

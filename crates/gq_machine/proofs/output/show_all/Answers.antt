@@ -1,9 +1,9 @@
 -- Turns of a leaf that show numbers.
 use Rattle.std.proofs.Common.{◌≡◌, ◌+◌, ◌-◌, ◌≤◌, ◌∙◌, ℕ, subst, arith}
-use Rattle.gq_machine.specs.Worlds.{world_of}
+use Rattle.gq_machine.specs.Machine_world.{world_of}
 use Rattle.gq_machine.specs.Countable.{AreCountable}
-use Rattle.gq_machine.specs.internal.Going.{Says}
-use Rattle.gq_machine.proofs.Saying.{countable_said, says_then}
+use Rattle.gq_machine.specs.internal.Turn_transitions.{Says}
+use Rattle.gq_machine.proofs.Turn_line_texts.{countable_said, says_then}
 use Rattle.gq_machine.proofs.output.show_all.Goals as goal
 
 joined : (turns left rest : ℕ) → rest ≤ left → left ≤ turns → (turns - left) + (left - rest) ≡ turns - rest

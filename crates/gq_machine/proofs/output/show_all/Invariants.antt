@@ -1,8 +1,8 @@
 use Rattle.std.proofs.Common.{◌≡◌, ◌-◌, ◌≤◌, length}
-use Rattle.gq_machine.specs.Worlds.{world_of}
-use Rattle.gq_machine.specs.internal.Holds.{Holds}
+use Rattle.gq_machine.specs.Machine_world.{world_of}
+use Rattle.gq_machine.specs.internal.Machine_invariant.{Holds}
 use Rattle.gq_machine.specs.Countable.{AreCountable}
-use Rattle.gq_machine.specs.internal.Going.{Says}
+use Rattle.gq_machine.specs.internal.Turn_transitions.{Says}
 use Rattle.gq_machine.proofs.output.show_all.Given as goal
 
 -- the turns so far gave the lines that stand there

@@ -4,11 +4,11 @@ use Rattle.std.proofs.Common.{length-append}
 use Rattle.gq_init.specs.LeafLines.{Lines, line_with}
 use Rattle.gq_machine.specs.declared.event.Event.TheVariants as event
 use Rattle.gq_machine.specs.Shows.{StepShows}
-use Rattle.gq_machine.specs.internal.Going.{Says}
-use Rattle.gq_machine.specs.Worlds.{world_of}
-use Rattle.gq_machine.proofs.Going.{step_after}
-use Rattle.gq_machine.proofs.Same.{holds_same}
-use Rattle.gq_machine.proofs.Saying.{says_line, says_nothing, says_nothing_to}
+use Rattle.gq_machine.specs.internal.Turn_transitions.{Says}
+use Rattle.gq_machine.specs.Machine_world.{world_of}
+use Rattle.gq_machine.proofs.Leaf_alone_turns.{step_after}
+use Rattle.gq_machine.proofs.Machine_unchanged_world.{holds_same}
+use Rattle.gq_machine.proofs.Turn_line_texts.{says_line, says_nothing, says_nothing_to}
 use Rattle.gq_machine.proofs.output.show_next.Goals as goal
 
 one_more : (turns left : ℕ) → left ≤ turns → (left ≡ 0 → ⊥) → (turns - left) + 1 ≡ turns - (left - 1)
@@ -72,7 +72,7 @@ returns-in-Err-clause-says c =
           holds_same c.args.fixed.now c.alone-pause.new.state c.show.new.state c.in-Err.ensures.leaves c.in-Err.ensures.slots c.alone-pause.ensures.ran.holds;
     }
 
--- what is there stays in front
+-- what is there stays first
 pub returns-in-Ok-clause-says : goal.returns-in-Ok-clause-says
 returns-in-Ok-clause-says c =
     record {

@@ -1,4 +1,4 @@
-use Rattle.gq_memory_rows.proofs.Serves.{serves_beside}
+use Rattle.gq_memory_rows.proofs.Serving_session_kept.{serves_beside}
 use Rattle.gq_memory_rows.proofs.buffers_rows.link.Goals as goal
 
 pub returns-in-Empty : goal.returns-in-Empty

@@ -1,5 +1,5 @@
 use Rattle.gq_trade.specs.Trading.{account_no}
-use Rattle.gq_memory_rows.proofs.Serves.{serves_beside, serves_paid}
+use Rattle.gq_memory_rows.proofs.Serving_session_kept.{serves_beside, serves_paid}
 use Rattle.gq_memory_rows.proofs.buffers_rows.make_buffer.Goals as goal
 
 pub returns-in-Ok : goal.returns-in-Ok

@@ -1,6 +1,6 @@
 use Rattle.std.proofs.Common.{IfSome, subst}
 use Rattle.gq_slots.specs.Session_calls.{TakesOldest}
-use Rattle.gq_memory_rows.proofs.Serves.{serves_opened}
+use Rattle.gq_memory_rows.proofs.Serving_session_kept.{serves_opened}
 use Rattle.gq_memory_rows.proofs.buffers_rows.opened.Goals as goal
 
 pub returns-in-Ok-Some : goal.returns-in-Ok-Some

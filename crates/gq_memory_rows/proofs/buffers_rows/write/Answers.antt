@@ -2,8 +2,8 @@ use Rattle.gq_trade.specs.Trading.{account_no}
 use Rattle.gq_slots.specs.Slots.{slot_of}
 use Rattle.std.specs.Prelude.{[], ◌∷◌}
 use Rattle.gq_contents.specs.Contents.{put_in}
-use Rattle.gq_region.specs.Addresses.{bytes_at}
-use Rattle.gq_memory_rows.proofs.Serves.{serves_paid, serves_stored}
+use Rattle.gq_region.specs.Region_addresses.{bytes_at}
+use Rattle.gq_memory_rows.proofs.Serving_session_kept.{serves_paid, serves_stored}
 use Rattle.gq_memory_rows.proofs.buffers_rows.write.Goals as goal
 
 pub returns-in-Link : goal.returns-in-Link

@@ -4,20 +4,20 @@ use Rattle.gq_memory_rows.proofs.contents_rows.use_block_and_space.Goals as goal
 
 pub make_block-requires-clause-kept : goal.make_block-requires-clause-kept
 make_block-requires-clause-kept g c =
-    record { front = []; back = (Empty ∷ []); keeps = c.requires }
+    record { prefix = []; back = (Empty ∷ []); keeps = c.requires }
 
 pub store4-requires-clause-kept : goal.store4-requires-clause-kept
 store4-requires-clause-kept g c =
     let k1 = (c.in_ok-block.ensures.made.changes [] (Empty ∷ []) c.requires).keeps in
     let k2 = (c.in_ok-space.ensures.made.changes c.make_block.new.heap (c.in_ok-block.block ∷ []) [] k1).keeps in
-    record { front = []; back = (c.in_ok-space.space ∷ []); keeps = k2 }
+    record { prefix = []; back = (c.in_ok-space.space ∷ []); keeps = k2 }
 
 pub store4-requires-2-clause-kept : goal.store4-requires-2-clause-kept
 store4-requires-2-clause-kept g c =
     let k1 = (c.in_ok-block.ensures.made.changes [] (Empty ∷ []) c.requires).keeps in
     let k2 = (c.in_ok-space.ensures.made.changes c.make_block.new.heap (c.in_ok-block.block ∷ []) [] k1).keeps in
     let k3 = (c.store4.ensures.changes [] (c.in_ok-space.space ∷ []) k2).keeps in
-    record { front = (c.in_ok-block.block ∷ []); back = []; keeps = k3 }
+    record { prefix = (c.in_ok-block.block ∷ []); back = []; keeps = k3 }
 
 pub load4-of_block-requires-clause-kept : goal.load4-of_block-requires-clause-kept
 load4-of_block-requires-clause-kept g c =
@@ -25,7 +25,7 @@ load4-of_block-requires-clause-kept g c =
     let k2 = (c.in_ok-space.ensures.made.changes c.make_block.new.heap (c.in_ok-block.block ∷ []) [] k1).keeps in
     let k3 = (c.store4.ensures.changes [] (c.in_ok-space.space ∷ []) k2).keeps in
     let k4 = (c.store4-2.ensures.changes (c.in_ok-block.block ∷ []) [] k3).keeps in
-    record { front = []; back = (c.in_ok-space.space ∷ []); keeps = k4 }
+    record { prefix = []; back = (c.in_ok-space.space ∷ []); keeps = k4 }
 
 pub load4-of_space-requires-clause-kept : goal.load4-of_space-requires-clause-kept
 load4-of_space-requires-clause-kept g c =
@@ -33,7 +33,7 @@ load4-of_space-requires-clause-kept g c =
     let k2 = (c.in_ok-space.ensures.made.changes c.make_block.new.heap (c.in_ok-block.block ∷ []) [] k1).keeps in
     let k3 = (c.store4.ensures.changes [] (c.in_ok-space.space ∷ []) k2).keeps in
     let k4 = (c.store4-2.ensures.changes (c.in_ok-block.block ∷ []) [] k3).keeps in
-    record { front = (c.in_ok-block.block ∷ []); back = []; keeps = k4 }
+    record { prefix = (c.in_ok-block.block ∷ []); back = []; keeps = k4 }
 
 pub free-requires : goal.free-requires
 free-requires g c =
@@ -41,7 +41,7 @@ free-requires g c =
     let k2 = (c.in_ok-space.ensures.made.changes c.make_block.new.heap (c.in_ok-block.block ∷ []) [] k1).keeps in
     let k3 = (c.store4.ensures.changes [] (c.in_ok-space.space ∷ []) k2).keeps in
     let k4 = (c.store4-2.ensures.changes (c.in_ok-block.block ∷ []) [] k3).keeps in
-    record { kept = record { front = []; back = (c.in_ok-space.space ∷ []); keeps = k4 } }
+    record { kept = record { prefix = []; back = (c.in_ok-space.space ∷ []); keeps = k4 } }
 
 pub free-requires-2 : goal.free-requires-2
 free-requires-2 g c =
@@ -50,4 +50,4 @@ free-requires-2 g c =
     let k3 = (c.store4.ensures.changes [] (c.in_ok-space.space ∷ []) k2).keeps in
     let k4 = (c.store4-2.ensures.changes (c.in_ok-block.block ∷ []) [] k3).keeps in
     let k5 = (c.free.ensures.changes [] (c.in_ok-space.space ∷ []) k4).keeps in
-    record { kept = record { front = (Empty ∷ []); back = []; keeps = k5 } }
+    record { kept = record { prefix = (Empty ∷ []); back = []; keeps = k5 } }

@@ -1,10 +1,10 @@
 use Rattle.std.proofs.Common.{Some, length, ap, ◌∙◌}
 use Rattle.gq_tariff.specs.Prices.{up}
-use Rattle.gq_pages.specs.Bytes.{zeros}
+use Rattle.gq_pages.specs.Frame_bytes.{zeros}
 use Rattle.gq_dataspace.specs.Dataspaces.{Contents, content_of}
-use Rattle.gq_dataspace.proofs.Callers.{length-zeros}
-use Rattle.gq_dataspace.proofs.Callers.{content_set}
-use Rattle.gq_dataspace.proofs.Callers.{content_other, vacant_apart}
+use Rattle.gq_dataspace.proofs.Dataspace_caller_facts.{length-zeros}
+use Rattle.gq_dataspace.proofs.Dataspace_caller_facts.{content_set}
+use Rattle.gq_dataspace.proofs.Dataspace_caller_facts.{content_other, vacant_apart}
 use Rattle.gq_memory_rows.proofs.dataspace_rows.made.Goals as goal
 
 pub returns : goal.returns

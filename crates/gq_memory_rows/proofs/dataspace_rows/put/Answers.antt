@@ -1,10 +1,10 @@
 use Rattle.std.proofs.Common.{◌<◌, ℕ, List, Some, length, arith, ap, ◌∙◌}
 use Rattle.std.specs.Int.{w32, to_le_bytes}
-use Rattle.gq_pages.specs.Bytes.{with_bytes}
+use Rattle.gq_pages.specs.Frame_bytes.{with_bytes}
 use Rattle.gq_dataspace.specs.Dataspaces.{Contents, content_of}
-use Rattle.gq_dataspace.proofs.Callers.{length-with_bytes}
-use Rattle.gq_dataspace.proofs.Callers.{content_there, content_set}
-use Rattle.gq_dataspace.proofs.Callers.{content_other}
+use Rattle.gq_dataspace.proofs.Dataspace_caller_facts.{length-with_bytes}
+use Rattle.gq_dataspace.proofs.Dataspace_caller_facts.{content_there, content_set}
+use Rattle.gq_dataspace.proofs.Dataspace_caller_facts.{content_other}
 use Rattle.gq_memory_rows.proofs.dataspace_rows.put.Goals as goal
 
 pub returns : goal.returns

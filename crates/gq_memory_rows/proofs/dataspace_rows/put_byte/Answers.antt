@@ -1,7 +1,7 @@
 use Rattle.std.proofs.Common.{◌<◌, ℕ, List, Some, length, set, arith, ap, ◌∙◌, length-set}
 use Rattle.gq_dataspace.specs.Dataspaces.{Contents, content_of}
-use Rattle.gq_dataspace.proofs.Callers.{content_there, content_set}
-use Rattle.gq_dataspace.proofs.Callers.{content_other}
+use Rattle.gq_dataspace.proofs.Dataspace_caller_facts.{content_there, content_set}
+use Rattle.gq_dataspace.proofs.Dataspace_caller_facts.{content_other}
 use Rattle.gq_memory_rows.proofs.dataspace_rows.put_byte.Goals as goal
 
 pub returns : goal.returns

@@ -1,6 +1,6 @@
 use Rattle.std.proofs.Common.{None, arith, ap, ◌∙◌}
 use Rattle.gq_dataspace.specs.Dataspaces.{Contents, content_of}
-use Rattle.gq_dataspace.proofs.Callers.{content_other, is_live}
+use Rattle.gq_dataspace.proofs.Dataspace_caller_facts.{content_other, is_live}
 use Rattle.gq_memory_rows.proofs.dataspace_rows.removed.Goals as goal
 
 pub destroy-requires : goal.destroy-requires

@@ -1,6 +1,6 @@
 use Rattle.std.proofs.Common.{◌≡◌, length, arith, sym, ap, ◌∙◌}
 use Rattle.gq_dataspace.specs.Dataspaces.{content_of}
-use Rattle.gq_dataspace.proofs.Callers.{is_live}
+use Rattle.gq_dataspace.proofs.Dataspace_caller_facts.{is_live}
 use Rattle.gq_memory_rows.proofs.dataspace_rows.scattered.Goals as goal
 
 pub put_byte-requires : goal.put_byte-requires

@@ -1,5 +1,5 @@
 use Rattle.std.proofs.Common.{[], ◌∷◌, refl}
-use Rattle.gq_heap.proofs.Callers.{one_in_use, fewer_in_use}
+use Rattle.gq_heap.proofs.Heap_caller_facts.{one_in_use, fewer_in_use}
 use Rattle.gq_memory_rows.proofs.heap_rows.free_three.Goals as goal
 
 pub free-requires : goal.free-requires

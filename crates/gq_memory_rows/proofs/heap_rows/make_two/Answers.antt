@@ -1,4 +1,4 @@
-use Rattle.gq_heap.proofs.Callers.{none_in_use, more_in_use}
+use Rattle.gq_heap.proofs.Heap_caller_facts.{none_in_use, more_in_use}
 use Rattle.gq_memory_rows.proofs.heap_rows.make_two.Goals as goal
 
 pub returns : goal.returns

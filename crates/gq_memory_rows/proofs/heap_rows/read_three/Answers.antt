@@ -1,5 +1,5 @@
 use Rattle.std.proofs.Common.{[], ◌∷◌, refl}
-use Rattle.gq_heap.proofs.Callers.{one_in_use, room_there}
+use Rattle.gq_heap.proofs.Heap_caller_facts.{one_in_use, room_there}
 use Rattle.gq_memory_rows.proofs.heap_rows.read_three.Goals as goal
 
 pub load-requires-clause-kept : goal.load-requires-clause-kept

@@ -1,5 +1,5 @@
 use Rattle.std.proofs.Common.{[], ◌∷◌, refl}
-use Rattle.gq_heap.proofs.Callers.{one_in_use, same_in_use, room_there}
+use Rattle.gq_heap.proofs.Heap_caller_facts.{one_in_use, same_in_use, room_there}
 use Rattle.gq_memory_rows.proofs.heap_rows.write_three.Goals as goal
 
 pub store-requires-clause-kept : goal.store-requires-clause-kept

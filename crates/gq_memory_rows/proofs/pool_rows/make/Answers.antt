@@ -1,6 +1,6 @@
 use Rattle.std.proofs.lemmas.Result.{IfOk-weaker}
 use Rattle.gq_pool.specs.Pools.{IsPool, Makes}
-use Rattle.gq_pool.proofs.Callers.{pool_made}
+use Rattle.gq_pool.proofs.Pool_caller_facts.{pool_made}
 use Rattle.gq_memory_rows.proofs.pool_rows.make.Goals as goal
 
 pub returns-clause-kept : goal.returns-clause-kept

@@ -1,6 +1,6 @@
 use Rattle.std.proofs.Common.{arith}
-use Rattle.gq_store.proofs.Results.{err_state}
-use Rattle.gq_sliced.proofs.Callers.{sizes_stay}
+use Rattle.gq_store.proofs.Refused_call_state.{err_state}
+use Rattle.gq_sliced.proofs.Slice_caller_facts.{sizes_stay}
 use Rattle.gq_memory_rows.proofs.sliced_rows.see_a_page.Goals as goal
 
 pub load-after-requires : goal.load-after-requires

@@ -1,5 +1,5 @@
 use Rattle.std.proofs.Common.{[], ◌∷◌, None, refl, ◌∙◌}
-use Rattle.gq_memory_rows.proofs.Plans.{plan_of, ready_of}
+use Rattle.gq_memory_rows.proofs.Computable_plan_tests.{plan_of, ready_of}
 use Rattle.gq_memory_rows.proofs.trade_rows.deep_pair.Goals as goal
 
 pub new-requires-clause-plan : goal.new-requires-clause-plan

@@ -1,6 +1,6 @@
 use Rattle.std.proofs.Common.{[], ◌∷◌, None, refl, ◌∙◌}
-use Rattle.gq_memory_rows.proofs.Lines.{if_ok, line_first}
-use Rattle.gq_memory_rows.proofs.Plans.{plan_of}
+use Rattle.gq_memory_rows.proofs.Leaves_in_turn.{if_ok, line_first}
+use Rattle.gq_memory_rows.proofs.Computable_plan_tests.{plan_of}
 use Rattle.gq_memory_rows.proofs.trade_rows.line.Goals as goal
 
 pub new-requires-clause-plan : goal.new-requires-clause-plan

@@ -1,5 +1,5 @@
 use Rattle.std.proofs.Common.{[], ◌∷◌, Some, refl, ◌∙◌}
-use Rattle.gq_memory_rows.proofs.Plans.{plan_of, ready_of}
+use Rattle.gq_memory_rows.proofs.Computable_plan_tests.{plan_of, ready_of}
 use Rattle.gq_memory_rows.proofs.trade_rows.pair_with_caps.Goals as goal
 
 pub new-requires-clause-plan : goal.new-requires-clause-plan

@@ -1,4 +1,4 @@
-use Rattle.gq_ram.specs.Entries.{IsOpen}
+use Rattle.gq_ram.specs.Account_table.{IsOpen}
 use Rattle.gq_ram.specs.Ledgers.{IsBalanced}
 use Rattle.gq_memory_rows.proofs.trade_rows.quotas_above.Given as goal
 

@@ -1,6 +1,6 @@
 use Rattle.std.proofs.Common.{[], ◌∷◌, refl, arith}
 use Rattle.gq_memory_rows.specs.Markets.{live_node, pending_node}
-use Rattle.gq_memory_rows.proofs.Lines.{line_live}
+use Rattle.gq_memory_rows.proofs.Leaves_in_turn.{line_live}
 use Rattle.gq_memory_rows.proofs.trade_rows.run_line.Goals as goal
 
 pub quotas_of-first-requires : goal.quotas_of-first-requires

@@ -1,6 +1,6 @@
 use Rattle.std.proofs.Common.{[], ◌∷◌, None, refl, ◌∙◌, arith}
-use Rattle.gq_memory_rows.proofs.Lines.{if_ok}
-use Rattle.gq_memory_rows.proofs.Plans.{plan_of, trio_first}
+use Rattle.gq_memory_rows.proofs.Leaves_in_turn.{if_ok}
+use Rattle.gq_memory_rows.proofs.Computable_plan_tests.{plan_of, trio_first}
 use Rattle.gq_memory_rows.proofs.trade_rows.trio.Goals as goal
 
 pub new-requires-clause-plan : goal.new-requires-clause-plan

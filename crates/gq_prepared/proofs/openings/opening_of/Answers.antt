@@ -3,8 +3,8 @@ use Rattle.std.specs.Prelude.{slice_get}
 use Rattle.std.proofs.lemmas.Option.{slice_get_read}
 use Rattle.gq_model.specs.machine.Scenario.{Interface}
 use Rattle.gq_resolve.specs.NodeTables.{interface_number}
-use Rattle.gq_prepared.proofs.Leads.{opened_nowhere, opened_there, within_found}
-use Rattle.gq_prepared.proofs.Named.{few}
+use Rattle.gq_prepared.proofs.Open_statement_servers.{opened_nowhere, opened_there, within_found}
+use Rattle.gq_prepared.proofs.Interfaces_by_name.{few}
 use Rattle.gq_prepared.proofs.openings.opening_of.Goals as goal
 
 pub server_of-requires-clause-number : goal.server_of-requires-clause-number

@@ -1,7 +1,7 @@
 use Rattle.std.proofs.Common.{◌≡◌, ◌∙◌, [], ◌∷◌, length, length-append, Some, refl, ap, arith}
 use Rattle.std.specs.Prelude.{slice_get}
 use Rattle.std.proofs.lemmas.Option.{slice_get_read, slice_get_within}
-use Rattle.gq_prepared.proofs.Leads.{all_led, one_led}
+use Rattle.gq_prepared.proofs.Open_statement_servers.{all_led, one_led}
 use Rattle.gq_prepared.proofs.openings.openings.Goals as goal
 
 pub loop-statement-preserved : goal.loop-statement-preserved

@@ -1,5 +1,5 @@
 use Rattle.std.proofs.Common.{◌≡◌, length}
-use Rattle.gq_prepared.proofs.Leads.{LedSoFar}
+use Rattle.gq_prepared.proofs.Open_statement_servers.{LedSoFar}
 use Rattle.gq_prepared.proofs.openings.openings.Given as goal
 
 -- so many statements have their openings

@@ -1,8 +1,8 @@
 use Rattle.std.proofs.Common.{ℕ, IfSome, Some, None, sym, subst}
 use Rattle.std.specs.Prelude.{slice_get}
 use Rattle.gq_model.specs.machine.Scenario.{components}
-use Rattle.gq_prepared.specs.internal.Opened.{IsServed}
-use Rattle.gq_prepared.proofs.Leads.{served_row}
+use Rattle.gq_prepared.specs.internal.Open_targets.{IsServed}
+use Rattle.gq_prepared.proofs.Open_statement_servers.{served_row}
 use Rattle.gq_prepared.proofs.openings.server_of.Goals as goal
 
 pub returns-in-None : goal.returns-in-None

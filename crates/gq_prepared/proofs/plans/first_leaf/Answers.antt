@@ -1,4 +1,4 @@
-use Rattle.gq_prepared.proofs.Made.{after_within, pending, live}
+use Rattle.gq_prepared.proofs.Planned_nodes.{after_within, pending, live}
 use Rattle.gq_prepared.proofs.plans.first_leaf.Goals as goal
 
 pub node-requires : goal.node-requires

@@ -1,7 +1,7 @@
 use Rattle.std.proofs.Common.{ap, ◌∙◌}
 use Rattle.gq_model.specs.machine.Scenario.{Scenario}
-use Rattle.gq_scenario.specs.Trees.{version_number}
-use Rattle.gq_prepared.proofs.Made.{leaf_there, leaf_node_is}
+use Rattle.gq_scenario.specs.Component_trees.{version_number}
+use Rattle.gq_prepared.proofs.Planned_nodes.{leaf_there, leaf_node_is}
 use Rattle.gq_prepared.proofs.plans.first_node.Goals as goal
 
 pub first_leaf-requires-clause-there : goal.first_leaf-requires-clause-there

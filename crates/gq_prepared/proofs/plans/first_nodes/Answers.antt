@@ -2,7 +2,7 @@ use Rattle.std.proofs.Common.{ℕ, subst, arith, map, IfSome}
 use Rattle.std.specs.Prelude.{◌≡◌, slice_get}
 use Rattle.gq_resolve.specs.NodeTables.{node_rows}
 use Rattle.gq_prepared.specs.internal.Firsts.{first_node}
-use Rattle.gq_prepared.proofs.Lists.{push_map}
+use Rattle.gq_prepared.proofs.Joined_lists.{push_map}
 use Rattle.gq_prepared.proofs.plans.first_nodes.Goals as goal
 
 pub loop-place-preserved : goal.loop-place-preserved

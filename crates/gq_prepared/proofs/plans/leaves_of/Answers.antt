@@ -1,8 +1,8 @@
 use Rattle.std.proofs.Common.{ℕ, ◌∙◌, map, ap, arith}
 use Rattle.gq_model.specs.machine.Scenario.{Scenario}
 use Rattle.gq_scenario.specs.Sizes.{leaf_places}
-use Rattle.gq_prepared.proofs.Lists.{push_done}
-use Rattle.gq_prepared.proofs.Made.{map_same}
+use Rattle.gq_prepared.proofs.Joined_lists.{push_done}
+use Rattle.gq_prepared.proofs.Planned_nodes.{map_same}
 use Rattle.gq_prepared.proofs.plans.leaves_of.Goals as goal
 
 pub returns : goal.returns

@@ -1,5 +1,5 @@
 use Rattle.std.proofs.Common.{◌≡◌, ℕ, ◌<◌, ◌≤◌, ◌++◌, length, get_or, map, drop}
-use Rattle.gq_prepared.specs.Nodes.{objects_of}
+use Rattle.gq_prepared.specs.Account_nodes.{objects_of}
 use Rattle.gq_prepared.proofs.plans.objects_of.Given as goal
 
 -- the objects so far, with those that are left, are all, and each is small

@@ -1,8 +1,8 @@
 use Rattle.std.proofs.Common.{ℕ, subst, arith, IfSome}
 use Rattle.std.specs.Prelude.{◌≡◌, slice_get}
 use Rattle.gq_resolve.specs.NodeTables.{NodeRow, node_rows}
-use Rattle.gq_prepared.specs.Nodes.{or_zero, parents_of}
-use Rattle.gq_prepared.proofs.Lists.{push_map}
+use Rattle.gq_prepared.specs.Account_nodes.{or_zero, parents_of}
+use Rattle.gq_prepared.proofs.Joined_lists.{push_map}
 use Rattle.gq_prepared.proofs.plans.parents_of.Goals as goal
 
 pub loop-place-preserved : goal.loop-place-preserved

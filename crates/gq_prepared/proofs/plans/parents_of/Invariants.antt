@@ -1,6 +1,6 @@
 use Rattle.std.proofs.Common.{◌≡◌, ◌++◌, map, drop}
 use Rattle.gq_resolve.specs.NodeTables.{NodeRow, node_rows}
-use Rattle.gq_prepared.specs.Nodes.{or_zero, parents_of}
+use Rattle.gq_prepared.specs.Account_nodes.{or_zero, parents_of}
 use Rattle.gq_prepared.proofs.plans.parents_of.Given as goal
 
 -- the nodes above those so far, with those that are left, are all

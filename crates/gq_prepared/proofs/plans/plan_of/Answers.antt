@@ -1,6 +1,6 @@
 use Rattle.std.proofs.Common.{arith}
-use Rattle.gq_prepared.proofs.Made.{is_plan_of}
-use Rattle.gq_prepared.proofs.Firsts.{is_plan}
+use Rattle.gq_prepared.proofs.Planned_nodes.{is_plan_of}
+use Rattle.gq_prepared.proofs.Plan_quantum_handing.{is_plan}
 use Rattle.gq_prepared.proofs.plans.plan_of.Goals as goal
 
 pub returns-clause-nodes : goal.returns-clause-nodes

@@ -1,5 +1,5 @@
 -- Laws of the accounts that are stored.
-use Rattle.gq_prepared.proofs.quotas.Quotas.{quota_stored, ram_used, caps_used}
+use Rattle.gq_prepared.proofs.quotas.Stored_node_quotas.{quota_stored, ram_used, caps_used}
 use Rattle.gq_prepared.proofs.quotas.stored_accounts.Goals as goal
 
 pub returns-clause-quotas : goal.returns-clause-quotas

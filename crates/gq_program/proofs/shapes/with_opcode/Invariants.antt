@@ -1,6 +1,6 @@
 use Rattle.std.proofs.Common.{◌≡◌, drop}
 use Rattle.gq_model.specs.texts.Spelling.{shape_of_opcode}
-use Rattle.gq_program.specs.Spelling.{spellings_of}
+use Rattle.gq_program.specs.Statement_table.{spellings_of}
 use Rattle.gq_program.proofs.shapes.with_opcode.Given as goal
 
 abbrev pub invariant-loop-shape : goal.invariant-loop-shape

@@ -1,7 +1,7 @@
 use Rattle.std.proofs.Common.{◌≡◌, Bool, true, false, ℕ, List, length, get_or, ◌-◌, refl, ap, sym, subst, ◌∙◌, rules}
 use Rattle.std.specs.Prelude.{not, ◌==◌}
 use Rattle.gq_model.specs.machine.Program.{text_eq}
-use Rattle.gq_model.proofs.Small.{text_is}
+use Rattle.gq_model.proofs.Small_facts.{text_is}
 use Rattle.gq_program.proofs.spelling.same_text.Goals.{then-text-other-via-then-text-other, then-text-other-via-else-text-other+then-text-other-2}
 use Rattle.gq_program.proofs.spelling.same_text.Goals.{then-not-is_empty, else-not-is_empty}
 use Rattle.gq_program.proofs.spelling.same_text.Goals as goal

@@ -1,10 +1,10 @@
 use Rattle.std.proofs.Common.{◌+◌, ap, arith, refl}
 use Rattle.std.proofs.lemmas.Result.{on_ok_weaker}
 use Rattle.gq_model.specs.machine.Program.{size}
-use Rattle.gq_program.proofs.Sizes.{size_here}
-use Rattle.gq_races.proofs.Found.{arms_text, sizes_here, statement_put}
-use Rattle.gq_races.specs.Text.{has_effect}
-use Rattle.gq_races.specs.internal.Lines.{effect_line}
+use Rattle.gq_program.proofs.Statement_list_sizes.{size_here}
+use Rattle.gq_races.proofs.Race_line_text.{arms_text, sizes_here, statement_put}
+use Rattle.gq_races.specs.Race_text.{has_effect}
+use Rattle.gq_races.specs.internal.Kind_lines.{effect_line}
 use Rattle.gq_races.proofs.effects.+effects.Goals as goal
 
 pub push_effects-push_effects_in-requires : goal.push_effects-push_effects_in-requires
@@ -14,7 +14,7 @@ push_effects-push_effects_in-requires t c =
     let within = c.loop-statement-test.true in
     let is = c.statement-item.is in
     let here = size_here items l.statement-index c.statement-item.result within is in
-    let left = sizes_here (has_effect c.args.several) (effect_line c.args.front.now) items l.statement-index c.statement-item.result within is in
+    let left = sizes_here (has_effect c.args.several) (effect_line c.args.prefix.now) items l.statement-index c.statement-item.result within is in
     let all = ap size c.statements-statement-items.ensures in
     (omega (arith, c.decreases, here, all), omega (arith, c.requires, here, left, all, l.invariant.numbers))
 
@@ -25,10 +25,10 @@ push_effects-loop-statement-preserved t c =
     let st = c.statement-item.result in
     let within = c.loop-statement-test.true in
     let is = c.statement-item.is in
-    let left = sizes_here (has_effect c.args.several) (effect_line c.args.front.now) items l.statement-index st within is in
+    let left = sizes_here (has_effect c.args.several) (effect_line c.args.prefix.now) items l.statement-index st within is in
     record {
       lines =
-          statement_put (has_effect c.args.several) (effect_line c.args.front.now) items l.statement-index st within is l.number
+          statement_put (has_effect c.args.several) (effect_line c.args.prefix.now) items l.statement-index st within is l.number
           c.in_ok-number.number l.text.items c.push_effects_in.new.text.items _
           c.in_ok-number.ensures.next c.in_ok-number.ensures.lines l.invariant.lines;
       numbers = omega (arith, l.invariant.numbers, left, c.in_ok-number.ensures.next);
@@ -36,7 +36,7 @@ push_effects-loop-statement-preserved t c =
 
 pub push_effects_in-returns-in_ok-between-in-If-clause-lines : goal.push_effects_in-returns-in_ok-between-in-If-clause-lines
 push_effects_in-returns-in_ok-between-in-If-clause-lines t c =
-    on_ok_weaker c.push_effects-in-If.result (λ e. rw c.in-If.is (arms_text (has_effect c.args.several) (effect_line c.args.front.now)
+    on_ok_weaker c.push_effects-in-If.result (λ e. rw c.in-If.is (arms_text (has_effect c.args.several) (effect_line c.args.prefix.now)
     c.args.number (c.args.number + 1) c.in_ok-between-in-If.between
     c.in-If.arm c.in-If.other c.args.text.now.items _ _ refl c.in_ok-between-in-If.ensures.next c.in_ok-between-in-If.ensures.lines e))
     c.push_effects-in-If.ensures.lines

@@ -1,8 +1,8 @@
 use Rattle.gq_model.specs.texts.Code.{greatest_statements}
-use Rattle.gq_races.proofs.Found.{effect_same, few_after, section_put}
+use Rattle.gq_races.proofs.Race_line_text.{effect_same, few_after, section_put}
 use Rattle.gq_races.specs.Races.{for_several}
-use Rattle.gq_races.specs.Text.{effect_text, has_effect}
-use Rattle.gq_races.specs.internal.Lines.{effect_line}
+use Rattle.gq_races.specs.Race_text.{effect_text, has_effect}
+use Rattle.gq_races.specs.internal.Kind_lines.{effect_line}
 use Rattle.gq_races.proofs.effects.push_sections.Goals as goal
 
 pub loop-section-preserved : goal.loop-section-preserved

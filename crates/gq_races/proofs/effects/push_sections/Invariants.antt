@@ -3,7 +3,7 @@ use Rattle.std.specs.Prelude.{sum_by}
 use Rattle.gq_model.specs.machine.Program.{size}
 use Rattle.gq_model.specs.texts.Code.{greatest_statements}
 use Rattle.gq_races.specs.Races.{for_several, stated_in}
-use Rattle.gq_races.specs.Text.{effect_text, has_effect}
+use Rattle.gq_races.specs.Race_text.{effect_text, has_effect}
 use Rattle.gq_views.specs.Listing.{joined}
 use Rattle.gq_races.proofs.effects.push_sections.Given as goal
 

@@ -1,4 +1,4 @@
-use Rattle.gq_races.proofs.Told.{opener_put}
+use Rattle.gq_races.proofs.Race_leaf_lines.{opener_put}
 use Rattle.gq_races.proofs.opens.push_openers.Goals as goal
 
 pub loop-place-preserved : goal.loop-place-preserved

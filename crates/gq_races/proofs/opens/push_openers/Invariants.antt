@@ -1,5 +1,5 @@
 use Rattle.std.proofs.Common.{◌≡◌, ◌++◌, drop, map}
-use Rattle.gq_races.specs.Text.{opened_text}
+use Rattle.gq_races.specs.Race_text.{opened_text}
 use Rattle.gq_races.specs.internal.Openers.{opened_among}
 use Rattle.gq_views.specs.Listing.{joined}
 use Rattle.gq_races.proofs.opens.push_openers.Given as goal

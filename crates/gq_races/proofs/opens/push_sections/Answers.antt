@@ -1,7 +1,7 @@
 use Rattle.gq_model.specs.texts.Code.{greatest_statements}
-use Rattle.gq_races.proofs.Found.{opened_same, few_after, section_put}
-use Rattle.gq_races.specs.Text.{opened_text}
-use Rattle.gq_races.specs.internal.Lines.{opened_line}
+use Rattle.gq_races.proofs.Race_line_text.{opened_same, few_after, section_put}
+use Rattle.gq_races.specs.Race_text.{opened_text}
+use Rattle.gq_races.specs.internal.Kind_lines.{opened_line}
 use Rattle.gq_races.specs.internal.Openers.{opens_among}
 use Rattle.gq_races.proofs.opens.push_sections.Goals as goal
 

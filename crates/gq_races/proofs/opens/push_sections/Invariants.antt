@@ -3,7 +3,7 @@ use Rattle.std.specs.Prelude.{sum_by}
 use Rattle.gq_model.specs.machine.Program.{size}
 use Rattle.gq_model.specs.texts.Code.{greatest_statements}
 use Rattle.gq_races.specs.Races.{stated_in}
-use Rattle.gq_races.specs.Text.{opened_text}
+use Rattle.gq_races.specs.Race_text.{opened_text}
 use Rattle.gq_races.specs.internal.Openers.{opens_among}
 use Rattle.gq_views.specs.Listing.{joined}
 use Rattle.gq_races.proofs.opens.push_sections.Given as goal

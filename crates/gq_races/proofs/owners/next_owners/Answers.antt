@@ -1,6 +1,6 @@
 use Rattle.std.proofs.Common.{◌∙◌, ap}
 use Rattle.gq_races.specs.internal.Owners.{admits_at, all_kept}
-use Rattle.gq_races.proofs.Owned.{count_more, pushed}
+use Rattle.gq_races.proofs.Leaf_owner_rounds.{count_more, pushed}
 use Rattle.gq_races.proofs.owners.next_owners.Goals as goal
 
 pub loop-place-preserved : goal.loop-place-preserved

@@ -1,4 +1,4 @@
-use Rattle.gq_races.proofs.Owned.{at_get, at_over}
+use Rattle.gq_races.proofs.Leaf_owner_rounds.{at_get, at_over}
 use Rattle.gq_races.proofs.owners.owner_at.Goals as goal
 
 pub returns-in-Some : goal.returns-in-Some

@@ -2,7 +2,7 @@ use Rattle.std.proofs.Common.{◌∙◌, ◌==◌, Bool, ap}
 use Rattle.std.specs.Prelude.{◌&&◌}
 use Rattle.gq_races.specs.Races.{implies}
 use Rattle.gq_races.specs.internal.Owners.{admits, admits_at}
-use Rattle.gq_races.proofs.Owned.{kept_put}
+use Rattle.gq_races.proofs.Leaf_owner_rounds.{kept_put}
 use Rattle.gq_races.proofs.owners.owner_of.Goals as goal
 
 pub loop-place-preserved : goal.loop-place-preserved

@@ -1,6 +1,6 @@
 use Rattle.std.proofs.Common.{◌∙◌, ap}
 use Rattle.gq_races.specs.internal.Owners.{admits_at, all_kept}
-use Rattle.gq_races.proofs.Owned.{round_more}
+use Rattle.gq_races.proofs.Leaf_owner_rounds.{round_more}
 use Rattle.gq_races.proofs.owners.owners.Goals as goal
 
 pub loop-round-preserved : goal.loop-round-preserved

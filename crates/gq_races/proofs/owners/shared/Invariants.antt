@@ -4,10 +4,10 @@ use Rattle.gq_races.specs.Races.{any_below}
 use Rattle.gq_races.specs.internal.Owners.{owns_kept}
 use Rattle.gq_races.proofs.owners.shared.Given as goal
 
--- the leaves so far are told
+-- the leaves so far are reported
 abbrev pub invariant-loop-place : goal.invariant-loop-place
 invariant-loop-place l = record {
   count : length l.all.items ≡ l.place;
-  told : (x : ℕ) (b : Bool) → x < l.place → b ≡ get_or l.all.items x b
+  reported : (x : ℕ) (b : Bool) → x < l.place → b ≡ get_or l.all.items x b
       → b ≡ not (any_below (λ z. owns_kept (length l.opened) l.opened z x) (length l.opened));
 }

@@ -1,11 +1,11 @@
 use Rattle.std.proofs.Common.{◌∙◌, ◌++◌, ap, false, get_or, refl}
 use Rattle.gq_model.specs.machine.Scenario.{system}
 use Rattle.gq_races.specs.Races.{stated_of}
-use Rattle.gq_races.specs.Text.{has_effect, heading, sharing_lines}
+use Rattle.gq_races.specs.Race_text.{has_effect, heading, sharing_lines}
 use Rattle.gq_races.specs.internal.Openers.{opened_among}
 use Rattle.gq_views.specs.Listing.{joined}
-use Rattle.gq_races.proofs.Opened.{shared_test}
-use Rattle.gq_races.proofs.Told.{leaf_put, lines_are}
+use Rattle.gq_races.proofs.Shared_leaf_servers.{shared_test}
+use Rattle.gq_races.proofs.Race_leaf_lines.{leaf_put, lines_are}
 use Rattle.gq_races.proofs.races.push_leaves.Goals as goal
 
 pub loop-place-preserved : goal.loop-place-preserved

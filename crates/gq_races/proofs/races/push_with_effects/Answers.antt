@@ -1,8 +1,8 @@
 use Rattle.std.proofs.Common.{◌∙◌, ◌==◌, ap, length, sym}
 use Rattle.std.proofs.lemmas.Bool.{true≢false}
-use Rattle.gq_races.specs.Text.{sharing_lines}
+use Rattle.gq_races.specs.Race_text.{sharing_lines}
 use Rattle.gq_races.specs.internal.Openers.{opened_among}
-use Rattle.gq_races.proofs.Told.{heading_put, on_ok_put}
+use Rattle.gq_races.proofs.Race_leaf_lines.{heading_put, on_ok_put}
 use Rattle.gq_races.proofs.races.push_with_effects.Goals as goal
 
 pub returns : goal.returns

@@ -1,6 +1,6 @@
 use Rattle.std.proofs.Common.{◌∙◌, get_or, None, ap, sym}
-use Rattle.gq_ram.specs.Entries.{Entries}
-use Rattle.gq_ram.proofs.Numbers.{one_alone}
+use Rattle.gq_ram.specs.Account_table.{Entries}
+use Rattle.gq_ram.proofs.Numbered_account_tables.{one_alone}
 use Rattle.gq_ram.proofs.accounts.root_alone.Goals as goal
 
 pub returns : goal.returns

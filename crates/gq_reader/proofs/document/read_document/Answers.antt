@@ -1,7 +1,7 @@
 use Rattle.std.proofs.Common.{rules}
 use Rattle.std.proofs.Common.{refl}
 use Rattle.toml.specs.View.{table_view}
-use Rattle.gq_reader.proofs.Texts.{not_utf8, toml_read}
+use Rattle.gq_reader.proofs.Text_scenario_result.{not_utf8, toml_read}
 use Rattle.gq_reader.proofs.document.read_document.Goals as goal
 
 pub returns-in_default : goal.returns-in_default

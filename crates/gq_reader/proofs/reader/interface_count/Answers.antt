@@ -1,6 +1,6 @@
 use Rattle.std.proofs.Common.{length, ap, sym, ◌∙◌}
 use Rattle.gq_scenario.specs.Document.{keys_of}
-use Rattle.gq_reader.proofs.Documents.{keys_length}
+use Rattle.gq_reader.proofs.Faultless_document_parts.{keys_length}
 use Rattle.gq_reader.proofs.reader.interface_count.Goals as goal
 
 pub returns-in-Some : goal.returns-in-Some

@@ -1,5 +1,5 @@
 use Rattle.toml.specs.View.{table_view}
-use Rattle.gq_reader.proofs.Documents.{walked}
+use Rattle.gq_reader.proofs.Faultless_document_parts.{walked}
 use Rattle.gq_reader.proofs.reader.read_parts.Goals as goal
 
 pub read_quantum-total-requires : goal.read_quantum-total-requires

@@ -1,5 +1,5 @@
 use Rattle.std.proofs.Common.{sym, ◌∙◌}
-use Rattle.gq_reader.proofs.Listed.{listed_length, few_listed}
+use Rattle.gq_reader.proofs.Document_list_values.{listed_length, few_listed}
 use Rattle.gq_reader.proofs.rules.are_inputs.Goals as goal
 
 pub returns-then-are_numbers : goal.returns-then-are_numbers

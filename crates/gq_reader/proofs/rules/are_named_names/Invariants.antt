@@ -1,6 +1,6 @@
 use Rattle.std.proofs.Common.{◌≡◌}
 use Rattle.toml.specs.View.{members_view, table_view}
-use Rattle.gq_scenario.specs.Tables.{are_named_names}
+use Rattle.gq_scenario.specs.Document_tables.{are_named_names}
 use Rattle.gq_reader.proofs.rules.are_named_names.Given as goal
 
 abbrev pub invariant-loop-key : goal.invariant-loop-key

@@ -1,7 +1,7 @@
 use Rattle.std.proofs.Common.{◌≡◌, drop}
 use Rattle.toml.specs.View.{items_view}
 use Rattle.gq_model.specs.machine.Lists.{all_of}
-use Rattle.gq_scenario.specs.Keys.{is_table, listed}
+use Rattle.gq_scenario.specs.Table_keys.{is_table, listed}
 use Rattle.gq_reader.proofs.rules.are_tables.Given as goal
 
 abbrev pub invariant-loop-value : goal.invariant-loop-value

@@ -1,8 +1,8 @@
 use Rattle.std.proofs.Common.{◌≡◌, map, drop}
 use Rattle.toml.specs.View.{table_view}
 use Rattle.gq_model.specs.machine.Lists.{any_of}
-use Rattle.gq_scenario.specs.Keys.{has}
-use Rattle.gq_scenario.specs.Words.{key_text}
+use Rattle.gq_scenario.specs.Table_keys.{has}
+use Rattle.gq_scenario.specs.Fault_words.{key_text}
 use Rattle.gq_reader.proofs.rules.has_any.Given as goal
 
 abbrev pub invariant-loop-key : goal.invariant-loop-key

@@ -1,7 +1,7 @@
 use Rattle.std.proofs.Common.{◌∙◌}
 use Rattle.toml.specs.View.{view}
 use Rattle.toml.proofs.Views.{table_get}
-use Rattle.gq_reader.proofs.Listed.{among_found}
+use Rattle.gq_reader.proofs.Document_list_values.{among_found}
 use Rattle.gq_reader.proofs.rules.is_among.Goals as goal
 
 pub returns-in-Some : goal.returns-in-Some

@@ -1,7 +1,7 @@
 use Rattle.std.proofs.Common.{◌≡◌, map, drop}
 use Rattle.gq_model.specs.machine.Lists.{any_of}
 use Rattle.gq_model.specs.machine.Program.{text_eq}
-use Rattle.gq_reader.specs.Rules.{rule_of}
+use Rattle.gq_reader.specs.Key_rules.{rule_of}
 use Rattle.gq_reader.proofs.rules.is_ruled.Given as goal
 
 abbrev pub invariant-loop-rule : goal.invariant-loop-rule

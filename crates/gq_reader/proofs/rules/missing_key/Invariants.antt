@@ -1,7 +1,7 @@
 use Rattle.std.proofs.Common.{◌≡◌, map, drop}
 use Rattle.toml.specs.View.{table_view}
-use Rattle.gq_scenario.specs.Keys.{missing_key}
-use Rattle.gq_reader.specs.Rules.{rule_of}
+use Rattle.gq_scenario.specs.Table_keys.{missing_key}
+use Rattle.gq_reader.specs.Key_rules.{rule_of}
 use Rattle.gq_reader.proofs.rules.missing_key.Given as goal
 
 abbrev pub invariant-loop-rule : goal.invariant-loop-rule

@@ -2,8 +2,8 @@ use Rattle.std.proofs.Common.{◌≡◌, ◌∷◌, ◌++◌, ℕ, List, Some, c
 use Rattle.std.proofs.lemmas.Grind.{common_steps}
 use Rattle.toml.specs.View.{view, members_view}
 use Rattle.toml.proofs.Views.{Entry}
-use Rattle.gq_reader.specs.Rules.{rule_of}
-use Rattle.gq_scenario.proofs.Keyed.{unknown_first, unknown_other}
+use Rattle.gq_reader.specs.Key_rules.{rule_of}
+use Rattle.gq_scenario.proofs.Table_key_lookup.{unknown_first, unknown_other}
 use Rattle.gq_reader.proofs.rules.unknown_key.Goals as goal
 
 pub returns-then-not-is_ruled : goal.returns-then-not-is_ruled

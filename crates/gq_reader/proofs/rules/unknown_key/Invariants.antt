@@ -1,7 +1,7 @@
 use Rattle.std.proofs.Common.{◌≡◌, map}
 use Rattle.toml.specs.View.{members_view, table_view}
-use Rattle.gq_scenario.specs.Keys.{unknown_key}
-use Rattle.gq_reader.specs.Rules.{rule_of}
+use Rattle.gq_scenario.specs.Table_keys.{unknown_key}
+use Rattle.gq_reader.specs.Key_rules.{rule_of}
 use Rattle.gq_reader.proofs.rules.unknown_key.Given as goal
 
 abbrev pub invariant-loop-key : goal.invariant-loop-key

@@ -1,4 +1,4 @@
-use Rattle.gq_reader.proofs.Listed.{counted}
+use Rattle.gq_reader.proofs.Document_list_values.{counted}
 use Rattle.gq_reader.proofs.value.count_at.Goals as goal
 
 pub returns-in-Some : goal.returns-in-Some

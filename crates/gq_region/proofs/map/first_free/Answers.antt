@@ -1,5 +1,5 @@
 use Rattle.std.proofs.Common.{◌≡◌, ◌<◌, length, get_or, None, arith, sym, ◌∙◌}
-use Rattle.gq_region.proofs.Lowest.{lowest_is, lowest_none, reads, is_free}
+use Rattle.gq_region.proofs.Lowest_free_region.{lowest_is, lowest_none, reads, is_free}
 use Rattle.gq_region.proofs.map.first_free.Goals as goal
 
 pub returns-then-is_none : goal.returns-then-is_none

@@ -1,5 +1,5 @@
 use Rattle.std.proofs.Common.{ℕ, ◌<◌}
-use Rattle.gq_region.specs.Places.{IsTaken}
+use Rattle.gq_region.specs.Region_places.{IsTaken}
 use Rattle.gq_region.proofs.map.first_free.Given as goal
 
 abbrev pub invariant-loop-k : goal.invariant-loop-k

@@ -1,5 +1,5 @@
 use Rattle.std.proofs.Common.{◌∷◌}
-use Rattle.gq_resolve.proofs.Pushed.{one_more}
+use Rattle.gq_resolve.proofs.Mapped_list_growth.{one_more}
 use Rattle.gq_resolve.proofs.component.onto.Goals as goal
 
 pub loop-upper-preserved : goal.loop-upper-preserved

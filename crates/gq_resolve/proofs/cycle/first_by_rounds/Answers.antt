@@ -1,6 +1,6 @@
 use Rattle.std.proofs.Common.{length, map, sym, ◌∙◌}
 use Rattle.std.proofs.lemmas.List.{length-map}
-use Rattle.gq_resolve.proofs.Reaching.{first_more}
+use Rattle.gq_resolve.proofs.Use_chain_flags.{first_more}
 use Rattle.gq_resolve.proofs.cycle.first_by_rounds.Goals as goal
 
 pub loop-leaf-preserved : goal.loop-leaf-preserved

@@ -1,5 +1,5 @@
 use Rattle.std.proofs.Common.{◌∙◌}
-use Rattle.gq_resolve.proofs.Reaching.{flagged}
+use Rattle.gq_resolve.proofs.Use_chain_flags.{flagged}
 use Rattle.gq_resolve.proofs.cycle.one_more.Goals as goal
 
 pub loop-servers-preserved : goal.loop-servers-preserved

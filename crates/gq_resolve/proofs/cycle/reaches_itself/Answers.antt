@@ -1,5 +1,5 @@
 use Rattle.std.proofs.Common.{length, map}
-use Rattle.gq_resolve.proofs.Reaching.{flags_at}
+use Rattle.gq_resolve.proofs.Use_chain_flags.{flags_at}
 use Rattle.gq_resolve.proofs.cycle.reaches_itself.Goals as goal
 
 pub returns : goal.returns

@@ -1,7 +1,7 @@
 use Rattle.std.proofs.Common.{◌≡◌, drop}
 use Rattle.gq_model.specs.rules.Resolve.{first_bad_offer}
 use Rattle.gq_scenario.specs.Sizes.{node_count}
-use Rattle.gq_scenario.specs.Trees.{nodes_of}
+use Rattle.gq_scenario.specs.Component_trees.{nodes_of}
 use Rattle.gq_resolve.proofs.offers.+check_below.Given as goal
 
 abbrev pub decreases-check_below : goal.decreases-check_below

@@ -1,8 +1,8 @@
 use Rattle.std.proofs.Common.{◌≡◌, drop}
 use Rattle.gq_model.specs.rules.Resolve.{first_exceeding}
-use Rattle.gq_resolve.specs.Resolved.{resource_of}
+use Rattle.gq_resolve.specs.Resolve_faults.{resource_of}
 use Rattle.gq_scenario.specs.Sizes.{node_count}
-use Rattle.gq_scenario.specs.Trees.{nodes_of}
+use Rattle.gq_scenario.specs.Component_trees.{nodes_of}
 use Rattle.gq_resolve.proofs.quanta.+fit_below.Given as goal
 
 abbrev pub decreases-fit_below : goal.decreases-fit_below

@@ -1,7 +1,7 @@
 use Rattle.std.proofs.Common.{◌≡◌, nat_le, drop}
 use Rattle.gq_model.specs.rules.Resolve.{handed_out}
-use Rattle.gq_resolve.specs.Resolved.{resource_of}
-use Rattle.gq_scenario.specs.Trees.{nodes_of}
+use Rattle.gq_resolve.specs.Resolve_faults.{resource_of}
+use Rattle.gq_scenario.specs.Component_trees.{nodes_of}
 use Rattle.gq_resolve.proofs.quanta.is_enough.Given as goal
 
 abbrev pub invariant-loop-node : goal.invariant-loop-node

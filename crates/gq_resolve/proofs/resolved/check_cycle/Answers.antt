@@ -1,4 +1,4 @@
-use Rattle.gq_resolve.proofs.Servers.{reaches_itself, none_reaches}
+use Rattle.gq_resolve.proofs.Service_server_lists.{reaches_itself, none_reaches}
 use Rattle.gq_resolve.proofs.resolved.check_cycle.Goals as goal
 
 pub returns-in-Some : goal.returns-in-Some

@@ -3,7 +3,7 @@ use Rattle.std.proofs.Common.{◌≡◌, ◌∙◌, List, None, map, ap, subst, 
 use Rattle.gq_model.specs.machine.Scenario.{Component, components}
 use Rattle.gq_model.specs.rules.Resolve.{routes_fault}
 use Rattle.gq_resolve.specs.Served.{leaf_routes, routes_of, AreServers}
-use Rattle.gq_resolve.proofs.Servers.{AreServers-routes_of}
+use Rattle.gq_resolve.proofs.Service_server_lists.{AreServers-routes_of}
 use Rattle.gq_resolve.proofs.resolved.resolve_opened.Goals as goal
 
 pub returns-clause-servers : goal.returns-clause-servers

@@ -1,7 +1,7 @@
 use Rattle.std.proofs.Common.{◌≡◌, ◌++◌, drop}
 use Rattle.gq_model.specs.machine.Routes.{providers, only}
 use Rattle.gq_resolve.specs.Routing.{led_found}
-use Rattle.gq_scenario.specs.Trees.{nodes_of}
+use Rattle.gq_scenario.specs.Component_trees.{nodes_of}
 use Rattle.gq_resolve.proofs.router.only_by.Given as goal
 
 abbrev pub invariant-loop-place : goal.invariant-loop-place

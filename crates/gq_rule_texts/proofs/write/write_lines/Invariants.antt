@@ -1,6 +1,6 @@
 use Rattle.std.proofs.Common.{◌≡◌, take}
 use Rattle.std.specs.Io.KnownBytes.{Appends}
-use Rattle.gq_rule_texts.specs.Rules.{lines_of}
+use Rattle.gq_rule_texts.specs.Rule_tables.{lines_of}
 use Rattle.gq_rule_texts.proofs.write.write_lines.Given as goal
 
 -- the lines of the rules so far were written

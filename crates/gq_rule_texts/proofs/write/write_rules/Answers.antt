@@ -3,9 +3,9 @@ use Rattle.std.proofs.Common.{List, subst}
 use Rattle.std.proofs.lemmas.Result.{err_from_is_err_and}
 use Rattle.std.specs.Borrow.{Bor}
 use Rattle.gq_init.specs.Writes.{IsRaised}
-use Rattle.gq_rule_texts.specs.declared.table.Rule.{Rule}
-use Rattle.gq_rule_texts.specs.Rules.{lines_of}
-use Rattle.gq_rule_texts.proofs.Written.{front_written}
+use Rattle.gq_rule_texts.specs.declared.rule_table.RuleText.{RuleText}
+use Rattle.gq_rule_texts.specs.Rule_tables.{lines_of}
+use Rattle.gq_rule_texts.proofs.Rule_text_parts.{prefix_written}
 use Rattle.gq_rule_texts.proofs.write.write_rules.Goals as goal
 
 pub returns-in_err-write_lines : goal.returns-in_err-write_lines
@@ -18,8 +18,8 @@ returns-in_err-write_lines g c =
     rw (p.1) (record {
       written = tt;
       counted = tt;
-      front =
-          front_written (λ (f : Bor (List Rule)). lines_of f.now) c.args.table.now l.rules-index _ c.loop-rules-test.true a b d l.invariant.written
-          c.in_err-write_lines.ensures.front;
+      prefix =
+          prefix_written (λ (f : Bor (List RuleText)). lines_of f.now) c.args.table.now l.rules-index _ c.loop-rules-test.true a b d l.invariant.written
+          c.in_err-write_lines.ensures.prefix;
       raised = subst (λ n. IsRaised n c.write_lines.new.out.failures) l.invariant.counted c.in_err-write_lines.ensures.raised;
     })

@@ -1,6 +1,6 @@
 use Rattle.std.proofs.Common.{◌≡◌, take}
 use Rattle.std.specs.Io.KnownBytes.{Appends}
-use Rattle.gq_rule_texts.specs.Rules.{lines_of_all}
+use Rattle.gq_rule_texts.specs.Rule_tables.{lines_of_all}
 use Rattle.gq_rule_texts.proofs.write.write_rules.Given as goal
 
 -- the lines of the families so far were written

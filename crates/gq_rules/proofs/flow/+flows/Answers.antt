@@ -2,22 +2,22 @@ use Rattle.std.proofs.Common.{◌≡◌, ◌+◌, ◌-◌, ◌∙◌, ◌∷◌,
 use Rattle.std.proofs.lemmas.Result.{err_from_is_err_and}
 use Rattle.gq_model.specs.rules.Flow.{at, later, flow_then, is_nil, chosen_from, none_left, join, flow, points}
 use Rattle.gq_model.specs.rules.Rules.{must}
-use Rattle.gq_model.specs.rules.Kinds.{State, inside}
+use Rattle.gq_model.specs.rules.Kinds.{AbstractState, inside}
 use Rattle.gq_model.specs.declared.fault.Rule.TheVariants.{LeftoverOperand}
 use Rattle.gq_model.specs.machine.Program.{size}
 use Rattle.gq_model.specs.machine.Lists.{greatest}
-use Rattle.gq_program.specs.Trees.{tree_of}
+use Rattle.gq_program.specs.Statement_trees.{tree_of}
 use Rattle.gq_caps.specs.Known.{all_known}
 use Rattle.gq_caps.specs.Measured.{total_of, measured}
 use Rattle.gq_rules.specs.Flowing.{few_loops}
-use Rattle.gq_rules.specs.internal.Steps.{chosen}
-use Rattle.gq_rules.specs.Peaks.{measure_of, Peaks}
+use Rattle.gq_rules.specs.internal.List_states.{chosen}
+use Rattle.gq_rules.specs.List_maxima.{measure_of, Peaks}
 use Rattle.gq_program.specs.Notes.{is_still}
-use Rattle.gq_rules.proofs.Unchanged.{still_second, still_join, still_round, if_as, loop_as, none_are, on_any, after_either, same_state}
-use Rattle.gq_rules.proofs.Flows.{flow_here, stops, size_at, few_here, goes_on}
-use Rattle.gq_rules.proofs.Programs.{parts}
-use Rattle.gq_rules.proofs.Points.{peaks_on, peak_end, peaks_append, chosen_is}
-use Rattle.gq_program.proofs.Sizes.{size_here}
+use Rattle.gq_rules.proofs.Slot_keeping_statements.{still_second, still_join, still_round, if_as, loop_as, none_are, on_any, after_either, same_state}
+use Rattle.gq_rules.proofs.Statement_list_flow.{flow_here, stops, size_at, few_here, goes_on}
+use Rattle.gq_rules.proofs.Program_section_facts.{parts}
+use Rattle.gq_rules.proofs.Statement_list_states.{peaks_on, peak_end, peaks_append, chosen_is}
+use Rattle.gq_program.proofs.Statement_list_sizes.{size_here}
 use Rattle.gq_model.proofs.Rules_laws.{at_ok}
 use Rattle.std.proofs.lemmas.Bool.{and_parts}
 use Rattle.gq_rules.proofs.flow.+flows.Goals as goal
@@ -96,7 +96,7 @@ flow_loop-returns-clause-flowed t c =
     let u = c.flow.new.state in
     let h = sym (at_ok (n + 1) (none_left s) s (sym (c.in_ok-at.ensures s ∙ ap (at (n + 1)) c.none_left.ensures.judged))) in
     let e = c.in_ok-flow.ensures.flowed ∙ ap (λ k. later (n + 1) (flow k s body)) c.inside.ensures in
-    let before : State = record { own = all_known c.own.result.now; bank = all_known c.bank.result.now; bounds = [] } in
+    let before : AbstractState = record { own = all_known c.own.result.now; bank = all_known c.bank.result.now; bounds = [] } in
     let same = same_state s before (sym c.own.ensures) (sym c.bank.ensures) (none_are s s h) in
     let back = after_either c.comes_back.result s u (c.comes_back.ensures s same) in
     c.at-2.ensures u ∙ (ap (at (n + 1)) back ∙ sym (loop_as k s s u c.args.count body n (n + 1) h e))

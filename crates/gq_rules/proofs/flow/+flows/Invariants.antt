@@ -2,11 +2,11 @@ use Rattle.std.proofs.Common.{◌≡◌, ◌+◌, ◌-◌, ◌*◌, ◌∷◌, [
 use Rattle.gq_model.specs.machine.Lists.{greatest}
 use Rattle.gq_model.specs.machine.Program.{size}
 use Rattle.gq_model.specs.rules.Flow.{later, flow, points}
-use Rattle.gq_program.specs.Trees.{tree_of}
+use Rattle.gq_program.specs.Statement_trees.{tree_of}
 use Rattle.gq_caps.specs.Measured.{total_of, AreFew}
 use Rattle.gq_caps.specs.declared.totals.Measure.{Measure}
 use Rattle.gq_rules.specs.Flowing.{few_loops}
-use Rattle.gq_rules.specs.Peaks.{measure_of}
+use Rattle.gq_rules.specs.List_maxima.{measure_of}
 use Rattle.gq_rules.proofs.flow.+flows.Given as goal
 
 abbrev pub decreases-flow : goal.decreases-flow

@@ -1,5 +1,5 @@
 use Rattle.std.proofs.Common.{sym, ◌∙◌}
-use Rattle.gq_rules.proofs.Unchanged.{still_measured}
+use Rattle.gq_rules.proofs.Slot_keeping_statements.{still_measured}
 use Rattle.gq_rules.proofs.flow.flow_plain.Goals as goal
 
 pub returns-then-keeps_slots-clause-peaks : goal.returns-then-keeps_slots-clause-peaks

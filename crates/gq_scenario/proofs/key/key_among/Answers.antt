@@ -1,6 +1,6 @@
 use Rattle.std.proofs.Common.{codes, sym, ◌∙◌}
 use Rattle.gq_scenario.specs.declared.key.Key.TheVariants.{Version}
-use Rattle.gq_scenario.proofs.Keyed.{key_found}
+use Rattle.gq_scenario.proofs.Table_key_lookup.{key_found}
 use Rattle.gq_scenario.proofs.key.key_among.Goals as goal
 
 pub returns-then-is : goal.returns-then-is

@@ -1,4 +1,4 @@
-use Rattle.gq_verify.proofs.There.{there_now}
+use Rattle.gq_verify.proofs.Sections_by_name.{there_now}
 use Rattle.gq_sizes.proofs.donations.leaf_donations.Goals as goal
 
 pub section_donations-requires : goal.section_donations-requires

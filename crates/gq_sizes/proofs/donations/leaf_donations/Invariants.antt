@@ -1,5 +1,5 @@
 use Rattle.std.proofs.Common.{drop}
-use Rattle.gq_verify.specs.Sections.{AreThere}
+use Rattle.gq_verify.specs.Named_sections.{AreThere}
 use Rattle.gq_sizes.proofs.donations.leaf_donations.Given as goal
 
 abbrev pub invariant-loop-section : goal.invariant-loop-section

@@ -3,9 +3,9 @@ use Rattle.std.proofs.Math.Bool.{beq}
 use Rattle.std.specs.Cmp.Lexicographic.{pointwise}
 use Rattle.gq_sizes.specs.Size.{rounds}
 use Rattle.gq_sizes.specs.Passing.{chain_rows, held_rows, passing}
-use Rattle.gq_sizes.proofs.Longer.{last_chains, next_chains}
-use Rattle.gq_sizes.proofs.Finding.{same_test}
-use Rattle.gq_sizes.proofs.Rounds.{pointwise_is}
+use Rattle.gq_sizes.proofs.Session_chain_rounds.{last_chains, next_chains}
+use Rattle.gq_sizes.proofs.Any_test_search.{same_test}
+use Rattle.gq_sizes.proofs.Capability_need_rounds.{pointwise_is}
 use Rattle.gq_sizes.proofs.endless.endless.Goals as goal
 
 pub loop-round-init : goal.loop-round-init

@@ -1,9 +1,9 @@
 use Rattle.std.proofs.Common.{◌∙◌, ℕ, List, true, map, refl, ap, sym, subst}
 use Rattle.gq_model.specs.machine.Scenario.{Interface}
 use Rattle.gq_sizes.specs.Passing.{tests}
-use Rattle.gq_sizes.proofs.Longer.{first_rows}
-use Rattle.gq_sizes.proofs.Rounds.{AreKnown, all_known}
-use Rattle.gq_sizes.proofs.Rows.{row_more, row_none}
+use Rattle.gq_sizes.proofs.Session_chain_rounds.{first_rows}
+use Rattle.gq_sizes.proofs.Capability_need_rounds.{AreKnown, all_known}
+use Rattle.gq_sizes.proofs.Number_table_rows.{row_more, row_none}
 use Rattle.gq_sizes.proofs.endless.first_tests.Goals as goal
 
 pub loop-entry-preserved : goal.loop-entry-preserved

@@ -4,7 +4,7 @@ use Rattle.std.specs.Slice.Iter.{iter_rest}
 use Rattle.std.specs.Iterator.Adapters.{zip_first, zip_second}
 use Rattle.gq_sizes.specs.Endless.{leaf_holds}
 use Rattle.gq_sizes.specs.Passing.{passing}
-use Rattle.gq_sizes.proofs.Finding.{held_end, held_here, held_next}
+use Rattle.gq_sizes.proofs.Any_test_search.{held_end, held_here, held_next}
 use Rattle.gq_sizes.proofs.endless.holds.Goals as goal
 
 pub returns-then-provider_holds : goal.returns-then-provider_holds

@@ -1,8 +1,8 @@
 use Rattle.std.proofs.Common.{◌≡◌, drop}
 use Rattle.gq_model.specs.machine.Lists.{any_of}
 use Rattle.gq_sizes.specs.Passing.{passing}
-use Rattle.gq_verify.specs.Sections.{AreThere}
-use Rattle.gq_sizes.proofs.Finding.{section_holds}
+use Rattle.gq_verify.specs.Named_sections.{AreThere}
+use Rattle.gq_sizes.proofs.Any_test_search.{section_holds}
 use Rattle.gq_sizes.proofs.endless.leaf_holds.Given as goal
 
 -- one is among the sections that are left

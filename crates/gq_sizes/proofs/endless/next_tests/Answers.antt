@@ -2,8 +2,8 @@ use Rattle.std.proofs.Common.{◌∙◌, ℕ, List, ap}
 use Rattle.gq_model.specs.machine.Scenario.{Interface}
 use Rattle.gq_sizes.specs.Endless.{holds, leaf_holds}
 use Rattle.gq_sizes.specs.Passing.{held_rows, passing, tests}
-use Rattle.gq_sizes.proofs.Finding.{held_is, tests_of}
-use Rattle.gq_sizes.proofs.Rows.{row_more, row_none}
+use Rattle.gq_sizes.proofs.Any_test_search.{held_is, tests_of}
+use Rattle.gq_sizes.proofs.Number_table_rows.{row_more, row_none}
 use Rattle.gq_sizes.proofs.endless.next_tests.Goals as goal
 
 pub loop-service-preserved : goal.loop-service-preserved

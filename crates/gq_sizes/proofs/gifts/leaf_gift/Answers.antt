@@ -4,8 +4,8 @@ use Rattle.gq_model.specs.machine.Program.{Statements, section_in}
 use Rattle.gq_sizes.specs.Size.{gifts_in, least_gift}
 use Rattle.gq_sizes.specs.Needing.{least_of}
 use Rattle.gq_sizes.proofs.Least_gifts.{least_none, section_more}
-use Rattle.gq_verify.proofs.Left.{next_left, none_left}
-use Rattle.gq_verify.proofs.There.{there_now}
+use Rattle.gq_verify.proofs.List_remainders.{next_left, none_left}
+use Rattle.gq_verify.proofs.Sections_by_name.{there_now}
 use Rattle.gq_sizes.proofs.gifts.leaf_gift.Goals as goal
 
 pub section_gift-least-requires : goal.section_gift-least-requires

@@ -1,6 +1,6 @@
 use Rattle.std.proofs.Common.{◌≡◌, drop}
 use Rattle.gq_sizes.specs.Size.{gifts_in, least_gift}
-use Rattle.gq_verify.specs.Sections.{AreThere}
+use Rattle.gq_verify.specs.Named_sections.{AreThere}
 use Rattle.gq_sizes.specs.Needing.{least_of}
 use Rattle.gq_sizes.proofs.gifts.leaf_gift.Given as goal
 

@@ -3,7 +3,7 @@ use Rattle.gq_model.specs.rules.Kinds.{Subject}
 use Rattle.gq_sizes.specs.Size.{least_gift}
 use Rattle.gq_sizes.specs.Needing.{gifts_of, least_of}
 use Rattle.gq_sizes.proofs.Least_gifts.{leaf_more, least_none}
-use Rattle.gq_verify.proofs.Left.{next_left, none_left}
+use Rattle.gq_verify.proofs.List_remainders.{next_left, none_left}
 use Rattle.gq_sizes.proofs.gifts.least_gift.Goals as goal
 
 pub loop-verified-preserved : goal.loop-verified-preserved

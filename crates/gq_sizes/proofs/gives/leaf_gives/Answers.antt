@@ -4,7 +4,7 @@ use Rattle.gq_model.specs.declared.program.Section.{Section}
 use Rattle.gq_model.specs.machine.Lists.{all_of}
 use Rattle.gq_model.specs.machine.Program.{Statements}
 use Rattle.gq_verify.specs.Visits.{section_sights}
-use Rattle.gq_verify.proofs.There.{there_now}
+use Rattle.gq_verify.proofs.Sections_by_name.{there_now}
 use Rattle.gq_sizes.specs.Gives.{gives_right}
 use Rattle.gq_sizes.proofs.Giving_right.{all_end, all_here, all_next}
 use Rattle.gq_sizes.proofs.gives.leaf_gives.Goals as goal

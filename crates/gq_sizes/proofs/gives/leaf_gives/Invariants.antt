@@ -2,7 +2,7 @@ use Rattle.std.proofs.Common.{◌≡◌, drop}
 use Rattle.gq_model.specs.declared.program.Section.{Section}
 use Rattle.gq_model.specs.machine.Lists.{all_of}
 use Rattle.gq_model.specs.machine.Program.{Statements}
-use Rattle.gq_verify.specs.Sections.{AreThere}
+use Rattle.gq_verify.specs.Named_sections.{AreThere}
 use Rattle.gq_verify.specs.Visits.{section_sights}
 use Rattle.gq_sizes.specs.Gives.{gives_right}
 use Rattle.gq_sizes.proofs.gives.leaf_gives.Given as goal

@@ -1,7 +1,7 @@
 use Rattle.std.proofs.Common.{◌≡◌, ◌+◌, ◌*◌, ◌∷◌, [], drop}
 use Rattle.gq_model.specs.machine.Accounts.{leaf_count}
 use Rattle.gq_scenario.specs.Sizes.{node_count}
-use Rattle.gq_scenario.specs.Trees.{nodes_of}
+use Rattle.gq_scenario.specs.Component_trees.{nodes_of}
 use Rattle.gq_sizes.proofs.leasts.+nodes.Given as goal
 
 abbrev pub decreases-push_nodes : goal.decreases-push_nodes

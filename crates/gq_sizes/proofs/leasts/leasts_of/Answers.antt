@@ -2,7 +2,7 @@
 use Rattle.std.proofs.Common.{◌∙◌, ◌++◌, ap, map, sym}
 use Rattle.gq_model.specs.machine.Scenario.{Component, Scenario, system}
 use Rattle.gq_sizes.specs.Size.{all_gifts, all_short}
-use Rattle.gq_sizes.specs.Tables.{ram_rows}
+use Rattle.gq_sizes.specs.Saturated_tables.{ram_rows}
 use Rattle.gq_sizes.proofs.leasts.leasts_of.Goals as goal
 
 pub returns : goal.returns

@@ -1,7 +1,7 @@
 use Rattle.std.proofs.Common.{◌≡◌, ◌∙◌, ◌+◌, ◌-◌, ℕ, List, get_or, ap, sym, arith}
 use Rattle.gq_sizes.specs.Size.{gifts_above, less_gifts}
-use Rattle.gq_sizes.proofs.Asked.{asked_next}
-use Rattle.gq_sizes.proofs.Rounds.{row_get}
+use Rattle.gq_sizes.proofs.Asked_level_sums.{asked_next}
+use Rattle.gq_sizes.proofs.Capability_need_rounds.{row_get}
 use Rattle.gq_sizes.proofs.needs.+asked_above.Goals as goal
 use Rattle.gq_sizes.proofs.needs.+asked_above.Goals.{in-Some, in-None}
 

@@ -1,9 +1,9 @@
 use Rattle.std.proofs.Common.{◌∙◌, ℕ, List, refl, ap}
 use Rattle.gq_model.specs.machine.Scenario.{Interface}
-use Rattle.gq_verify.specs.Counting.{saturated}
+use Rattle.gq_verify.specs.Saturated_numbers.{saturated}
 use Rattle.gq_sizes.specs.Size.{caps_sum}
-use Rattle.gq_sizes.specs.Tables.{row, sum_rows}
-use Rattle.gq_sizes.proofs.Rows.{row_more, row_none}
+use Rattle.gq_sizes.specs.Saturated_tables.{row, sum_rows}
+use Rattle.gq_sizes.proofs.Number_table_rows.{row_more, row_none}
 use Rattle.gq_sizes.proofs.needs.first_rows.Goals as goal
 
 pub loop-entry-preserved : goal.loop-entry-preserved

@@ -1,6 +1,6 @@
 use Rattle.std.proofs.Common.{◌≡◌, ◌++◌, drop}
 use Rattle.gq_model.specs.machine.Scenario.{System}
-use Rattle.gq_sizes.specs.Tables.{sum_rows}
+use Rattle.gq_sizes.specs.Saturated_tables.{sum_rows}
 use Rattle.gq_sizes.proofs.needs.first_rows.Given as goal
 
 -- the rows so far, with those of the interfaces that are left, are all

@@ -3,12 +3,12 @@ use Rattle.std.specs.Prelude.{if◌then◌else◌}
 use Rattle.gq_model.specs.machine.Amounts.{Caps}
 use Rattle.gq_model.specs.machine.Lists.{greatest}
 use Rattle.gq_model.specs.machine.Program.{section_in}
-use Rattle.gq_verify.specs.Counting.{saturated}
+use Rattle.gq_verify.specs.Saturated_numbers.{saturated}
 use Rattle.gq_sizes.specs.Size.{is_up_to, section_points, session_cost}
-use Rattle.gq_sizes.specs.Kept.{given_in}
+use Rattle.gq_sizes.specs.Point_maxima.{given_in}
 use Rattle.gq_sizes.specs.Needing.{section_needed}
-use Rattle.gq_sizes.proofs.Most.{counts_kept, counts_kept_not, kept_more, kept_none}
-use Rattle.gq_verify.proofs.There.{there_now}
+use Rattle.gq_sizes.proofs.Maximum_search.{counts_kept, counts_kept_not, kept_more, kept_none}
+use Rattle.gq_verify.proofs.Sections_by_name.{there_now}
 use Rattle.gq_sizes.proofs.needs.leaf_caps.Goals as goal
 use Rattle.gq_sizes.proofs.needs.leaf_caps.Goals.{then-is_up_to, else-is_up_to}
 

@@ -2,9 +2,9 @@ use Rattle.std.proofs.Common.{◌≡◌, max, drop}
 use Rattle.gq_model.specs.machine.Amounts.{Caps}
 use Rattle.gq_model.specs.machine.Lists.{greatest}
 use Rattle.gq_model.specs.machine.Scenario.{Interface}
-use Rattle.gq_verify.specs.Counting.{saturated}
-use Rattle.gq_sizes.specs.Kept.{given_in}
-use Rattle.gq_verify.specs.Sections.{AreThere}
+use Rattle.gq_verify.specs.Saturated_numbers.{saturated}
+use Rattle.gq_sizes.specs.Point_maxima.{given_in}
+use Rattle.gq_verify.specs.Named_sections.{AreThere}
 use Rattle.gq_sizes.specs.Needing.{section_needed}
 use Rattle.gq_sizes.proofs.needs.leaf_caps.Given as goal
 

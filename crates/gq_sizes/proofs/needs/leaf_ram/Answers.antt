@@ -5,8 +5,8 @@ use Rattle.gq_model.specs.machine.Lists.{greatest}
 use Rattle.gq_model.specs.machine.Program.{section_in}
 use Rattle.gq_sizes.specs.Size.{is_up_to, section_points, session_cost}
 use Rattle.gq_sizes.specs.Needing.{section_needed}
-use Rattle.gq_sizes.proofs.Most.{counts, counts_not, most_more, most_none}
-use Rattle.gq_verify.proofs.There.{there_now}
+use Rattle.gq_sizes.proofs.Maximum_search.{counts, counts_not, most_more, most_none}
+use Rattle.gq_verify.proofs.Sections_by_name.{there_now}
 use Rattle.gq_sizes.proofs.needs.leaf_ram.Goals as goal
 use Rattle.gq_sizes.proofs.needs.leaf_ram.Goals.{then-is_up_to, else-is_up_to}
 

@@ -1,7 +1,7 @@
 use Rattle.std.proofs.Common.{◌≡◌, max, drop}
 use Rattle.gq_model.specs.machine.Amounts.{Ram}
 use Rattle.gq_model.specs.machine.Lists.{greatest}
-use Rattle.gq_verify.specs.Sections.{AreThere}
+use Rattle.gq_verify.specs.Named_sections.{AreThere}
 use Rattle.gq_sizes.specs.Needing.{section_needed}
 use Rattle.gq_sizes.proofs.needs.leaf_ram.Given as goal
 

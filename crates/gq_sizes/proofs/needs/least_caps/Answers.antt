@@ -3,9 +3,9 @@ use Rattle.std.proofs.lemmas.Bool.{eqb-true}
 use Rattle.std.specs.Cmp.Lexicographic.{pointwise}
 use Rattle.std.proofs.Math.Dec.{eqb}
 use Rattle.gq_sizes.specs.Size.{rounds}
-use Rattle.gq_sizes.specs.Kept.{given_in}
-use Rattle.gq_sizes.specs.Tables.{round_rows, sum_rows}
-use Rattle.gq_sizes.proofs.Rounds.{last_sums, next_sums, pointwise_is}
+use Rattle.gq_sizes.specs.Point_maxima.{given_in}
+use Rattle.gq_sizes.specs.Saturated_tables.{round_rows, sum_rows}
+use Rattle.gq_sizes.proofs.Capability_need_rounds.{last_sums, next_sums, pointwise_is}
 use Rattle.gq_sizes.proofs.needs.least_caps.Goals as goal
 
 pub loop-round-init : goal.loop-round-init

@@ -1,6 +1,6 @@
 use Rattle.std.proofs.Common.{◌≡◌}
 use Rattle.gq_model.specs.machine.Scenario.{System}
-use Rattle.gq_sizes.specs.Tables.{AreOf, sum_rows}
+use Rattle.gq_sizes.specs.Saturated_tables.{AreOf, sum_rows}
 use Rattle.gq_sizes.proofs.needs.least_caps.Given as goal
 
 -- the sums along as many uses as there were rounds

@@ -2,9 +2,9 @@ use Rattle.std.proofs.Common.{◌∙◌, ℕ, List, length, ap}
 use Rattle.gq_model.specs.machine.Scenario.{Interface}
 use Rattle.gq_sizes.specs.Size.{all_gifts, ram_sum}
 use Rattle.gq_sizes.specs.Needing.{gifts_of}
-use Rattle.gq_sizes.specs.Tables.{ram_rows, row}
+use Rattle.gq_sizes.specs.Saturated_tables.{ram_rows, row}
 use Rattle.gq_sizes.proofs.Least_gifts.{same_gifts}
-use Rattle.gq_sizes.proofs.Rows.{row_more, row_none}
+use Rattle.gq_sizes.proofs.Number_table_rows.{row_more, row_none}
 use Rattle.gq_sizes.proofs.needs.least_ram.Goals as goal
 
 pub loop-service-preserved : goal.loop-service-preserved

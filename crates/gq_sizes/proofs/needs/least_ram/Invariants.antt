@@ -2,7 +2,7 @@ use Rattle.std.proofs.Common.{◌≡◌, ◌++◌, drop, map}
 use Rattle.gq_model.specs.machine.Scenario.{System}
 use Rattle.gq_model.specs.rules.Use.{subject}
 use Rattle.gq_sizes.specs.Size.{all_gifts}
-use Rattle.gq_sizes.specs.Tables.{ram_rows}
+use Rattle.gq_sizes.specs.Saturated_tables.{ram_rows}
 use Rattle.gq_sizes.proofs.needs.least_ram.Given as goal
 
 -- the rows so far, with those of the interfaces that are left, are all

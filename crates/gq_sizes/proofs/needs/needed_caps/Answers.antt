@@ -4,8 +4,8 @@ use Rattle.std.specs.Slice.Iter.{iter_rest}
 use Rattle.std.specs.Iterator.Adapters.{zip_first, zip_second}
 use Rattle.gq_model.specs.machine.Amounts.{Caps}
 use Rattle.gq_sizes.specs.Size.{leaf_needed}
-use Rattle.gq_sizes.specs.Kept.{given_in}
-use Rattle.gq_sizes.proofs.Providers.{needed_none, kept_next}
+use Rattle.gq_sizes.specs.Point_maxima.{given_in}
+use Rattle.gq_sizes.proofs.Provider_maximum_search.{needed_none, kept_next}
 use Rattle.gq_sizes.proofs.needs.needed_caps.Goals as goal
 
 pub loop-component-preserved : goal.loop-component-preserved

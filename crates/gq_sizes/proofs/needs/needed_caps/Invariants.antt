@@ -3,9 +3,9 @@ use Rattle.std.specs.Slice.Iter.{iter_rest}
 use Rattle.std.specs.Iterator.Adapters.{zip_first, zip_second}
 use Rattle.gq_model.specs.machine.Amounts.{Caps}
 use Rattle.gq_model.specs.machine.Scenario.{Interface}
-use Rattle.gq_verify.specs.Counting.{saturated}
+use Rattle.gq_verify.specs.Saturated_numbers.{saturated}
 use Rattle.gq_sizes.specs.Size.{leaf_needed}
-use Rattle.gq_sizes.specs.Kept.{given_in}
+use Rattle.gq_sizes.specs.Point_maxima.{given_in}
 use Rattle.gq_sizes.specs.Needing.{needed_of}
 use Rattle.gq_sizes.proofs.needs.needed_caps.Given as goal
 

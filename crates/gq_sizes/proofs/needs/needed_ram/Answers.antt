@@ -5,7 +5,7 @@ use Rattle.std.specs.Iterator.Adapters.{zip_first, zip_second}
 use Rattle.gq_model.specs.machine.Amounts.{Ram}
 use Rattle.gq_model.specs.rules.Kinds.{Subject}
 use Rattle.gq_sizes.specs.Size.{leaf_needed}
-use Rattle.gq_sizes.proofs.Providers.{needed_none, needed_next}
+use Rattle.gq_sizes.proofs.Provider_maximum_search.{needed_none, needed_next}
 use Rattle.gq_sizes.proofs.needs.needed_ram.Goals as goal
 
 pub loop-component-preserved : goal.loop-component-preserved

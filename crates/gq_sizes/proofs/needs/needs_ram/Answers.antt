@@ -1,8 +1,8 @@
 use Rattle.std.proofs.Common.{◌∙◌, ℕ}
 use Rattle.gq_model.specs.machine.Amounts.{Ram}
 use Rattle.gq_sizes.specs.Size.{leaf_needed, needed}
-use Rattle.gq_sizes.proofs.Providers.{needed_is}
-use Rattle.gq_sizes.proofs.Rows.{row_of}
+use Rattle.gq_sizes.proofs.Provider_maximum_search.{needed_is}
+use Rattle.gq_sizes.proofs.Number_table_rows.{row_of}
 use Rattle.gq_sizes.proofs.needs.needs_ram.Goals as goal
 
 pub returns : goal.returns

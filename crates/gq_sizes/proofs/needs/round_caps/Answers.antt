@@ -1,12 +1,12 @@
 use Rattle.std.proofs.Common.{◌∙◌, ℕ, List, ap}
 use Rattle.gq_model.specs.machine.Amounts.{Caps}
 use Rattle.gq_model.specs.machine.Scenario.{Interface}
-use Rattle.gq_verify.specs.Counting.{saturated}
+use Rattle.gq_verify.specs.Saturated_numbers.{saturated}
 use Rattle.gq_sizes.specs.Size.{leaf_needed, needed}
-use Rattle.gq_sizes.specs.Kept.{given_in}
-use Rattle.gq_sizes.specs.Tables.{round_rows, row}
-use Rattle.gq_sizes.proofs.Providers.{needed_is}
-use Rattle.gq_sizes.proofs.Rows.{row_more, row_none, row_of}
+use Rattle.gq_sizes.specs.Point_maxima.{given_in}
+use Rattle.gq_sizes.specs.Saturated_tables.{round_rows, row}
+use Rattle.gq_sizes.proofs.Provider_maximum_search.{needed_is}
+use Rattle.gq_sizes.proofs.Number_table_rows.{row_more, row_none, row_of}
 use Rattle.gq_sizes.proofs.needs.round_caps.Goals as goal
 
 pub loop-service-preserved : goal.loop-service-preserved

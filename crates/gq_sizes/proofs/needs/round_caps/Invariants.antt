@@ -1,8 +1,8 @@
 use Rattle.std.proofs.Common.{◌≡◌, ◌++◌, drop, map}
 use Rattle.gq_model.specs.machine.Scenario.{System}
 use Rattle.gq_model.specs.rules.Use.{subject}
-use Rattle.gq_sizes.specs.Kept.{given_in}
-use Rattle.gq_sizes.specs.Tables.{round_rows}
+use Rattle.gq_sizes.specs.Point_maxima.{given_in}
+use Rattle.gq_sizes.specs.Saturated_tables.{round_rows}
 use Rattle.gq_sizes.proofs.needs.round_caps.Given as goal
 
 -- the rows so far, with those of the interfaces that are left, are all

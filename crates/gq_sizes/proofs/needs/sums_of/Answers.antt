@@ -1,8 +1,8 @@
 use Rattle.std.proofs.Common.{◌≡◌, ◌∙◌, ◌-◌, ◌≤◌, ℕ, List, max, get_or, ap, arith}
 use Rattle.gq_sizes.specs.Size.{ram_sum}
-use Rattle.gq_sizes.proofs.Asked.{need, sum_first, sum_next}
-use Rattle.gq_sizes.proofs.Rounds.{row_get}
-use Rattle.gq_sizes.proofs.Rows.{row_of}
+use Rattle.gq_sizes.proofs.Asked_level_sums.{need, sum_first, sum_next}
+use Rattle.gq_sizes.proofs.Capability_need_rounds.{row_get}
+use Rattle.gq_sizes.proofs.Number_table_rows.{row_of}
 use Rattle.gq_sizes.proofs.needs.sums_of.Goals as goal
 
 pub returns : goal.returns

@@ -1,4 +1,4 @@
-use Rattle.gq_sizes.proofs.Compared.{same_is}
+use Rattle.gq_sizes.proofs.Compared_text_equality.{same_is}
 use Rattle.gq_sizes.proofs.same.same_name.Goals as goal
 
 pub returns : goal.returns

@@ -1,7 +1,7 @@
 use Rattle.std.proofs.Common.{◌∙◌, sym}
 use Rattle.std.proofs.lemmas.Bool.{eqb-true}
 use Rattle.std.proofs.Math.Dec.{eqb}
-use Rattle.gq_sizes.proofs.Rounds.{pointwise_is}
+use Rattle.gq_sizes.proofs.Capability_need_rounds.{pointwise_is}
 use Rattle.gq_sizes.proofs.same.same_numbers.Goals as goal
 
 pub returns : goal.returns

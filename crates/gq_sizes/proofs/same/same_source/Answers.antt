@@ -1,7 +1,7 @@
 use Rattle.std.proofs.Common.{◌∙◌, ap, sym}
 use Rattle.gq_model.specs.machine.Scenario.{As_text, As_code}
 use Rattle.gq_scenario.specs.Given.{source_of}
-use Rattle.gq_sizes.proofs.Compared.{same_is}
+use Rattle.gq_sizes.proofs.Compared_text_equality.{same_is}
 use Rattle.gq_sizes.proofs.same.same_source.Goals as goal
 
 pub returns-in-Text-Text : goal.returns-in-Text-Text

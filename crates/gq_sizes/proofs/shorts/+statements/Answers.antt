@@ -1,9 +1,9 @@
 use Rattle.std.proofs.Common.{◌+◌, ap, arith, refl}
 use Rattle.std.proofs.lemmas.Result.{on_ok_weaker}
 use Rattle.gq_model.specs.machine.Program.{size}
-use Rattle.gq_program.proofs.Sizes.{size_here}
-use Rattle.gq_sizes.specs.Kept.{given_in}
-use Rattle.gq_sizes.proofs.Short_told.{arms_text, sizes_here, statement_put}
+use Rattle.gq_program.proofs.Statement_list_sizes.{size_here}
+use Rattle.gq_sizes.specs.Point_maxima.{given_in}
+use Rattle.gq_sizes.proofs.Printed_short_opens.{arms_text, sizes_here, statement_put}
 use Rattle.gq_sizes.proofs.shorts.+statements.Goals as goal
 
 pub push_body-push_statement-requires : goal.push_body-push_statement-requires

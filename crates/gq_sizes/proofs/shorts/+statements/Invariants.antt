@@ -1,8 +1,8 @@
 use Rattle.std.proofs.Common.{◌≡◌, ◌+◌, ◌*◌, ◌++◌, ◌∷◌, [], drop}
 use Rattle.gq_model.specs.machine.Program.{size}
-use Rattle.gq_program.specs.Trees.{tree_of}
+use Rattle.gq_program.specs.Statement_trees.{tree_of}
 use Rattle.gq_sizes.specs.Size.{opens_from}
-use Rattle.gq_sizes.specs.Kept.{given_in}
+use Rattle.gq_sizes.specs.Point_maxima.{given_in}
 use Rattle.gq_sizes.specs.internal.Short_lines.{lines_by}
 use Rattle.gq_sizes.proofs.shorts.+statements.Given as goal
 

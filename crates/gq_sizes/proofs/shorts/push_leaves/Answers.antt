@@ -1,7 +1,7 @@
 use Rattle.std.proofs.Common.{◌∙◌}
 use Rattle.std.specs.Prelude.{option_map}
-use Rattle.gq_sizes.specs.Kept.{given_in}
-use Rattle.gq_sizes.proofs.Short_told.{leaf_put, program_at}
+use Rattle.gq_sizes.specs.Point_maxima.{given_in}
+use Rattle.gq_sizes.proofs.Printed_short_opens.{leaf_put, program_at}
 use Rattle.gq_sizes.proofs.shorts.push_leaves.Goals as goal
 
 pub loop-place-preserved : goal.loop-place-preserved

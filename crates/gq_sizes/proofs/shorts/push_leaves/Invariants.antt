@@ -1,5 +1,5 @@
 use Rattle.std.proofs.Common.{◌≡◌, ◌++◌, drop, map}
-use Rattle.gq_sizes.specs.Kept.{given_in}
+use Rattle.gq_sizes.specs.Point_maxima.{given_in}
 use Rattle.gq_sizes.specs.internal.Short_lines.{leaves_by}
 use Rattle.gq_sizes.proofs.shorts.push_leaves.Given as goal
 

@@ -1,7 +1,7 @@
 use Rattle.std.proofs.Common.{arith}
 use Rattle.gq_model.specs.texts.Code.{greatest_statements}
-use Rattle.gq_sizes.specs.Kept.{given_in}
-use Rattle.gq_sizes.proofs.Short_told.{few_after, few_here, section_put}
+use Rattle.gq_sizes.specs.Point_maxima.{given_in}
+use Rattle.gq_sizes.proofs.Printed_short_opens.{few_after, few_here, section_put}
 use Rattle.gq_sizes.proofs.shorts.push_sections.Goals as goal
 
 pub push_body-requires : goal.push_body-requires

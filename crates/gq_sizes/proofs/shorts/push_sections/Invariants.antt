@@ -2,7 +2,7 @@ use Rattle.std.proofs.Common.{◌≡◌, ◌≤◌, ◌++◌, drop}
 use Rattle.std.specs.Prelude.{sum_by}
 use Rattle.gq_model.specs.machine.Program.{size}
 use Rattle.gq_model.specs.texts.Code.{greatest_statements}
-use Rattle.gq_sizes.specs.Kept.{given_in}
+use Rattle.gq_sizes.specs.Point_maxima.{given_in}
 use Rattle.gq_sizes.specs.internal.Short_lines.{sections_by}
 use Rattle.gq_sizes.proofs.shorts.push_sections.Given as goal
 

@@ -1,8 +1,8 @@
 use Rattle.std.proofs.Common.{◌∙◌, ◌++◌, ap, map, sym}
 use Rattle.std.proofs.lemmas.Result.{on_ok_weaker}
 use Rattle.gq_sizes.specs.Size.{all_short}
-use Rattle.gq_sizes.specs.Kept.{given_in}
-use Rattle.gq_sizes.proofs.Short_told.{least_is, leaves_are}
+use Rattle.gq_sizes.specs.Point_maxima.{given_in}
+use Rattle.gq_sizes.proofs.Printed_short_opens.{least_is, leaves_are}
 use Rattle.gq_sizes.proofs.shorts.push_shorts.Goals as goal
 
 pub returns : goal.returns

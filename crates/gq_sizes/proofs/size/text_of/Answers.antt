@@ -1,4 +1,4 @@
--- What was found is told.
+-- What was found is reported.
 use Rattle.std.proofs.Common.{◌∙◌}
 use Rattle.gq_sizes.proofs.size.text_of.Goals as goal
 

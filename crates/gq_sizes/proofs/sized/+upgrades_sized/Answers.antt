@@ -2,7 +2,7 @@
 use Rattle.std.proofs.Common.{◌≡◌, ◌≤◌, ◌∙◌, ◌+◌, true, length, ap, arith}
 use Rattle.std.proofs.lemmas.Grind.{common_steps}
 use Rattle.gq_model.specs.machine.Amounts.{counts_caps}
-use Rattle.gq_scenario.specs.Trees.{version_number}
+use Rattle.gq_scenario.specs.Component_trees.{version_number}
 use Rattle.gq_sizes.specs.Least.{sum_at}
 use Rattle.gq_sizes.specs.Size.{least_caps, ram_sum}
 use Rattle.gq_sizes.proofs.Upgrades_apart.{upgrades_joined}

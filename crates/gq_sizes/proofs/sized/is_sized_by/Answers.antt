@@ -2,12 +2,12 @@
 use Rattle.std.proofs.Common.{◌∙◌, ap, refl, sym, arith}
 use Rattle.gq_model.specs.machine.Accounts.{leaf_count}
 use Rattle.gq_model.specs.machine.Scenario.{components, system}
-use Rattle.gq_scenario.proofs.Preorder.{components-count}
-use Rattle.gq_scenario.specs.Unsized.{unsized}
+use Rattle.gq_scenario.proofs.Preorder_leaves.{components-count}
+use Rattle.gq_scenario.specs.Without_quantities.{unsized}
 use Rattle.gq_sizes.specs.Least.{least_interfaces, least_nodes}
 use Rattle.gq_sizes.specs.Size.{all_gifts}
-use Rattle.gq_sizes.specs.Tables.{AreLeast}
-use Rattle.gq_sizes.proofs.Sized_texts.{caps_told, ram_told}
+use Rattle.gq_sizes.specs.Saturated_tables.{AreLeast}
+use Rattle.gq_sizes.proofs.Sized_texts.{caps_are_printed, ram_printed}
 use Rattle.gq_sizes.proofs.sized.is_sized_by.Goals as goal
 
 pub nodes_sized-requires : goal.nodes_sized-requires
@@ -28,10 +28,10 @@ returns-in-Some c h =
     let old = c.entries-old.ensures.entries ∙ c.interfaces-2.ensures in
     let rams =
     c.as_slice-ram.ensures.value
-    ∙ ram_told all s (unsized s) c.entries-old.result.now c.args.found.now.sums.ram.items refl old (components (unsized s)) refl c.requires.ram in
+    ∙ ram_printed all s (unsized s) c.entries-old.result.now c.args.found.now.sums.ram.items refl old (components (unsized s)) refl c.requires.ram in
     let capss =
     c.as_slice-caps.ensures.value
-    ∙ caps_told all s (unsized s) c.entries-old.result.now c.args.found.now.sums.caps.items refl old c.requires.caps in
+    ∙ caps_are_printed all s (unsized s) c.entries-old.result.now c.args.found.now.sums.caps.items refl old c.requires.caps in
     let interfaces =
     sym (c.entries-new.ensures.entries ∙ c.interfaces.ensures)
     ∙ (c.interfaces_sized.ensures all given rams capss c.if-not-interfaces_sized.false ∙ (λ j. least_interfaces (version j) all given (old j))) in

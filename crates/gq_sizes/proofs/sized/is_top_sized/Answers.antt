@@ -1,7 +1,7 @@
 -- The root has what it needs at least.
 use Rattle.std.proofs.Common.{◌∙◌, ap, sym}
 use Rattle.gq_model.specs.machine.Amounts.{Ram, Caps, amount}
-use Rattle.gq_scenario.specs.Trees.{version_number}
+use Rattle.gq_scenario.specs.Component_trees.{version_number}
 use Rattle.gq_sizes.specs.Endless.{children_endless}
 use Rattle.gq_sizes.specs.Least.{caps_of}
 use Rattle.gq_sizes.specs.Size.{children_least, root_least}

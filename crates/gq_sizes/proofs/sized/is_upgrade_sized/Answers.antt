@@ -1,7 +1,7 @@
 -- What is added, by the sums of two levels.
 use Rattle.std.proofs.Common.{◌≡◌, ◌∙◌, ◌+◌, ◌-◌, true, ap, sym, arith}
 use Rattle.gq_model.specs.machine.Amounts.{counts_caps}
-use Rattle.gq_scenario.specs.Trees.{version_number}
+use Rattle.gq_scenario.specs.Component_trees.{version_number}
 use Rattle.gq_sizes.proofs.Upgrades_apart.{added_is, level_is, sum_is}
 use Rattle.gq_sizes.proofs.sized.is_upgrade_sized.Goals as goal
 

@@ -2,7 +2,7 @@ use Rattle.std.proofs.Common.{◌≡◌, ◌+◌, ◌*◌, ◌||◌, ◌∷◌, 
 use Rattle.gq_model.specs.machine.Accounts.{leaf_count}
 use Rattle.gq_model.specs.machine.Scenario.{System}
 use Rattle.gq_scenario.specs.Sizes.{node_count}
-use Rattle.gq_scenario.specs.Trees.{nodes_of}
+use Rattle.gq_scenario.specs.Component_trees.{nodes_of}
 use Rattle.gq_sizes.specs.Endless.{children_endless}
 use Rattle.gq_sizes.specs.Passing.{endless_from}
 use Rattle.gq_sizes.proofs.unending.+nodes.Given as goal

@@ -1,7 +1,7 @@
 use Rattle.std.proofs.Common.{◌∙◌}
 use Rattle.gq_sizes.specs.Passing.{passing}
 use Rattle.gq_sizes.proofs.Leaves_endless.{own_leads, owns_are}
-use Rattle.gq_sizes.proofs.Rows.{row_more, row_none}
+use Rattle.gq_sizes.proofs.Number_table_rows.{row_more, row_none}
 use Rattle.gq_sizes.proofs.unending.endless_owns.Goals as goal
 
 pub loop-verified-preserved : goal.loop-verified-preserved

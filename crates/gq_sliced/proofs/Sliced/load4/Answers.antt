@@ -1,5 +1,5 @@
 use Rattle.std.proofs.Common.{sym, ◌∙◌}
-use Rattle.gq_store.proofs.Words.{word_shifted}
+use Rattle.gq_store.proofs.Word_byte_spelling.{word_shifted}
 use Rattle.gq_sliced.proofs.Sliced.load4.Goals as goal
 
 pub returns : goal.returns

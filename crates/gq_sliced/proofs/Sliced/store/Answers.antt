@@ -1,6 +1,6 @@
 use Rattle.std.proofs.Common.{◌+◌, [], ◌∷◌}
-use Rattle.gq_store.proofs.Words.{one_there}
-use Rattle.gq_sliced.proofs.Writing.{puts}
+use Rattle.gq_store.proofs.Word_byte_spelling.{one_there}
+use Rattle.gq_sliced.proofs.Slice_byte_writes.{puts}
 use Rattle.gq_sliced.proofs.Sliced.store.Goals as goal
 
 pub returns-clause-puts : goal.returns-clause-puts

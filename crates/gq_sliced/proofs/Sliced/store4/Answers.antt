@@ -1,7 +1,7 @@
 use Rattle.std.proofs.Common.{◌+◌}
 use Rattle.gq_model.specs.machine.Program.{spelled}
-use Rattle.gq_store.proofs.Words.{word_there}
-use Rattle.gq_sliced.proofs.Writing.{puts}
+use Rattle.gq_store.proofs.Word_byte_spelling.{word_there}
+use Rattle.gq_sliced.proofs.Slice_byte_writes.{puts}
 use Rattle.gq_sliced.proofs.Sliced.store4.Goals as goal
 
 pub returns-clause-puts : goal.returns-clause-puts

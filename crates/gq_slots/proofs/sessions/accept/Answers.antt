@@ -1,6 +1,6 @@
 use Rattle.gq_slots.specs.Slots.{Slots}
-use Rattle.gq_slots.proofs.Accepting.{accept_kept, accept_takes}
-use Rattle.gq_slots.proofs.Inside.{slots_of}
+use Rattle.gq_slots.proofs.Accepted_request_world.{accept_kept, accept_takes}
+use Rattle.gq_slots.proofs.Slots_view_fields.{slots_of}
 use Rattle.gq_slots.proofs.sessions.accept.Goals as goal
 
 pub invariant_of-slots : goal.invariant_of-slots

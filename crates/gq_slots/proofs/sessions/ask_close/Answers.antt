@@ -1,10 +1,10 @@
 use Rattle.std.proofs.Common.{sym, subst}
 use Rattle.gq_trade.specs.declared.requests.Ask.TheVariants as ask
 use Rattle.gq_slots.specs.Slots.{Slots}
-use Rattle.gq_slots.specs.internal.Holds.{IsSlots}
-use Rattle.gq_slots.proofs.Answering.{of_parts}
-use Rattle.gq_slots.proofs.Asking.{asked_kept, asked_world}
-use Rattle.gq_slots.proofs.Inside.{slots_of}
+use Rattle.gq_slots.specs.internal.Slots_invariant.{IsSlots}
+use Rattle.gq_slots.proofs.Slot_call_effects.{of_parts}
+use Rattle.gq_slots.proofs.Requested_session_world.{asked_kept, asked_world}
+use Rattle.gq_slots.proofs.Slots_view_fields.{slots_of}
 use Rattle.gq_slots.proofs.sessions.ask_close.Goals as goal
 
 pub invariant_of-slots : goal.invariant_of-slots

@@ -1,11 +1,11 @@
 use Rattle.std.proofs.Common.{ap, subst, sym, ◌∙◌}
 use Rattle.gq_trade.specs.Numbers.{IsTaken}
 use Rattle.gq_ram.specs.Ledgers.{IsBalanced}
-use Rattle.gq_trade.specs.declared.session.Spot.TheVariants.{InObject, InSession}
+use Rattle.gq_trade.specs.declared.session.SlotId.TheVariants.{InObject, InSession}
 use Rattle.gq_trade.specs.Trading.{AreOfOthers}
 use Rattle.gq_slots.specs.Slots.{Slots, content_at}
-use Rattle.gq_slots.proofs.Closing.{closed_ends, closed_kept, slice_there}
-use Rattle.gq_slots.proofs.Inside.{slots_of}
+use Rattle.gq_slots.proofs.Closed_session_world.{closed_ends, closed_kept, slice_there}
+use Rattle.gq_slots.proofs.Slots_view_fields.{slots_of}
 use Rattle.gq_slots.proofs.sessions.closed.Goals as goal
 
 pub closed-closed-requires-clause-object : goal.closed-closed-requires-clause-object

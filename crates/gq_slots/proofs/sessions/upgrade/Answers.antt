@@ -5,9 +5,9 @@ use Rattle.gq_trade.specs.Trading.{client_of, server_of, upgraded}
 use Rattle.gq_trade.proofs.Sessions_kept.{between_at}
 use Rattle.gq_slots.specs.Slots.{Slots, world_seen}
 use Rattle.gq_slots.specs.Session_calls.{upgrading}
-use Rattle.gq_slots.proofs.Answering.{of_parts}
-use Rattle.gq_slots.proofs.Asking.{kept_or_not, live_open, on_ok, upgraded_kept, upgraded_world}
-use Rattle.gq_slots.proofs.Inside.{slots_of}
+use Rattle.gq_slots.proofs.Slot_call_effects.{of_parts}
+use Rattle.gq_slots.proofs.Requested_session_world.{kept_or_not, live_open, on_ok, upgraded_kept, upgraded_world}
+use Rattle.gq_slots.proofs.Slots_view_fields.{slots_of}
 use Rattle.gq_slots.proofs.sessions.upgrade.Goals as goal
 
 pub invariant_of-slots : goal.invariant_of-slots

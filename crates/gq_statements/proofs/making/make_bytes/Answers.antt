@@ -3,14 +3,14 @@ use Rattle.gq_model.specs.declared.program.Form.TheVariants as form
 use Rattle.gq_model.specs.machine.Memory.{room}
 use Rattle.gq_model.specs.machine.World as world
 use Rattle.gq_slots.specs.Slots.{Slots}
-use Rattle.gq_statements.specs.internal.Made.{IsMade}
-use Rattle.gq_statements.proofs.Refusals.{refused, refused_block}
+use Rattle.gq_statements.specs.internal.Made_memory.{IsMade}
+use Rattle.gq_statements.proofs.Refused_means_unpaid.{refused, refused_block}
 use Rattle.gq_statements.proofs.making.make_bytes.Goals as goal
 
 pub returns-in-Block : goal.returns-in-Block
 returns-in-Block c =
     let s : Slots = c.args.slots.now in
-    let p = c.args.spot in
+    let p = c.args.slot_id in
     let n = c.args.size in
     let made : IsMade c.make_block.result s c.make_block.new.self p (world.Bytes form.Block n (replicate (room form.Block n) 0)) = record {
       settles = c.make_block.ensures.made;
@@ -24,7 +24,7 @@ returns-in-Block c =
 pub returns-in-Slice : goal.returns-in-Slice
 returns-in-Slice c =
     let s : Slots = c.args.slots.now in
-    let p = c.args.spot in
+    let p = c.args.slot_id in
     let n = c.args.size in
     let made : IsMade c.make_slice.result s c.make_slice.new.self p (world.Bytes form.Slice n (replicate (room form.Slice n) 0)) = record {
       settles = c.make_slice.ensures.made;
@@ -39,7 +39,7 @@ returns-in-Slice c =
 pub returns-in-Space : goal.returns-in-Space
 returns-in-Space c =
     let s : Slots = c.args.slots.now in
-    let p = c.args.spot in
+    let p = c.args.slot_id in
     let n = c.args.size in
     let made : IsMade c.make_space.result s c.make_space.new.self p (world.Bytes form.Space n (replicate (room form.Space n) 0)) = record {
       settles = c.make_space.ensures.made;

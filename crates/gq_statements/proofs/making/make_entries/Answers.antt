@@ -3,7 +3,7 @@ use Rattle.std.proofs.lemmas.List.{length-replicate}
 use Rattle.gq_tariff.specs.Prices.{up}
 use Rattle.gq_model.specs.machine.World as world
 use Rattle.gq_slots.specs.Slots.{Slots}
-use Rattle.gq_statements.proofs.Refusals.{refused}
+use Rattle.gq_statements.proofs.Refused_means_unpaid.{refused}
 use Rattle.gq_statements.proofs.making.make_entries.Goals as goal
 
 pub returns : goal.returns
@@ -17,7 +17,7 @@ returns c =
         settles = search rules;
         unchanged = search rules;
         unpaid =
-            refused s c.args.spot (world.Pool c.args.size (replicate c.args.count None)) c.make_pool.result c.lawful.ensures c.requires.payable.there
+            refused s c.args.slot_id (world.Pool c.args.size (replicate c.args.count None)) c.make_pool.result c.lawful.ensures c.requires.payable.there
             c.requires.payable.slot
             c.requires.empty c.requires.payable.below (λ e. let lt = c.make_pool.ensures.refused.exceeded.0 e in omega (arith, lt, price))
             (λ e. ((c.make_pool.ensures.refused.none.0 e).1, omega arith));

@@ -4,7 +4,7 @@ use Rattle.gq_trade.specs.declared.session.Session.{Session}
 use Rattle.gq_trade.specs.Trading.{IsTrading, session_at}
 use Rattle.gq_trade.specs.Trades.{Trades}
 use Rattle.gq_slots.specs.Slots.{Slots}
-use Rattle.gq_statements.proofs.Freeing.{buffer_is}
+use Rattle.gq_statements.proofs.Freed_statement_memory.{buffer_is}
 use Rattle.gq_statements.proofs.making.shares_buffer.Goals as goal
 
 pub returns : goal.returns

@@ -4,8 +4,8 @@ use Rattle.gq_trade.specs.Queues.{oldest_to}
 use Rattle.gq_trade.specs.Trading.{session_at}
 use Rattle.gq_trade.specs.Trades.{Trades}
 use Rattle.gq_slots.specs.Session_calls.{TakesOldest}
-use Rattle.gq_statements.proofs.Lawful.{lawful}
-use Rattle.gq_statements.proofs.Outcomes.{has_is, if_ok, outcome, refusal, takes_oldest, without}
+use Rattle.gq_statements.proofs.Lawful_slot_outcomes.{lawful}
+use Rattle.gq_statements.proofs.Oldest_request_outcomes.{has_is, if_ok, outcome, refusal, takes_oldest, without}
 use Rattle.gq_statements.proofs.serving_requests.accept.Goals as goal
 
 pub returns-then-not-has-clause-step : goal.returns-then-not-has-clause-step

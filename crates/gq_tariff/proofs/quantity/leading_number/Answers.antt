@@ -1,5 +1,5 @@
 use Rattle.std.proofs.Common.{◌∙◌, arith}
-use Rattle.gq_tariff.proofs.Quantities.{quantity_on-step}
+use Rattle.gq_tariff.proofs.Saturated_quantities.{quantity_on-step}
 use Rattle.gq_tariff.proofs.quantity.leading_number.Goals as goal
 
 pub loop-i-preserved : goal.loop-i-preserved

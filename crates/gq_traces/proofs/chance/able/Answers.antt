@@ -2,9 +2,9 @@
 use Rattle.std.proofs.Common.{◌≡◌, ◌∙◌, ◌≤◌, ◌+◌, ◌++◌, ◌∷◌, [], ℕ, suc, List, Bool, true, false, length, length-append, refl, ap, sym, subst, add-one, arith}
 use Rattle.gq_model.specs.machine.Scenario.{Scenario, components, system}
 use Rattle.gq_model.specs.machine.World.{World}
-use Rattle.gq_laws.specs.Turns.{can_run}
-use Rattle.gq_traces.proofs.Chances.{FoundSoFar, found_all, found_none, found_one}
-use Rattle.gq_traces.proofs.Counted.{at_end, below}
+use Rattle.gq_laws.specs.Turn_effects.{can_run}
+use Rattle.gq_traces.proofs.Random_turn_schedule.{FoundSoFar, found_all, found_none, found_one}
+use Rattle.gq_traces.proofs.Leaf_number_bounds.{at_end, below}
 use Rattle.gq_traces.proofs.chance.able.Goals as goal
 use Rattle.gq_traces.proofs.chance.able.Goals.{then-can_take, else-can_take}
 

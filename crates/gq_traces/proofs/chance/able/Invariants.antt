@@ -1,6 +1,6 @@
 use Rattle.std.proofs.Common.{◌≤◌, length}
 use Rattle.gq_model.specs.machine.Scenario.{components, system}
-use Rattle.gq_traces.proofs.Chances.{FoundSoFar}
+use Rattle.gq_traces.proofs.Random_turn_schedule.{FoundSoFar}
 use Rattle.gq_traces.proofs.chance.able.Given as goal
 
 -- those of the leaves so far that can

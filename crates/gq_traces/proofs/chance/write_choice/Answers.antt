@@ -1,7 +1,7 @@
 -- The leaf that is chosen is one of the scenario's.
 use Rattle.std.proofs.Common.{◌≡◌, ◌<◌, length, sym, subst}
 use Rattle.gq_model.specs.machine.Scenario.{Scenario, components, system}
-use Rattle.gq_traces.proofs.Chances.{leaf_below}
+use Rattle.gq_traces.proofs.Random_turn_schedule.{leaf_below}
 use Rattle.gq_traces.proofs.chance.write_choice.Goals as goal
 
 pub take_turns-taken-requires-clause-leaf : goal.take_turns-taken-requires-clause-leaf

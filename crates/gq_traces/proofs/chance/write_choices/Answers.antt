@@ -6,13 +6,13 @@ use Rattle.rand_pcg.specs.Lcg.{Lcg}
 use Rattle.rand_pcg.specs.Pcg.{pcg32_of_seed}
 use Rattle.std.specs.Io.KnownBytes.{Appends}
 use Rattle.std.proofs.lemmas.Bool.Decides.{nat_tests}
-use Rattle.gq_init.specs.Writes.{IsFront, IsRaised}
+use Rattle.gq_init.specs.Writes.{IsPrefix, IsRaised}
 use Rattle.gq_model.specs.machine.Scenario.{Scenario, components, system}
 use Rattle.gq_model.specs.machine.World.{World}
 use Rattle.gq_model.specs.texts.Turns.{greatest_turns}
-use Rattle.gq_traces.specs.Schedule.{Taken, able, chosen, chosen_turns, next_choice, told_turns}
+use Rattle.gq_traces.specs.Schedule.{Taken, able, chosen, chosen_turns, next_choice, reported_turns}
 use Rattle.gq_traces.specs.internal.Takes.{turns_text}
-use Rattle.gq_traces.proofs.Chances.{GoesChoices, choices_cut, choices_on, of_choice}
+use Rattle.gq_traces.proofs.Random_turn_schedule.{GoesChoices, choices_cut, choices_on, of_choice}
 use Rattle.gq_traces.proofs.Whole_text.{first_choices}
 use Rattle.gq_traces.proofs.chance.write_choices.Goals as goal
 
@@ -26,7 +26,7 @@ some_of count is_empty is empty_not =
 goes_on : (whole : Taken) (s t : Scenario) (lines left taken : ℕ) (w new : World) (g h : Lcg) (a b d : Option (List ℕ)) → t ≡ s
     → GoesChoices whole (system s) lines left w g a b → 0 < lines → 0 < left → 0 < length (able (system t) w 0 (components t))
     → h ≡ (next_choice (system t) w g).generator → chosen_turns (system t) left w (next_choice (system t) w g) ≡ (taken, new)
-    → Appends b d (turns_text (components t) (told_turns (next_choice (system t) w g).leaf (chosen_turns (system t) left w (next_choice (system t) w g)).0))
+    → Appends b d (turns_text (components t) (reported_turns (next_choice (system t) w g).leaf (chosen_turns (system t) left w (next_choice (system t) w g)).0))
     → GoesChoices whole (system s) (lines - 1) (left - taken) new h a d
 goes_on whole s t lines left taken w new g h a b d same goes line turn some next takes written =
     subst (λ (z : Lcg). GoesChoices whole (system s) (lines - 1) (left - taken) new z a d)
@@ -39,12 +39,13 @@ goes_on whole s t lines left taken w new g h a b d same goes line turn some next
 -- of its line a prefix was written
 cut : (whole : Taken) (s t : Scenario) (lines left : ℕ) (w : World) (g : Lcg) (a b d : Option (List ℕ)) → t ≡ s
     → GoesChoices whole (system s) lines left w g a b → 0 < lines → 0 < left → 0 < length (able (system t) w 0 (components t))
-    → IsFront b d (turns_text (components t) (told_turns (next_choice (system t) w g).leaf (chosen_turns (system t) left w (next_choice (system t) w g)).0))
-    → IsFront a d (turns_text (components s) whole.turns)
-cut whole s t lines left w g a b d same goes line turn some front =
+    → IsPrefix b d (turns_text (components t) (reported_turns (next_choice (system t) w g).leaf
+    (chosen_turns (system t) left w (next_choice (system t) w g)).0))
+    → IsPrefix a d (turns_text (components s) whole.turns)
+cut whole s t lines left w g a b d same goes line turn some prefix =
     choices_cut whole (system s) lines left w g a b d goes line turn
     (subst (λ (r : Scenario). 0 < length (able (system r) w 0 (components r))) same some)
-    (subst (λ (r : Scenario). IsFront b d (turns_text (components r) (of_choice (system r) left w g))) same front)
+    (subst (λ (r : Scenario). IsPrefix b d (turns_text (components r) (of_choice (system r) left w g))) same prefix)
 
 pub loop-left-init : goal.loop-left-init
 loop-left-init g c =
@@ -74,9 +75,9 @@ returns-in_err-left-clause-writes g c =
     rw (p.1) (record {
       written = tt;
       counted = tt;
-      front = cut (chosen c.args.seed s) s w.scenario l.lines l.left w.world l.generator (g.W.Write.contents c.args.out.now.writer)
+      prefix = cut (chosen c.args.seed s) s w.scenario l.lines l.left w.world l.generator (g.W.Write.contents c.args.out.now.writer)
           (g.W.Write.contents l.out.writer) (g.W.Write.contents c.write_choice.new.out.writer) l.invariant.scenario l.invariant.goes
-          c.if-lines-gt0.true c.loop-left-test.true (subst (λ (x : List ℕ). 0 < length x) leaves some) e.front;
+          c.if-lines-gt0.true c.loop-left-test.true (subst (λ (x : List ℕ). 0 < length x) leaves some) e.prefix;
       raised = subst (λ n. IsRaised n c.write_choice.new.out.failures) l.invariant.counted e.raised;
     })
 

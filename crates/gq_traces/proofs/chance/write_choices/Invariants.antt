@@ -2,7 +2,7 @@ use Rattle.std.proofs.Common.{◌≡◌, ◌≤◌, false}
 use Rattle.gq_model.specs.machine.Scenario.{system}
 use Rattle.gq_model.specs.texts.Turns.{greatest_turns}
 use Rattle.gq_traces.specs.Schedule.{chosen}
-use Rattle.gq_traces.proofs.Chances.{GoesChoices}
+use Rattle.gq_traces.proofs.Random_turn_schedule.{GoesChoices}
 use Rattle.gq_traces.proofs.chance.write_choices.Given as goal
 
 -- further choices are to come

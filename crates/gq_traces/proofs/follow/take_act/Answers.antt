@@ -2,7 +2,7 @@
 use Rattle.std.proofs.Common.{◌≡◌, subst}
 use Rattle.gq_model.specs.machine.Run.{set_input}
 use Rattle.gq_model.specs.machine.Scenario.{system}
-use Rattle.gq_traces.proofs.Following.{one_set}
+use Rattle.gq_traces.proofs.Unprinted_turns.{one_set}
 use Rattle.gq_traces.proofs.follow.take_act.Goals as goal
 
 pub returns-in-Sets : goal.returns-in-Sets

@@ -3,7 +3,7 @@ use Rattle.std.proofs.Common.{◌<◌, length, sym, subst, take}
 use Rattle.gq_model.specs.machine.Scenario.{Scenario, components, system}
 use Rattle.gq_traces.specs.Trace.{after_act, after_all}
 use Rattle.gq_traces.specs.internal.Follows.{Follows}
-use Rattle.gq_traces.proofs.Following.{all_more, below_at, follows_both, item_there}
+use Rattle.gq_traces.proofs.Unprinted_turns.{all_more, below_at, follows_both, item_there}
 use Rattle.gq_traces.proofs.follow.take_all.Goals as goal
 
 pub take_act-requires-clause-leaf : goal.take_act-requires-clause-leaf

@@ -7,7 +7,7 @@ use Rattle.gq_traces.specs.Trace.{after_act, after_all}
 use Rattle.gq_traces.specs.internal.Follows.{Follows}
 use Rattle.gq_traces.specs.First_turns.{turns_in}
 use Rattle.gq_traces.proofs.First_taken.{first_more, left_at_first, left_then}
-use Rattle.gq_traces.proofs.Following.{below_at, follows_both, follows_none, item_there}
+use Rattle.gq_traces.proofs.Unprinted_turns.{below_at, follows_both, follows_none, item_there}
 use Rattle.gq_traces.proofs.follow.take_most.Goals as goal
 
 pub take_act-requires-clause-leaf : goal.take_act-requires-clause-leaf

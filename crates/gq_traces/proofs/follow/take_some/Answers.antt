@@ -7,7 +7,7 @@ use Rattle.gq_traces.specs.Trace.{after_turn, after_turns}
 use Rattle.gq_traces.specs.declared.follow.Followed.{Followed}
 use Rattle.gq_traces.specs.internal.Follows.{Follows}
 use Rattle.gq_traces.proofs.Alone_steps.{followed, steps_as}
-use Rattle.gq_traces.proofs.Following.{follows_both, turns_more}
+use Rattle.gq_traces.proofs.Unprinted_turns.{follows_both, turns_more}
 use Rattle.gq_traces.proofs.follow.take_some.Goals as goal
 
 pub returns-then-alone-most-clause-follows : goal.returns-then-alone-most-clause-follows

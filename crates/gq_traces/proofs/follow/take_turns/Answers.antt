@@ -3,8 +3,8 @@ use Rattle.std.proofs.Common.{◌≡◌, ◌+◌, refl, subst, arith}
 use Rattle.gq_model.specs.machine.Scenario.{Scenario, system}
 use Rattle.gq_traces.specs.Trace.{after_turns}
 use Rattle.gq_traces.specs.internal.Follows.{Follows}
-use Rattle.gq_traces.proofs.Following.{follows_both, follows_none}
-use Rattle.gq_traces.proofs.Turns_told.{after_sum}
+use Rattle.gq_traces.proofs.Unprinted_turns.{follows_both, follows_none}
+use Rattle.gq_traces.proofs.Printed_turns.{after_sum}
 use Rattle.gq_traces.proofs.follow.take_turns.Goals as goal
 
 pub loop-done-init : goal.loop-done-init

@@ -3,9 +3,9 @@ use Rattle.std.proofs.Common.{◌≡◌, ℕ, IfSome, subst}
 use Rattle.std.specs.Prelude.{slice_get, slice_index}
 use Rattle.gq_model.specs.machine.Scenario.{Scenario}
 use Rattle.gq_tariff.specs.Prices.{class_size}
-use Rattle.gq_traces.specs.State.{items_text, place_items}
-use Rattle.gq_traces.specs.internal.Telling.{Goes}
-use Rattle.gq_traces.proofs.Places_told.{places_end, places_first, places_next}
+use Rattle.gq_traces.specs.Account_state.{items_text, place_items}
+use Rattle.gq_traces.specs.internal.Printed_steps.{Goes}
+use Rattle.gq_traces.proofs.Printed_slot_contents.{places_end, places_first, places_next}
 use Rattle.gq_traces.proofs.items.write_places.Goals as goal
 
 pub loop-number-init : goal.loop-number-init

@@ -1,6 +1,6 @@
 -- Sessions one after the other.
 use Rattle.std.proofs.Common.{◌<◌, ◌≤◌, length, arith}
-use Rattle.gq_traces.proofs.Sessions_told.{sessions_end, sessions_first, sessions_next}
+use Rattle.gq_traces.proofs.Printed_sessions.{sessions_end, sessions_first, sessions_next}
 use Rattle.gq_traces.proofs.items.write_sessions.Goals as goal
 
 pub loop-session-init : goal.loop-session-init

@@ -1,5 +1,5 @@
 -- A leaf for each component, and an account for each node.
-use Rattle.gq_world.proofs.Accounts.{all_count, leaves_count}
+use Rattle.gq_world.proofs.World_account_lines.{all_count, leaves_count}
 use Rattle.gq_traces.proofs.noted.counted.Goals as goal
 
 pub returns-clause-leaves : goal.returns-clause-leaves

@@ -1,6 +1,6 @@
 -- Nothing is noted.
 use Rattle.std.proofs.Common.{◌∙◌, [], ◌∷◌, ap, arith, get_or, length, length-append, None}
-use Rattle.gq_traces.proofs.Noting.{none_more}
+use Rattle.gq_traces.proofs.Renewed_trace_notes.{none_more}
 use Rattle.gq_traces.proofs.noted.first_sessions.Goals as goal
 
 pub loop-preserved : goal.loop-preserved

@@ -2,7 +2,7 @@
 use Rattle.gq_model.specs.machine.Amounts.{Ram, Caps}
 use Rattle.gq_model.specs.machine.Sums.{held}
 use Rattle.gq_traces.proofs.Leaves_standing.{from_some}
-use Rattle.gq_traces.proofs.Standing.{there_is}
+use Rattle.gq_traces.proofs.Sound_world_leaves.{there_is}
 use Rattle.std.proofs.Common.{◌≡◌, arith}
 use Rattle.std.specs.Prelude.{slice_get}
 use Rattle.gq_traces.proofs.noted.use_of.Goals as goal

@@ -2,7 +2,7 @@
 use Rattle.std.proofs.Common.{◌∙◌, ◌++◌, [], ap, codes, cond, sym}
 use Rattle.std.specs.Prelude.{decimal}
 use Rattle.gq_model.specs.machine.Accounts.{entry}
-use Rattle.gq_traces.proofs.Peaks_told.{entry_put, three_put}
+use Rattle.gq_traces.proofs.Printed_peaks.{entry_put, three_put}
 use Rattle.gq_traces.proofs.peaks.extend_caps.Goals as goal
 
 pub returns-then-counts_caps-clause-bytes : goal.returns-then-counts_caps-clause-bytes

@@ -2,7 +2,7 @@
 use Rattle.std.proofs.Common.{◌∙◌, ◌++◌, ap, codes}
 use Rattle.std.specs.Prelude.{decimal}
 use Rattle.gq_model.specs.machine.Accounts.{entry}
-use Rattle.gq_traces.proofs.Peaks_told.{entry_put}
+use Rattle.gq_traces.proofs.Printed_peaks.{entry_put}
 use Rattle.gq_traces.proofs.peaks.extend_ram.Goals as goal
 
 pub returns-clause-bytes : goal.returns-clause-bytes

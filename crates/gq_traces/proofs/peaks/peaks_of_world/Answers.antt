@@ -3,11 +3,11 @@ use Rattle.std.proofs.Common.{◌≡◌, ◌≤◌, ◌∙◌, List, Ok, ap, len
 use Rattle.gq_model.specs.machine.Run.{Acts}
 use Rattle.gq_model.specs.machine.Scenario.{Scenario, components}
 use Rattle.gq_model.specs.texts.Turns.{turned}
-use Rattle.gq_world.specs.Outcomes.{WritesAs}
-use Rattle.gq_world.specs.Worlds.{AreBelow}
-use Rattle.gq_world.proofs.Whole.{below_of}
-use Rattle.gq_traces.specs.Peaks.{peaks_text}
-use Rattle.gq_traces.specs.Written.{peaks_from, with_turns}
+use Rattle.gq_world.specs.Command_outcomes.{WritesAs}
+use Rattle.gq_world.specs.World_between_turns.{AreBelow}
+use Rattle.gq_world.proofs.Run_text.{below_of}
+use Rattle.gq_traces.specs.Account_peaks.{peaks_text}
+use Rattle.gq_traces.specs.Traces_written.{peaks_from, with_turns}
 use Rattle.gq_traces.specs.First_turns.{turns_in}
 use Rattle.gq_traces.proofs.Turns_few.{few_of}
 use Rattle.gq_traces.proofs.peaks.peaks_of_world.Goals as goal

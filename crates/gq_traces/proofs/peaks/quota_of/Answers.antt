@@ -1,7 +1,7 @@
 -- The quota in the account at the node of a leaf.
 use Rattle.std.proofs.Common.{[]}
 use Rattle.gq_traces.proofs.Leaf_accounts.{caps_is, ram_is}
-use Rattle.gq_traces.proofs.Own_told.{node_within, place_of_leaf}
+use Rattle.gq_traces.proofs.Printed_own_slots.{node_within, place_of_leaf}
 use Rattle.gq_traces.proofs.peaks.quota_of.Goals as goal
 
 pub quota-requires : goal.quota-requires

@@ -5,9 +5,9 @@ use Rattle.gq_model.specs.machine.Scenario.{Scenario, components}
 use Rattle.gq_model.specs.machine.World as model
 use Rattle.gq_traces.specs.declared.peaks.LeafPeaks.{LeafPeaks}
 use Rattle.gq_traces.specs.internal.Peaking.{IsRaised}
-use Rattle.gq_traces.proofs.Noting.{later_more, length_set}
+use Rattle.gq_traces.proofs.Renewed_trace_notes.{later_more, length_set}
 use Rattle.gq_traces.proofs.Peaks_kept.{raised_more}
-use Rattle.gq_traces.proofs.Own_told.{within}
+use Rattle.gq_traces.proofs.Printed_own_slots.{within}
 use Rattle.gq_traces.proofs.peaks.raise.Goals as goal
 
 pub loop-number-init : goal.loop-number-init

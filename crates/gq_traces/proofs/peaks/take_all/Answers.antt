@@ -7,7 +7,7 @@ use Rattle.gq_traces.specs.internal.Peaking.{HasAll, Peaked}
 use Rattle.gq_traces.specs.First_turns.{turns_in}
 use Rattle.gq_traces.proofs.Peaks_kept.{items_then, peaked_none}
 use Rattle.gq_traces.proofs.Turns_few.{below_here, few_here, take_more}
-use Rattle.gq_traces.proofs.Turns_told.{turns_in_more}
+use Rattle.gq_traces.proofs.Printed_turns.{turns_in_more}
 use Rattle.gq_traces.proofs.peaks.take_all.Goals as goal
 
 pub loop-item-init : goal.loop-item-init

@@ -1,7 +1,7 @@
 -- One line after the other.
 use Rattle.std.proofs.Common.{◌∙◌, ◌≤◌, ap, arith, length, true}
 use Rattle.gq_model.specs.machine.Scenario.{Scenario, components}
-use Rattle.gq_traces.proofs.Peaks_told.{lines_end, lines_first, lines_next}
+use Rattle.gq_traces.proofs.Printed_peaks.{lines_end, lines_first, lines_next}
 use Rattle.gq_traces.proofs.peaks.write_lines.Goals as goal
 
 pub loop-number-init : goal.loop-number-init

@@ -1,5 +1,5 @@
 use Rattle.std.proofs.Common.{true}
-use Rattle.gq_traces.proofs.Peaks_told.{Lines_so_far}
+use Rattle.gq_traces.proofs.Printed_peaks.{Lines_so_far}
 use Rattle.gq_traces.proofs.peaks.write_lines.Given as goal
 
 -- the lines so far were written

@@ -4,16 +4,16 @@ use Rattle.gq_init.specs.declared.counted.Counted.{Counted}
 use Rattle.gq_model.specs.machine.Run.{Ran, Acts, run, run_on}
 use Rattle.gq_model.specs.machine.Scenario.{Scenario, components, system}
 use Rattle.gq_model.specs.machine.World.{start}
-use Rattle.gq_world.specs.Worlds.{World}
+use Rattle.gq_world.specs.World_between_turns.{World}
 use Rattle.gq_traces.specs.First_turns.{first_turns}
-use Rattle.gq_traces.specs.Peaks.{peak_lines, peaks_text}
+use Rattle.gq_traces.specs.Account_peaks.{peak_lines, peaks_text}
 use Rattle.gq_traces.specs.declared.peaks.LeafPeaks.{LeafPeaks}
 use Rattle.gq_traces.specs.internal.Peaking.{AllNow, Comes, HasAll, IsIn, Peaked}
-use Rattle.gq_traces.specs.internal.Telling.{Goes}
+use Rattle.gq_traces.specs.internal.Printed_steps.{Goes}
 use Rattle.gq_traces.specs.First_turns.{turns_in}
-use Rattle.gq_traces.proofs.Leaves_told.{all_went, cut_off}
+use Rattle.gq_traces.proofs.Printed_leaves.{all_went, cut_off}
 use Rattle.gq_traces.proofs.Peaks_kept.{peaks_first}
-use Rattle.gq_traces.proofs.Peaks_told.{all_shown}
+use Rattle.gq_traces.proofs.Printed_peaks.{all_shown}
 use Rattle.gq_traces.proofs.Runs_on.{at_first, at_start, has_all}
 use Rattle.gq_traces.proofs.peaks.write_peaks.Goals as goal
 

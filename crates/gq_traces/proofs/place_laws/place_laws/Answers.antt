@@ -2,7 +2,7 @@
 use Rattle.std.proofs.Common.{true}
 use Rattle.gq_traces.proofs.Left_to_do.{goes_with}
 use Rattle.gq_traces.proofs.Node_names.{loaded_named}
-use Rattle.gq_traces.proofs.Told_run.{last_world}
+use Rattle.gq_traces.proofs.Printed_run.{last_world}
 use Rattle.gq_traces.proofs.place_laws.place_laws.Goals as goal
 
 pub returns-clause-machine : goal.returns-clause-machine

@@ -6,8 +6,8 @@ use Rattle.gq_model.specs.declared.phase.Phase.TheVariants.{Running, Handling, S
 use Rattle.gq_model.specs.machine.Scenario.{system}
 use Rattle.gq_model.specs.machine.Step.{oldest}
 use Rattle.gq_machine.specs.Machines.{Machine}
-use Rattle.gq_world.specs.Worlds.{World}
-use Rattle.gq_traces.proofs.Taking.{can_by}
+use Rattle.gq_world.specs.World_between_turns.{World}
+use Rattle.gq_traces.proofs.Repeated_leaf_turns.{can_by}
 use Rattle.gq_traces.proofs.schedule.can_take.Goals as goal
 
 phase_in : (m : Machine) (w : World) (x : ℕ) (p q : Phase) → m ≡ record { scenario = w.scenario; world = w.world }

@@ -2,9 +2,9 @@
 use Rattle.std.proofs.Common.{◌≡◌, ◌∙◌, ℕ, refl, sym, subst, true, false, Bool, add-one, arith}
 use Rattle.gq_model.specs.machine.Scenario.{Scenario, components, system}
 use Rattle.gq_model.specs.machine.World.{World}
-use Rattle.gq_laws.specs.Turns.{can_run}
-use Rattle.gq_traces.proofs.Counted.{at_end, below}
-use Rattle.gq_traces.proofs.Rounds.{NoneBefore, none_end, none_on, one_can}
+use Rattle.gq_laws.specs.Turn_effects.{can_run}
+use Rattle.gq_traces.proofs.Leaf_number_bounds.{at_end, below}
+use Rattle.gq_traces.proofs.Round_schedule_text.{NoneBefore, none_end, none_on, one_can}
 use Rattle.gq_traces.proofs.schedule.some_can.Goals as goal
 
 pub loop-number-init : goal.loop-number-init

@@ -1,5 +1,5 @@
 use Rattle.gq_model.specs.machine.Scenario.{components, system}
-use Rattle.gq_traces.proofs.Rounds.{NoneBefore}
+use Rattle.gq_traces.proofs.Round_schedule_text.{NoneBefore}
 use Rattle.gq_traces.proofs.schedule.some_can.Given as goal
 
 -- none of the leaves so far can

@@ -1,9 +1,9 @@
 -- Turns so far, and one more.
 use Rattle.std.proofs.Common.{◌≡◌, ◌∙◌, refl, sym, subst, true}
 use Rattle.gq_model.specs.machine.Scenario.{Scenario, system}
-use Rattle.gq_laws.specs.Turns.{can_run}
+use Rattle.gq_laws.specs.Turn_effects.{can_run}
 use Rattle.gq_traces.specs.internal.Takes.{TakesTurn}
-use Rattle.gq_traces.proofs.Taking.{come_first, come_on}
+use Rattle.gq_traces.proofs.Repeated_leaf_turns.{come_first, come_on}
 use Rattle.gq_traces.proofs.schedule.take_turns.Goals as goal
 
 pub loop-taken-init : goal.loop-taken-init

@@ -1,6 +1,6 @@
 use Rattle.std.proofs.Common.{◌≡◌, ◌-◌, false}
 use Rattle.gq_model.specs.machine.Scenario.{system}
-use Rattle.gq_traces.proofs.Taking.{HasCome}
+use Rattle.gq_traces.proofs.Repeated_leaf_turns.{HasCome}
 use Rattle.gq_traces.proofs.schedule.take_turns.Given as goal
 
 -- after the turns so far, what is left of the most leads where all of them lead

@@ -5,7 +5,7 @@ use Rattle.gq_model.specs.machine.Scenario.{components}
 use Rattle.gq_model.specs.texts.Letters.{is_name}
 use Rattle.gq_traces.specs.Schedule.{name_at}
 use Rattle.gq_traces.proofs.Line_parts.{line_is, short_count, short_name, three_short, two_short}
-use Rattle.gq_traces.proofs.Named.{name_of}
+use Rattle.gq_traces.proofs.Leaf_table_names.{name_of}
 use Rattle.gq_traces.proofs.schedule.turn_line.Goals as goal
 
 -- digits that are read as text are those of the number
@@ -15,11 +15,11 @@ digits_short digits text n same is few = let long = ap length (same ∙ is) in o
 pub extend-requires-3 : goal.extend-requires-3
 extend-requires-3 c =
     let name = c.as_bytes.result.now in
-    let front = two_short name c.new-line.result.items c.extend.new.line.items c.extend-2.new.line.items c.new-line.ensures c.extend.ensures c.extend-2.ensures
+    let prefix = two_short name c.new-line.result.items c.extend.new.line.items c.extend-2.new.line.items c.new-line.ensures c.extend.ensures c.extend-2.ensures
     (short_name name (subst (λ (l : List ℕ). is_name l ≡ true) (sym c.as_bytes.ensures.bytes) c.as_bytes.ensures.name)) in
     let digits = digits_short c.as_bytes-2.result.now c.format.result.now c.args.count c.as_bytes-2.ensures.value c.format.ensures.text
     (short_count c.args.count c.requires.count) in
-    omega (arith, front, digits)
+    omega (arith, prefix, digits)
 
 pub extend-requires-4 : goal.extend-requires-4
 extend-requires-4 c =

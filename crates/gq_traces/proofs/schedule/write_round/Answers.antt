@@ -2,13 +2,13 @@
 use Rattle.std.proofs.Common.{◌≡◌, ◌∙◌, ◌-◌, ℕ, List, Option, refl, sym, subst, add-one, arith, length}
 use Rattle.std.proofs.lemmas.Result.{err_from_is_err_and}
 use Rattle.std.specs.Io.KnownBytes.{Appends}
-use Rattle.gq_init.specs.Writes.{IsFront, IsRaised}
+use Rattle.gq_init.specs.Writes.{IsPrefix, IsRaised}
 use Rattle.gq_model.specs.machine.Scenario.{Scenario, components, system}
 use Rattle.gq_model.specs.machine.World.{World}
-use Rattle.gq_traces.specs.Schedule.{round, told_turns, while_can}
+use Rattle.gq_traces.specs.Schedule.{round, reported_turns, while_can}
 use Rattle.gq_traces.specs.internal.Takes.{turns_text}
-use Rattle.gq_traces.proofs.Counted.{at_end, below}
-use Rattle.gq_traces.proofs.Rounds.{GoesRound, IsThrough, round_cut, round_end, round_first, round_on}
+use Rattle.gq_traces.proofs.Leaf_number_bounds.{at_end, below}
+use Rattle.gq_traces.proofs.Round_schedule_text.{GoesRound, IsThrough, round_cut, round_end, round_first, round_on}
 use Rattle.gq_traces.proofs.schedule.write_round.Goals as goal
 
 -- the turns that the next leaf takes, by the number that it has in the loop
@@ -18,11 +18,11 @@ takes_at s t w v n k left taken same at takes =
     subst (λ (r : Scenario). while_can left (system r) w n ≡ (taken, v)) same (subst (λ (m : ℕ). while_can left (system t) w m ≡ (taken, v)) at takes)
 
 -- the text of its line
-text_at : (P : List ℕ → Type 0) (s t : Scenario) (n k taken : ℕ) → t ≡ s → k ≡ n → P (turns_text (components t) (told_turns k taken))
-    → P (turns_text (components s) (told_turns n taken))
+text_at : (P : List ℕ → Type 0) (s t : Scenario) (n k taken : ℕ) → t ≡ s → k ≡ n → P (turns_text (components t) (reported_turns k taken))
+    → P (turns_text (components s) (reported_turns n taken))
 text_at P s t n k taken same at h =
-    subst (λ (r : Scenario). P (turns_text (components r) (told_turns n taken))) same
-    (subst (λ (m : ℕ). P (turns_text (components t) (told_turns m taken))) at h)
+    subst (λ (r : Scenario). P (turns_text (components r) (reported_turns n taken))) same
+    (subst (λ (m : ℕ). P (turns_text (components t) (reported_turns m taken))) at h)
 
 pub loop-number-init : goal.loop-number-init
 loop-number-init g c =
@@ -47,13 +47,13 @@ returns-in_err-write_taken-clause-writes g c =
     let less = below c.table.result.now old.scenario c.table.ensures count.result l.number count.ensures.count c.loop-number-test.true in
     let takes = takes_at old.scenario l.world.scenario l.world.world t.new.world.world l.number c.new-leaf.result l.left t.result l.invariant.scenario
     c.new-leaf.ensures t.ensures.taken in
-    let front = text_at (IsFront b d) old.scenario t.new.world.scenario l.number c.new-leaf.result t.result (t.ensures.scenario ∙ l.invariant.scenario)
-    c.new-leaf.ensures c.in_err-write_taken.ensures.front in
+    let prefix = text_at (IsPrefix b d) old.scenario t.new.world.scenario l.number c.new-leaf.result t.result (t.ensures.scenario ∙ l.invariant.scenario)
+    c.new-leaf.ensures c.in_err-write_taken.ensures.prefix in
     rw (p.1) (record {
       written = tt;
       counted = tt;
-      front = round_cut (system old.scenario) (components old.scenario) c.args.most l.number l.left t.result old.world l.world.world t.new.world.world a b
-          d less takes l.invariant.goes front;
+      prefix = round_cut (system old.scenario) (components old.scenario) c.args.most l.number l.left t.result old.world l.world.world t.new.world.world a b
+          d less takes l.invariant.goes prefix;
       raised = subst (λ n. IsRaised n c.write_taken.new.out.failures) l.invariant.counted c.in_err-write_taken.ensures.raised;
     })
 
@@ -101,5 +101,5 @@ returns g c =
       running = l.invariant.running;
       left = all.left_is;
       world = all.world_is;
-      writes = record { written = all.written; counted = l.invariant.counted; front = tt; raised = tt };
+      writes = record { written = all.written; counted = l.invariant.counted; prefix = tt; raised = tt };
     }

@@ -1,6 +1,6 @@
 use Rattle.std.proofs.Common.{◌≡◌, false}
 use Rattle.gq_model.specs.machine.Scenario.{components, system}
-use Rattle.gq_traces.proofs.Rounds.{GoesRound}
+use Rattle.gq_traces.proofs.Round_schedule_text.{GoesRound}
 use Rattle.gq_traces.proofs.schedule.write_round.Given as goal
 
 -- the round goes on before the leaf of this number

@@ -2,12 +2,12 @@
 use Rattle.std.proofs.Common.{◌≡◌, ◌∙◌, ◌<◌, ℕ, List, Option, inl, inr, refl, subst, arith}
 use Rattle.std.proofs.lemmas.Result.{err_from_is_err_and}
 use Rattle.std.specs.Io.KnownBytes.{Appends}
-use Rattle.gq_init.specs.Writes.{IsFront, IsRaised}
+use Rattle.gq_init.specs.Writes.{IsPrefix, IsRaised}
 use Rattle.gq_model.specs.machine.Scenario.{Scenario, components, system}
 use Rattle.gq_model.specs.machine.World.{World}
 use Rattle.gq_traces.specs.Schedule.{round, scheduled}
 use Rattle.gq_traces.specs.internal.Takes.{turns_text}
-use Rattle.gq_traces.proofs.Rounds.{IsThrough, round_takes, rounds_cut, rounds_end, rounds_on}
+use Rattle.gq_traces.proofs.Round_schedule_text.{IsThrough, round_takes, rounds_cut, rounds_end, rounds_on}
 use Rattle.gq_traces.proofs.Whole_text.{first_rounds}
 use Rattle.gq_traces.proofs.schedule.write_rounds.Goals as goal
 
@@ -47,12 +47,12 @@ returns-in_err-rest-clause-writes g c =
     let b = g.W.Write.contents l.out.writer in
     let d = g.W.Write.contents c.write_round.new.out.writer in
     let p = err_from_is_err_and c.from_residual.result c.from_residual.ensures.1 in
-    let front = subst (λ (r : Scenario). IsFront b d (turns_text (components r) (round (system r) l.left l.world.world 0 (components r)).turns))
-    l.invariant.scenario c.in_err-rest.ensures.writes.front in
+    let prefix = subst (λ (r : Scenario). IsPrefix b d (turns_text (components r) (round (system r) l.left l.world.world 0 (components r)).turns))
+    l.invariant.scenario c.in_err-rest.ensures.writes.prefix in
     rw (p.1) (record {
       written = tt;
       counted = tt;
-      front = rounds_cut (scheduled old.scenario) (system old.scenario) l.left l.world.world a b d l.invariant.goes front;
+      prefix = rounds_cut (scheduled old.scenario) (system old.scenario) l.left l.world.world a b d l.invariant.goes prefix;
       raised = subst (λ n. IsRaised n c.write_round.new.out.failures) l.invariant.counted c.in_err-rest.ensures.writes.raised;
     })
 
@@ -100,7 +100,7 @@ returns-then-rest-left-clause-writes g c =
       written = (rounds_end (scheduled old.scenario) (system old.scenario) l.left l.world.world a b d l.invariant.goes c.write_round.new.world.world
           last).written;
       counted = e.writes.counted ∙ l.invariant.counted;
-      front = tt;
+      prefix = tt;
       raised = tt;
     }
 

@@ -2,7 +2,7 @@ use Rattle.std.proofs.Common.{◌≡◌, ◌≤◌, false}
 use Rattle.gq_model.specs.machine.Scenario.{system}
 use Rattle.gq_model.specs.texts.Turns.{greatest_turns}
 use Rattle.gq_traces.specs.Schedule.{scheduled}
-use Rattle.gq_traces.proofs.Rounds.{GoesRounds}
+use Rattle.gq_traces.proofs.Round_schedule_text.{GoesRounds}
 use Rattle.gq_traces.proofs.schedule.write_rounds.Given as goal
 
 -- further rounds are to come

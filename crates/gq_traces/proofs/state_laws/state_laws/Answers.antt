@@ -1,14 +1,14 @@
 -- Sessions, slots and sums agree in every world that is reached, and so do what inits are given and what they hand on.
 use Rattle.std.proofs.Common.{true}
-use Rattle.gq_laws.proofs.gathering.Reaching.{in_reached}
+use Rattle.gq_laws.proofs.upheld_worlds.Reached_world_induction.{in_reached}
 use Rattle.gq_laws.specs.Stands.{Stands}
-use Rattle.gq_world.proofs.Accounts.{leaf_there}
+use Rattle.gq_world.proofs.World_account_lines.{leaf_there}
 use Rattle.gq_traces.specs.Made_of.{after}
 use Rattle.gq_traces.proofs.Added_up.{leaves_add_up}
 use Rattle.gq_traces.proofs.Inits_added.{inits_add_up}
 use Rattle.gq_traces.proofs.Node_names.{loaded_named}
 use Rattle.gq_traces.proofs.Nodes_added.{all_add, shows_sums}
-use Rattle.gq_traces.proofs.Told_run.{last_reached, last_world}
+use Rattle.gq_traces.proofs.Printed_run.{last_reached, last_world}
 use Rattle.gq_traces.proofs.state_laws.state_laws.Goals as goal
 
 pub returns : goal.returns

@@ -5,18 +5,18 @@ use Rattle.gq_machine.specs.Events.{event_of}
 use Rattle.gq_machine.specs.Machines.{Machine}
 use Rattle.gq_model.specs.machine.Scenario.{Scenario, components, system}
 use Rattle.gq_model.specs.machine.World.{Leaf}
-use Rattle.gq_statements.specs.Statements.{current_seen}
+use Rattle.gq_statements.specs.Slot_statements.{current_seen}
 use Rattle.gq_model.specs.machine.Run.{label_at}
-use Rattle.gq_traces.specs.Places.{section_at}
+use Rattle.gq_traces.specs.Step_positions.{section_at}
 use Rattle.gq_traces.specs.Trace.{after_turn}
 use Rattle.gq_traces.specs.internal.Flat.{AllStand, ArePrograms, programs_of}
-use Rattle.gq_traces.specs.internal.Telling.{IsOn, IsTop, budgets_of}
-use Rattle.gq_traces.proofs.Going.{goes_nothing, goes_text}
+use Rattle.gq_traces.specs.internal.Printed_steps.{IsOn, IsTop, budgets_of}
+use Rattle.gq_traces.proofs.Sequential_text_writes.{goes_nothing, goes_text}
 use Rattle.gq_traces.proofs.Leaves_standing.{from_some, programs_long}
 use Rattle.gq_traces.proofs.Own_turns.{due_there, own_goes, own_stand, passes_as}
-use Rattle.gq_traces.proofs.Step_told.{was_noted}
+use Rattle.gq_traces.proofs.Printed_step.{was_noted}
 use Rattle.gq_traces.proofs.Still_noted.{step_left, use_in, use_still}
-use Rattle.gq_traces.proofs.Turns_told.{items_then, silent_text, taken_on}
+use Rattle.gq_traces.proofs.Printed_turns.{items_then, silent_text, taken_on}
 use Rattle.gq_traces.proofs.trace.own_turn.Goals as goal
 
 pub pass_by-requires-clause-leaf : goal.pass_by-requires-clause-leaf
@@ -25,8 +25,8 @@ pass_by-requires-clause-leaf g c =
     let long = programs_long c.args.tracing.now.programs.items (components c.args.world.now.scenario) c.requires.can.programs in
     subst (λ l. c.args.leaf < length l) (sym c.as_slice-programs.ensures.value) (omega (arith, less, long))
 
-pub returns-then-is_silent-clause-told : goal.returns-then-is_silent-clause-told
-returns-then-is_silent-clause-told g c =
+pub returns-then-is_silent-clause-reported : goal.returns-then-is_silent-clause-reported
+returns-then-is_silent-clause-reported g c =
     let w = c.args.world.now in
     let s = w.scenario in
     let x = c.args.leaf in
@@ -79,8 +79,8 @@ returns-then-is_silent-clause-after g c =
     (use_in c.machine-3.result.now step.new.self c.args.leaf c.use_of-after.result c.machine-3.ensures.is c.use_of-after.ensures)
     (c.is_silent.ensures.phase c.if-is_silent.true) (c.is_silent.ensures.used c.if-is_silent.true)
 
-pub tell_own-requires-clause-taken : goal.tell_own-requires-clause-taken
-tell_own-requires-clause-taken g c =
+pub report_own-requires-clause-taken : goal.report_own-requires-clause-taken
+report_own-requires-clause-taken g c =
     let w = c.args.world.now in
     let x = c.args.leaf in
     let step = c.step-event in (
@@ -108,12 +108,12 @@ tell_own-requires-clause-taken g c =
       }),
     )
 
-pub returns-clause-told : goal.returns-clause-told
-returns-clause-told g c =
+pub returns-clause-reported : goal.returns-clause-reported
+returns-clause-reported g c =
     let w = c.args.world.now in
     let x = c.args.leaf in
     let step = c.step-event in
-    c.tell_own.ensures w (record {
+    c.report_own.ensures w (record {
       can = c.requires.can;
       taken = record {
         stands = c.machine.ensures.stands;

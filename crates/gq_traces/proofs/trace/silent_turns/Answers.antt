@@ -1,10 +1,10 @@
--- Steps that a leaf takes alone, where changes alone are told.
+-- Steps that a leaf takes alone, where changes alone are reported.
 use Rattle.std.proofs.Common.{◌∙◌, ap, refl, subst, sym}
 use Rattle.std.proofs.lemmas.List.{with_items_is}
 use Rattle.std.specs.Vec.{with_items}
-use Rattle.gq_traces.specs.Written.{tells_all}
+use Rattle.gq_traces.specs.Traces_written.{prints_all}
 use Rattle.gq_traces.specs.declared.trace.Tracing.{Tracing}
-use Rattle.gq_traces.specs.internal.Telling.{IsSilent}
+use Rattle.gq_traces.specs.internal.Printed_steps.{IsSilent}
 use Rattle.gq_traces.proofs.Alone_steps.{no_silent, silent, steps_as}
 use Rattle.gq_traces.proofs.trace.silent_turns.Goals as goal
 
@@ -18,7 +18,7 @@ returns-in-Changes-clause-silent c =
     let took = c.steps_alone in
     let after : Tracing = record { programs = t.programs; aheads = with_items t.aheads took.new.aheads; notes = t.notes } in
     let long = took.auto.aheads ∙ c.as_mut_slice.ensures.len in
-    subst (λ all. IsSilent all c.args.leaf took.result w took.new.world t after) (sym (ap tells_all c.in-Changes.is))
+    subst (λ all. IsSilent all c.args.leaf took.result w took.new.world t after) (sym (ap prints_all c.in-Changes.is))
     (silent w took.new.world t after c.args.leaf took.result took.ensures.scenario c.requires.leaf c.counted.ensures.stands c.counted.ensures.leaves
     c.requires.can refl refl
     (steps_as w.scenario c.as_slice.result.now t.programs.items c.as_mut_slice.result.now t.aheads.items took.new.aheads after.aheads.items c.args.leaf

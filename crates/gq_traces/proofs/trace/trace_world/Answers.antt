@@ -1,11 +1,11 @@
--- Turns that are read, and told.
+-- Turns that are read, and reported.
 use Rattle.std.proofs.Common.{List, ℕ, length, sym, subst}
 use Rattle.gq_model.specs.machine.Run.{Acts}
 use Rattle.gq_model.specs.machine.Scenario.{components}
-use Rattle.gq_world.specs.Outcomes.{WritesAs}
-use Rattle.gq_world.specs.Worlds.{AreBelow}
-use Rattle.gq_world.proofs.Whole.{below_of}
-use Rattle.gq_traces.specs.Written.{tells_all}
+use Rattle.gq_world.specs.Command_outcomes.{WritesAs}
+use Rattle.gq_world.specs.World_between_turns.{AreBelow}
+use Rattle.gq_world.proofs.Run_text.{below_of}
+use Rattle.gq_traces.specs.Traces_written.{prints_all}
 use Rattle.gq_traces.specs.First_turns.{turns_in}
 use Rattle.gq_traces.proofs.Traced_whole.{acts_given}
 use Rattle.gq_traces.proofs.Turns_few.{few_of}
@@ -28,6 +28,6 @@ pub returns : goal.returns
 returns g c =
     let s = c.args.world.now.scenario in
     subst (λ w. WritesAs g.W.Write.contents w c.args.out.now c.write_trace.new.out c.write_trace.result)
-    (acts_given (tells_all c.args.telling) s c.args.turns.now c.in_ok-turns.turns.items c.as_slice.result.now c.in_ok-turns.ensures.read
+    (acts_given (prints_all c.args.reporting) s c.args.turns.now c.in_ok-turns.turns.items c.as_slice.result.now c.in_ok-turns.ensures.read
     c.as_slice.ensures.value)
     c.write_trace.ensures

@@ -1,42 +1,45 @@
--- The whole text, or a front of it.
+-- The whole text, or a prefix of it.
 use Rattle.std.proofs.Common.{Ok, refl}
 use Rattle.gq_traces.specs.Trace.{trace_text}
-use Rattle.gq_traces.specs.Written.{tells_all}
-use Rattle.gq_world.proofs.Commands.{all_written, cut_short}
+use Rattle.gq_traces.specs.Traces_written.{prints_all}
+use Rattle.gq_world.proofs.Command_text_endings.{all_written, cut_short}
 use Rattle.gq_traces.proofs.Traced_whole.{failed, since_then}
 use Rattle.gq_traces.proofs.trace.write_trace.Goals as goal
 
 pub returns-then-not-going : goal.returns-then-not-going
 returns-then-not-going g c =
     let s = c.args.world.now.scenario in
-    let told = c.tell_all-going in
+    let reported = c.report_all-going in
     let ended = c.write_end-going in
-    failed (tells_all c.args.telling) s c.args.turns.now g.W.Write.contents c.args.world.now told.new.world c.args.tracing.now told.new.tracing
-    c.args.out.now told.new.out ended.new.out told.result.0 ended.result told.result.1 refl c.requires.on told.ensures.count told.ensures.told ended.ensures
+    failed (prints_all c.args.reporting) s c.args.turns.now g.W.Write.contents c.args.world.now reported.new.world c.args.tracing.now reported.new.tracing
+    c.args.out.now reported.new.out ended.new.out reported.result.0 ended.result reported.result.1 refl c.requires.on reported.ensures.count
+    reported.ensures.reported ended.ensures
     c.if-not-going.true
 
 pub returns-in-Ok : goal.returns-in-Ok
 returns-in-Ok g c =
     let s = c.args.world.now.scenario in
-    let all = tells_all c.args.telling in
+    let all = prints_all c.args.reporting in
     let text = trace_text all s c.args.turns.now in
-    let told = c.tell_all-going in
+    let reported = c.report_all-going in
     let ended = c.write_end-going in
     let lines = c.write_accounts in
     all_written g.W.Write.contents (Ok text) text refl c.args.out.now lines.new.out lines.result _ _ c.in-Ok.is
-    (since_then all s c.args.turns.now g.W.Write.contents c.args.world.now told.new.world c.args.tracing.now told.new.tracing
-    c.args.out.now told.new.out ended.new.out told.result.0 ended.result told.result.1 refl c.requires.on told.ensures.count told.ensures.told ended.ensures
+    (since_then all s c.args.turns.now g.W.Write.contents c.args.world.now reported.new.world c.args.tracing.now reported.new.tracing
+    c.args.out.now reported.new.out ended.new.out reported.result.0 ended.result reported.result.1 refl c.requires.on reported.ensures.count
+    reported.ensures.reported ended.ensures
     lines.new.out c.machine.result.now c.budgets.result.now lines.result c.if-not-going.false c.machine.ensures.is c.budgets.ensures lines.ensures)
 
 pub returns-in-Err : goal.returns-in-Err
 returns-in-Err g c =
     let s = c.args.world.now.scenario in
-    let all = tells_all c.args.telling in
+    let all = prints_all c.args.reporting in
     let text = trace_text all s c.args.turns.now in
-    let told = c.tell_all-going in
+    let reported = c.report_all-going in
     let ended = c.write_end-going in
     let lines = c.write_accounts in
     cut_short g.W.Write.contents (Ok text) text refl c.args.out.now lines.new.out lines.result _ c.in-Err.is
-    (since_then all s c.args.turns.now g.W.Write.contents c.args.world.now told.new.world c.args.tracing.now told.new.tracing
-    c.args.out.now told.new.out ended.new.out told.result.0 ended.result told.result.1 refl c.requires.on told.ensures.count told.ensures.told ended.ensures
+    (since_then all s c.args.turns.now g.W.Write.contents c.args.world.now reported.new.world c.args.tracing.now reported.new.tracing
+    c.args.out.now reported.new.out ended.new.out reported.result.0 ended.result reported.result.1 refl c.requires.on reported.ensures.count
+    reported.ensures.reported ended.ensures
     lines.new.out c.machine.result.now c.budgets.result.now lines.result c.if-not-going.false c.machine.ensures.is c.budgets.ensures lines.ensures)

@@ -1,6 +1,6 @@
 use Rattle.std.proofs.Common.{List, map, take}
 use Rattle.gq_model.specs.machine.Scenario.{Component}
-use Rattle.gq_traces.specs.Places.{start_aheads}
+use Rattle.gq_traces.specs.Step_positions.{start_aheads}
 use Rattle.gq_traces.specs.internal.Flat.{AreAheads, ArePrograms}
 use Rattle.gq_traces.proofs.tracker.first_aheads.Given as goal
 

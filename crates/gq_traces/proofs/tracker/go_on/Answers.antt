@@ -4,10 +4,10 @@ use Rattle.std.specs.Prelude.{slice_set}
 use Rattle.gq_model.specs.declared.phase.Phase.{Phase}
 use Rattle.gq_model.specs.declared.phase.Phase.TheVariants.{Pending, Running, Blocked, Serving, Handling, Exited}
 use Rattle.gq_model.specs.machine.Scenario.{components}
-use Rattle.gq_model.proofs.Small.{none_some}
-use Rattle.gq_traces.specs.Places.{Ahead, ahead, body_in}
+use Rattle.gq_model.proofs.Small_facts.{none_some}
+use Rattle.gq_traces.specs.Step_positions.{Ahead, ahead, body_in}
 use Rattle.gq_traces.specs.internal.Flat.{AreAheads}
-use Rattle.gq_traces.proofs.Dues.{due_then, first_asked, handling_ahead, no_request, parts, request_ahead, request_due, running_ahead}
+use Rattle.gq_traces.proofs.Leaf_next_step.{due_then, first_asked, handling_ahead, no_request, parts, request_ahead, request_due, running_ahead}
 use Rattle.gq_traces.proofs.Leaves_standing.{programs_long, stand_long}
 use Rattle.gq_traces.proofs.tracker.go_on.Goals as goal
 

@@ -1,10 +1,10 @@
 -- The step that a leaf can take.
 use Rattle.std.proofs.Common.{◌≡◌, [], inl, inr, ◌∙◌, ap, sym, subst, Some, None}
 use Rattle.gq_model.specs.declared.phase.Phase.{Phase}
-use Rattle.gq_traces.specs.Places.{place}
-use Rattle.gq_traces.specs.internal.Telling.{IsDue}
+use Rattle.gq_traces.specs.Step_positions.{place}
+use Rattle.gq_traces.specs.internal.Printed_steps.{IsDue}
 use Rattle.gq_model.specs.declared.phase.Phase.TheVariants.{Pending, Running, Blocked, Serving, Handling, Exited}
-use Rattle.gq_traces.proofs.Dues.{due_then, first_asked, no_request, own_due, parts, request_due}
+use Rattle.gq_traces.proofs.Leaf_next_step.{due_then, first_asked, no_request, own_due, parts, request_due}
 use Rattle.gq_traces.proofs.tracker.next_due.Goals as goal
 
 pub returns-in-Running : goal.returns-in-Running

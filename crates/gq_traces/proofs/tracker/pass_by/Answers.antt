@@ -1,6 +1,6 @@
 -- Past the next step.
 use Rattle.std.proofs.Common.{arith, subst}
-use Rattle.gq_traces.specs.Places.{past}
+use Rattle.gq_traces.specs.Step_positions.{past}
 use Rattle.gq_traces.specs.internal.Flat.{IsAhead, Stands}
 use Rattle.gq_traces.proofs.Leaves_standing.{ahead_here, stand_here, stand_long, stands_then}
 use Rattle.gq_traces.proofs.tracker.pass_by.Goals as goal

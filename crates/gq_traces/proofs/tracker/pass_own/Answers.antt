@@ -2,7 +2,7 @@
 use Rattle.std.proofs.Common.{arith}
 use Rattle.std.specs.Prelude.{slice_get}
 use Rattle.gq_model.specs.machine.Scenario.{components}
-use Rattle.gq_traces.specs.internal.Telling.{IsTop}
+use Rattle.gq_traces.specs.internal.Printed_steps.{IsTop}
 use Rattle.gq_traces.proofs.Leaves_standing.{from_some, programs_long}
 use Rattle.gq_traces.proofs.tracker.pass_own.Goals as goal
 

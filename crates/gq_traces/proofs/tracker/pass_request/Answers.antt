@@ -1,7 +1,7 @@
 -- At the start of a section.
 use Rattle.std.proofs.Common.{◌∙◌, ap, get_or, subst, sym}
 use Rattle.std.specs.Prelude.{slice_set}
-use Rattle.gq_traces.specs.Places.{ahead, body_in}
+use Rattle.gq_traces.specs.Step_positions.{ahead, body_in}
 use Rattle.gq_traces.specs.internal.Flat.{AreAheads}
 use Rattle.gq_traces.proofs.Leaves_standing.{at_start, program_at, stands_now}
 use Rattle.gq_traces.proofs.tracker.pass_request.Goals as goal

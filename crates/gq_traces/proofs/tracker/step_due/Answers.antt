@@ -2,8 +2,8 @@
 use Rattle.std.proofs.Common.{◌≡◌, ◌∙◌, ap, arith}
 use Rattle.std.specs.Prelude.{slice_get}
 use Rattle.gq_model.specs.machine.Scenario.{components}
-use Rattle.gq_statements.specs.Statements.{current_seen}
-use Rattle.gq_traces.specs.Places.{next_place, section_at}
+use Rattle.gq_statements.specs.Slot_statements.{current_seen}
+use Rattle.gq_traces.specs.Step_positions.{next_place, section_at}
 use Rattle.gq_traces.proofs.Leaves_standing.{from_some, programs_long}
 use Rattle.gq_traces.proofs.tracker.step_due.Goals as goal
 

@@ -1,6 +1,6 @@
 -- The statements before a leaf.
 use Rattle.std.proofs.Common.{arith}
-use Rattle.gq_traces.proofs.Straight.{all_found, item_at, straight_at, straight_of}
+use Rattle.gq_traces.proofs.Straight_line_statements.{all_found, item_at, straight_at, straight_of}
 use Rattle.gq_traces.proofs.tracker.straight_in.Goals as goal
 
 pub bounds-aheads-index : goal.bounds-aheads-index

@@ -1,8 +1,8 @@
 use Rattle.std.proofs.Common.{sym, ap, subst}
-use Rattle.gq_ram.specs.Entries.{IsOpen}
+use Rattle.gq_ram.specs.Account_table.{IsOpen}
 use Rattle.gq_trade.specs.Stores.{Memory}
 use Rattle.gq_contents.specs.declared.content.Content.TheVariants as content
-use Rattle.gq_trade.proofs.Paying.{changes_for}
+use Rattle.gq_trade.proofs.Other_account_stores.{changes_for}
 use Rattle.gq_trade.proofs.objects.free_slice_of.Goals as goal
 
 pub pay_by-requires-2 : goal.pay_by-requires-2

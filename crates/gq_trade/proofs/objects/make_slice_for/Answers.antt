@@ -1,11 +1,11 @@
 use Rattle.std.proofs.Common.{replicate, rules, sym, ap, subst}
 use Rattle.gq_model.specs.declared.program.Form.TheVariants as form
 use Rattle.gq_model.specs.machine.World as world
-use Rattle.gq_ram.specs.Entries.{IsOpen}
+use Rattle.gq_ram.specs.Account_table.{IsOpen}
 use Rattle.gq_trade.specs.Stores.{Memory, store_at, store_of}
 use Rattle.gq_contents.specs.declared.content.Content.TheVariants as content
 use Rattle.gq_contents.specs.Paid.{IsMadeBeside}
-use Rattle.gq_trade.proofs.Paying.{changes_for, if_ok}
+use Rattle.gq_trade.proofs.Other_account_stores.{changes_for, if_ok}
 use Rattle.gq_trade.proofs.objects.make_slice_for.Goals as goal
 
 pub pay_by-requires-2 : goal.pay_by-requires-2

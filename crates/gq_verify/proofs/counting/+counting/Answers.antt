@@ -1,17 +1,17 @@
 use Rattle.std.proofs.Common.{◌-◌, ◌+◌, ◌*◌, ap, arith, length, refl, subst, sym, ◌∙◌}
 use Rattle.gq_model.specs.machine.Program.{size}
-use Rattle.gq_rules.proofs.Flows.{few_here}
+use Rattle.gq_rules.proofs.Statement_list_flow.{few_here}
 use Rattle.gq_model.specs.rules.Budgets.{requests}
 use Rattle.gq_model.specs.rules.Kinds.{Context, inside}
-use Rattle.gq_verify.specs.Counting.{saturated}
+use Rattle.gq_verify.specs.Saturated_numbers.{saturated}
 use Rattle.gq_verify.specs.Requested.{requests_for}
 use Rattle.gq_verify.specs.Rights.{IsRight}
 use Rattle.gq_verify.specs.internal.Requesting.{requests_in}
-use Rattle.gq_verify.proofs.Quiets.{quiet_arms, quiet_round}
+use Rattle.gq_verify.proofs.Requestless_statements.{quiet_arms, quiet_round}
 use Rattle.gq_verify.proofs.Counts_rights.{arms_right, round_right, on_then, round_counted}
-use Rattle.gq_rules.specs.internal.Steps.{chosen}
-use Rattle.gq_verify.proofs.Slots.{count_next, count_all, arms_counted}
-use Rattle.gq_program.proofs.Sizes.{size_here}
+use Rattle.gq_rules.specs.internal.List_states.{chosen}
+use Rattle.gq_verify.proofs.Statement_slot_changes.{count_next, count_all, arms_counted}
+use Rattle.gq_program.proofs.Statement_list_sizes.{size_here}
 use Rattle.gq_verify.proofs.counting.+counting.Goals as goal
 
 pub count-count_in-requires : goal.count-count_in-requires

@@ -1,5 +1,5 @@
 use Rattle.std.proofs.Common.{sym, ◌∙◌}
-use Rattle.gq_verify.proofs.Quiets.{quiet_list}
+use Rattle.gq_verify.proofs.Requestless_statements.{quiet_list}
 use Rattle.gq_verify.proofs.counting.all_requests.Goals as goal
 
 pub returns-then-is_quiet : goal.returns-then-is_quiet

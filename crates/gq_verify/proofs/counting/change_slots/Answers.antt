@@ -1,5 +1,5 @@
 use Rattle.std.proofs.Common.{sym, ◌∙◌}
-use Rattle.gq_verify.proofs.Slots.{changed_alike, kept_alike}
+use Rattle.gq_verify.proofs.Statement_slot_changes.{changed_alike, kept_alike}
 use Rattle.gq_verify.proofs.counting.change_slots.Goals as goal
 
 pub returns-in-Ok : goal.returns-in-Ok

@@ -1,6 +1,6 @@
 use Rattle.std.proofs.Common.{◌∙◌, ap}
 use Rattle.gq_caps.specs.Known.{all_known}
-use Rattle.gq_verify.proofs.Mains.{start_is, main_own, main_stuck, main_most, main_never, main_answers, main_breaks}
+use Rattle.gq_verify.proofs.Main_section_rules.{start_is, main_own, main_stuck, main_most, main_never, main_answers, main_breaks}
 use Rattle.gq_verify.proofs.starts.walk_main.Goals as goal
 
 pub returns-in-Ok-clause-own : goal.returns-in-Ok-clause-own

@@ -1,5 +1,5 @@
 use Rattle.std.proofs.Common.{sym}
-use Rattle.gq_verify.proofs.Mains.{most_is}
+use Rattle.gq_verify.proofs.Main_section_rules.{most_is}
 use Rattle.gq_verify.proofs.verified.verify.Goals as goal
 
 pub own-own-requires-clause-most : goal.own-own-requires-clause-most

@@ -1,10 +1,10 @@
 use Rattle.std.proofs.Common.{◌+◌, ◌-◌, ap, arith, length, sym, ◌∙◌}
 use Rattle.gq_model.specs.machine.Program.{size}
-use Rattle.gq_program.proofs.Sizes.{size_here}
-use Rattle.gq_rules.proofs.Flows.{few_here}
-use Rattle.gq_rules.specs.internal.Steps.{chosen}
+use Rattle.gq_program.proofs.Statement_list_sizes.{size_here}
+use Rattle.gq_rules.proofs.Statement_list_flow.{few_here}
+use Rattle.gq_rules.specs.internal.List_states.{chosen}
 use Rattle.gq_verify.proofs.Counts_rights.{arms_right}
-use Rattle.gq_verify.proofs.Visited.{arms_shown, point_shown, size_left, size_one, visit_all, visit_next}
+use Rattle.gq_verify.proofs.Visitor_statement_walk.{arms_shown, point_shown, size_left, size_one, visit_all, visit_next}
 use Rattle.gq_verify.proofs.visits.+visiting.Goals as goal
 
 pub visit-visit_statement-requires : goal.visit-visit_statement-requires

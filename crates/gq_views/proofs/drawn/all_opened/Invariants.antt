@@ -1,5 +1,5 @@
 use Rattle.std.proofs.Common.{◌≡◌, ◌++◌, drop, map}
-use Rattle.gq_views.specs.internal.Opened.{opened_by_all}
+use Rattle.gq_views.specs.internal.Opened_services.{opened_by_all}
 use Rattle.gq_views.proofs.drawn.all_opened.Given as goal
 
 -- the leaves so far, with those that are left, are all

@@ -1,7 +1,7 @@
 use Rattle.std.proofs.Common.{◌∙◌, ap}
 use Rattle.std.proofs.lemmas.Result.{IfOk-weaker}
 use Rattle.gq_resolve.specs.Served.{once}
-use Rattle.gq_views.proofs.Told_services.{each_first}
+use Rattle.gq_views.proofs.Printed_services.{each_first}
 use Rattle.gq_views.proofs.drawn.services_of.Goals as goal
 
 pub returns : goal.returns

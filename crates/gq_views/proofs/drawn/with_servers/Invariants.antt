@@ -1,5 +1,5 @@
 use Rattle.std.proofs.Common.{◌≡◌, ◌++◌, drop}
-use Rattle.gq_views.specs.internal.Opened.{opened_among}
+use Rattle.gq_views.specs.internal.Opened_services.{opened_among}
 use Rattle.gq_views.proofs.drawn.with_servers.Given as goal
 
 -- the services so far, with those that are left, are all

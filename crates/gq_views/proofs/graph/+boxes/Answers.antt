@@ -3,9 +3,9 @@ use Rattle.gq_model.specs.machine.Accounts.{leaf_count}
 use Rattle.gq_model.specs.rules.Accept.{budgets}
 use Rattle.gq_scenario.specs.Sizes.{node_count}
 use Rattle.gq_scenario.proofs.Nodes_counted.{count_here}
-use Rattle.gq_scenario.proofs.Preorder.{count_leaf, count_init}
+use Rattle.gq_scenario.proofs.Preorder_leaves.{count_leaf, count_init}
 use Rattle.gq_scenario.proofs.Tree_counts.{below_smaller}
-use Rattle.gq_views.proofs.Told_boxes.{boxed_init, boxed_leaf, cluster_put, one_node, same_label}
+use Rattle.gq_views.proofs.Printed_boxes.{boxed_init, boxed_leaf, cluster_put, one_node, same_label}
 use Rattle.gq_views.proofs.graph.+boxes.Goals as goal
 use Rattle.gq_views.proofs.graph.+boxes.Goals.{push_boxes-in-Leaf+in_ok-push_leaf-in-Leaf, push_boxes-in-Init+in_ok-at-in-Init}
 
@@ -54,9 +54,9 @@ push_boxes-loop-node-preserved t c =
           let place = ap (λ p. p.node) w.at-is in
           let number = ap (λ p. p.leaf) w.at-is in
           record {
-            told = boxed_leaf s.version (budgets s) d items i node within at leaf w.in-Leaf.is l.at.node l.at.leaf c.match-node.at.node c.match-node.at.leaf
+            reported = boxed_leaf s.version (budgets s) d items i node within at leaf w.in-Leaf.is l.at.node l.at.leaf c.match-node.at.node c.match-node.at.leaf
                 place
-                number l.text.items c.match-node.text.items _ put l.invariant.told;
+                number l.text.items c.match-node.text.items _ put l.invariant.reported;
             nodes = omega (arith, l.invariant.nodes, one_node s.version (budgets s) d items i node within at leaf w.in-Leaf.is, place);
             leaves = omega (arith, l.invariant.leaves, count_leaf items i node within at leaf w.in-Leaf.is, number);
           }
@@ -67,9 +67,9 @@ push_boxes-loop-node-preserved t c =
           let place = ap (λ p. p.node) w.at-is ∙ w.in_ok-at-in-Init.ensures.node in
           let number = ap (λ p. p.leaf) w.at-is ∙ w.in_ok-at-in-Init.ensures.leaf in
           record {
-            told = boxed_init s.version (budgets s) d items i node within at init children w.in-Init.is l.at.node l.at.leaf c.match-node.at.node
+            reported = boxed_init s.version (budgets s) d items i node within at init children w.in-Init.is l.at.node l.at.leaf c.match-node.at.node
                 c.match-node.at.leaf place number l.text.items c.match-node.text.items _ _ _ (w.as_bytes-name.ensures.bytes ∙ w.name.ensures) w.quantum.ensures
-                put l.invariant.told;
+                put l.invariant.reported;
             nodes = omega (arith, l.invariant.nodes, count_here items i node init children within at w.in-Init.is, place);
             leaves = omega (arith, l.invariant.leaves, count_init items i node within at init children w.in-Init.is, number);
           }

@@ -1,7 +1,7 @@
 use Rattle.std.proofs.Common.{codes}
 use Rattle.std.specs.Prelude.{decimal}
 use Rattle.std.proofs.lemmas.Result.{on_ok_weaker}
-use Rattle.gq_views.proofs.Told_boxes.{line_of_three}
+use Rattle.gq_views.proofs.Printed_boxes.{line_of_three}
 use Rattle.gq_views.proofs.graph.push_box.Goals as goal
 
 pub returns : goal.returns

@@ -1,7 +1,7 @@
 use Rattle.std.proofs.Common.{◌∙◌, ◌<◌, ◌++◌, ap, arith, length}
 use Rattle.std.proofs.lemmas.Bool.Decides.{nat_tests}
 use Rattle.gq_views.specs.Tree.{point_line}
-use Rattle.gq_views.proofs.Told_boxes.{no_point}
+use Rattle.gq_views.proofs.Printed_boxes.{no_point}
 use Rattle.gq_views.proofs.graph.push_point.Goals as goal
 
 pub returns-then-not-is_empty : goal.returns-then-not-is_empty

@@ -1,8 +1,8 @@
 use Rattle.std.proofs.Common.{◌∙◌, ap, arith, codes}
 use Rattle.gq_model.specs.machine.Accounts.{leaf_count}
 use Rattle.gq_model.specs.rules.Accept.{budgets}
-use Rattle.gq_scenario.proofs.Preorder.{components-count}
-use Rattle.gq_views.proofs.Told_boxes.{root_box}
+use Rattle.gq_scenario.proofs.Preorder_leaves.{components-count}
+use Rattle.gq_views.proofs.Printed_boxes.{root_box}
 use Rattle.gq_views.proofs.graph.push_root.Goals as goal
 
 pub push_cluster-requires-clause-leaves : goal.push_cluster-requires-clause-leaves

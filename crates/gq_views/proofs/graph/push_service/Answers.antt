@@ -2,7 +2,7 @@ use Rattle.std.proofs.Common.{◌∙◌, ◌++◌, ap, ap₂, sym}
 use Rattle.std.specs.Prelude.{slice_index}
 use Rattle.std.proofs.lemmas.Result.{on_ok_weaker}
 use Rattle.gq_views.specs.Tree.{arrow, arrow_to, in_quotes}
-use Rattle.gq_views.proofs.Told_boxes.{arrow_put}
+use Rattle.gq_views.proofs.Printed_boxes.{arrow_put}
 use Rattle.gq_views.proofs.graph.push_service.Goals as goal
 
 pub returns : goal.returns

@@ -1,5 +1,5 @@
 use Rattle.std.proofs.Common.{◌≡◌, ◌++◌, drop}
-use Rattle.gq_views.specs.internal.Opened.{arrows_of}
+use Rattle.gq_views.specs.internal.Opened_services.{arrows_of}
 use Rattle.gq_views.proofs.graph.push_services.Given as goal
 
 -- the arrows so far, with those of the services that are left, are all

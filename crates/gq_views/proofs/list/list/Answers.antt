@@ -1,6 +1,6 @@
 -- The text was made, and is written.
 use Rattle.std.proofs.Common.{Ok, ap, sym, ◌∙◌}
-use Rattle.gq_views.specs.Written.{list_from, list_written}
+use Rattle.gq_views.specs.Views_written.{list_from, list_written}
 use Rattle.gq_views.proofs.list.list.Goals as goal
 
 pub returns : goal.returns

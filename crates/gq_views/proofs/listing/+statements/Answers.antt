@@ -2,9 +2,9 @@ use Rattle.std.proofs.Common.{◌≡◌, ◌∙◌, ◌+◌, ◌<◌, ◌++◌, 
 use Rattle.std.proofs.lemmas.Bool.Decides.{nat_tests}
 use Rattle.std.proofs.lemmas.Result.{on_ok_weaker}
 use Rattle.gq_model.specs.machine.Program.{size}
-use Rattle.gq_program.proofs.Sizes.{size_here}
+use Rattle.gq_program.proofs.Statement_list_sizes.{size_here}
 use Rattle.gq_views.specs.Listing.{joined, other_lines, statements_lines}
-use Rattle.gq_views.proofs.Told_statements.{grown, if_text, loop_text_is, other_text, text_here}
+use Rattle.gq_views.proofs.Printed_statements.{grown, if_text, loop_text_is, other_text, text_here}
 use Rattle.gq_views.proofs.listing.+statements.Goals as goal
 
 pub push_body-push_statement-requires : goal.push_body-push_statement-requires

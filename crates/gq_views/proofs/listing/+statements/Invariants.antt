@@ -1,6 +1,6 @@
 use Rattle.std.proofs.Common.{◌≡◌, ◌+◌, ◌*◌, ◌++◌, ◌∷◌, [], drop}
 use Rattle.gq_model.specs.machine.Program.{size}
-use Rattle.gq_program.specs.Trees.{tree_of}
+use Rattle.gq_program.specs.Statement_trees.{tree_of}
 use Rattle.gq_views.specs.Listing.{joined, statements_lines}
 use Rattle.gq_views.proofs.listing.+statements.Given as goal
 

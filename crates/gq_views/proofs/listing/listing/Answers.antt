@@ -1,6 +1,6 @@
 use Rattle.std.proofs.Common.{ap, ◌∙◌, ◌++◌}
 use Rattle.gq_views.specs.Listing.{joined, locals_lines, sections_lines}
-use Rattle.gq_views.proofs.Told_sections.{listing_text}
+use Rattle.gq_views.proofs.Printed_sections.{listing_text}
 use Rattle.gq_views.proofs.listing.listing.Goals as goal
 
 pub returns : goal.returns

@@ -1,5 +1,5 @@
 use Rattle.std.proofs.lemmas.Result.{on_ok_weaker}
-use Rattle.gq_views.proofs.Told_sections.{section_text}
+use Rattle.gq_views.proofs.Printed_sections.{section_text}
 use Rattle.gq_views.proofs.listing.push_section.Goals as goal
 
 pub returns : goal.returns

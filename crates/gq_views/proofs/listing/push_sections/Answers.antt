@@ -1,7 +1,7 @@
 use Rattle.std.proofs.Common.{◌∙◌}
 use Rattle.gq_model.specs.texts.Code.{greatest_statements}
-use Rattle.gq_views.proofs.Told_sections.{few_after, sections_here}
-use Rattle.gq_views.proofs.Told_statements.{grown}
+use Rattle.gq_views.proofs.Printed_sections.{few_after, sections_here}
+use Rattle.gq_views.proofs.Printed_statements.{grown}
 use Rattle.gq_views.proofs.listing.push_sections.Goals as goal
 
 pub loop-section-preserved : goal.loop-section-preserved

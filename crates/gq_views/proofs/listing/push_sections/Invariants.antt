@@ -1,6 +1,6 @@
 use Rattle.std.proofs.Common.{◌≡◌, ◌≤◌, ◌++◌, drop}
 use Rattle.gq_model.specs.texts.Code.{greatest_statements}
-use Rattle.gq_views.specs.internal.Counts.{total}
+use Rattle.gq_views.specs.internal.Section_statement_counts.{total}
 use Rattle.gq_views.specs.Listing.{joined, sections_lines}
 use Rattle.gq_views.proofs.listing.push_sections.Given as goal
 

@@ -3,10 +3,10 @@ use Rattle.gq_model.specs.machine.Accounts.{leaf_count}
 use Rattle.gq_model.specs.machine.Scenario.{system}
 use Rattle.gq_model.specs.rules.Accept.{budgets}
 use Rattle.gq_scenario.specs.Sizes.{node_count}
-use Rattle.gq_scenario.proofs.Preorder.{count_leaf, count_init}
+use Rattle.gq_scenario.proofs.Preorder_leaves.{count_leaf, count_init}
 use Rattle.gq_scenario.proofs.Tree_counts.{below_smaller}
 use Rattle.gq_views.specs.Tree.{init_lines}
-use Rattle.gq_views.proofs.Told_nodes.{told_init, told_leaf}
+use Rattle.gq_views.proofs.Printed_view_nodes.{printed_init, printed_leaf}
 use Rattle.gq_views.proofs.tree.+push_nodes.Goals as goal
 use Rattle.gq_views.proofs.tree.+push_nodes.Goals.{in-Leaf+in_ok-push_leaf-in-Leaf, in-Init+in_ok-push_init_lines-in-Init+in_ok-place-in-Init}
 
@@ -39,8 +39,9 @@ loop-node-preserved t c =
           let leaf = w.in-Leaf.leaf in
           let put = ap (λ v. v.items) w.text-is ∙ w.in_ok-push_leaf-in-Leaf.ensures in
           record {
-            told = told_leaf s.version (system s) (budgets s) d items i node within at leaf w.in-Leaf.is l.place c.match-node.place w.place-is l.text.items
-                c.match-node.text.items _ put l.invariant.told;
+            reported = printed_leaf s.version (system s) (budgets s) d items i node within at leaf w.in-Leaf.is l.place c.match-node.place w.place-is
+                l.text.items
+                c.match-node.text.items _ put l.invariant.reported;
             leaves = omega (arith, l.invariant.leaves, count_leaf items i node within at leaf w.in-Leaf.is, w.place-is);
           }
       | in-Init+in_ok-push_init_lines-in-Init+in_ok-place-in-Init w ↦
@@ -50,8 +51,9 @@ loop-node-preserved t c =
           let below = ap (λ v. v.items) w.text-is ∙ w.in_ok-place-in-Init.ensures.lines in
           let next = w.place-is ∙ w.in_ok-place-in-Init.ensures.next in
           record {
-            told = told_init s.version (system s) (budgets s) d items i node within at init children w.in-Init.is l.place c.match-node.place next l.text.items
-                w.push_init_lines.new.text.items c.match-node.text.items _ put below l.invariant.told;
+            reported = printed_init s.version (system s) (budgets s) d items i node within at init children w.in-Init.is l.place c.match-node.place next
+                l.text.items
+                w.push_init_lines.new.text.items c.match-node.text.items _ put below l.invariant.reported;
             leaves = omega (arith, l.invariant.leaves, count_init items i node within at init children w.in-Init.is, next);
           }
     ]

@@ -1,6 +1,6 @@
 use Rattle.std.proofs.Common.{ap, arith}
 use Rattle.gq_model.specs.machine.Accounts.{leaf_count}
-use Rattle.gq_scenario.proofs.Preorder.{components-count}
+use Rattle.gq_scenario.proofs.Preorder_leaves.{components-count}
 use Rattle.gq_views.proofs.tree.drawn_text.Goals as goal
 
 pub push_nodes-requires-clause-leaves : goal.push_nodes-requires-clause-leaves

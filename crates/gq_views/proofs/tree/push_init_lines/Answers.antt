@@ -1,9 +1,9 @@
 use Rattle.std.proofs.Common.{◌∙◌, suc, ◌++◌, refl, ap, ap₂, append_assoc, add-one}
 use Rattle.std.proofs.lemmas.Result.{on_ok_weaker}
-use Rattle.gq_scenario.specs.Trees.{version_number}
+use Rattle.gq_scenario.specs.Component_trees.{version_number}
 use Rattle.gq_views.specs.Listing.{line}
 use Rattle.gq_views.specs.Tree.{init_text, offers_lines}
-use Rattle.gq_views.proofs.Told_nodes.{same_init}
+use Rattle.gq_views.proofs.Printed_view_nodes.{same_init}
 use Rattle.gq_views.proofs.tree.push_init_lines.Goals as goal
 
 pub returns : goal.returns

@@ -3,9 +3,9 @@ use Rattle.std.proofs.lemmas.Result.{on_ok_weaker}
 use Rattle.gq_model.specs.machine.Scenario.{system}
 use Rattle.gq_views.specs.Listing.{line}
 use Rattle.gq_views.specs.Tree.{leaf_text}
-use Rattle.gq_views.specs.internal.Opened.{opens_of}
-use Rattle.gq_views.proofs.Pushed.{line_put}
-use Rattle.gq_views.proofs.Told_services.{opens_told}
+use Rattle.gq_views.specs.internal.Opened_services.{opens_of}
+use Rattle.gq_views.proofs.Growing_view_texts.{line_put}
+use Rattle.gq_views.proofs.Printed_services.{opens_printed}
 use Rattle.gq_views.proofs.tree.push_leaf.Goals as goal
 
 pub returns : goal.returns
@@ -16,6 +16,6 @@ returns c =
     let first = line_put d (leaf_text _ c.args.leaf.now c.budget.result) t c.push_indent.new.text.items c.push_leaf_text.new.text.items
     c.end_line.new.text.items
     c.in_ok-push_indent.ensures c.in_ok-push_leaf_text.ensures c.in_ok-end_line.ensures in
-    let told = ap₂ (λ v b. t ++ line d (leaf_text v c.args.leaf.now b)) c.version.ensures c.budget.ensures in
-    let opens = ap (λ o. opens_of (d + 1) (system s) o) c.opened.ensures ∙ opens_told (d + 1) s c.args.place in
-    on_ok_weaker c.push_opens.result (λ e. e ∙ ap₂ (λ a b. a ++ b) (first ∙ told) opens) c.push_opens.ensures
+    let reported = ap₂ (λ v b. t ++ line d (leaf_text v c.args.leaf.now b)) c.version.ensures c.budget.ensures in
+    let opens = ap (λ o. opens_of (d + 1) (system s) o) c.opened.ensures ∙ opens_printed (d + 1) s c.args.place in
+    on_ok_weaker c.push_opens.result (λ e. e ∙ ap₂ (λ a b. a ++ b) (first ∙ reported) opens) c.push_opens.ensures

@@ -1,6 +1,6 @@
 use Rattle.std.proofs.Common.{◌≡◌, ◌++◌, drop}
 use Rattle.gq_model.specs.machine.Scenario.{system}
-use Rattle.gq_views.specs.internal.Opened.{opens_of}
+use Rattle.gq_views.specs.internal.Opened_services.{opens_of}
 use Rattle.gq_views.proofs.tree.push_opens.Given as goal
 
 -- the lines so far, with those of the services that are left, are all

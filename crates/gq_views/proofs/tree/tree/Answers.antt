@@ -1,12 +1,12 @@
 -- The text was made, and is written.
 use Rattle.std.proofs.Common.{Ok, ap, sym, ◌∙◌}
 use Rattle.gq_load.specs.Load.{loaded}
-use Rattle.gq_world.proofs.Commands.{told_text}
+use Rattle.gq_world.proofs.Command_text_endings.{reported_text}
 use Rattle.gq_views.specs.Tree.{tree_text}
-use Rattle.gq_views.specs.Written.{tree_written}
+use Rattle.gq_views.specs.Views_written.{tree_written}
 use Rattle.gq_views.proofs.tree.tree.Goals as goal
 
 pub returns : goal.returns
 returns g c =
     c.put_text.ensures (tree_written c.args.scenario.now)
-    (told_text tree_text (loaded c.args.scenario.now) c.in_ok-text.text.items c.in_ok-text.ensures.text ∙ ap Ok (sym c.as_slice.ensures.value))
+    (reported_text tree_text (loaded c.args.scenario.now) c.in_ok-text.text.items c.in_ok-text.ensures.text ∙ ap Ok (sym c.as_slice.ensures.value))

@@ -1,10 +1,10 @@
 use Rattle.std.proofs.Common.{◌∙◌, ap, option_map, sym}
 use Rattle.gq_model.specs.machine.Amounts.{Ram, Caps}
 use Rattle.gq_model.specs.machine.Program.{section_in}
-use Rattle.gq_verify.proofs.There.{there_now}
-use Rattle.gq_why.specs.Kept.{top_in}
-use Rattle.gq_why.specs.declared.points.HighestSession.{HighestSession}
-use Rattle.gq_why.proofs.Levels.{goes_by, goes_none, goes_on}
+use Rattle.gq_verify.proofs.Sections_by_name.{there_now}
+use Rattle.gq_why.specs.First_maxima.{top_in}
+use Rattle.gq_why.specs.declared.greatest_points.HighestSession.{HighestSession}
+use Rattle.gq_why.proofs.Level_section_points.{goes_by, goes_none, goes_on}
 use Rattle.gq_why.proofs.need.highest_at.Goals as goal
 use Rattle.gq_why.proofs.need.highest_at.Goals.{then-is_of_level, else-is_of_level}
 

@@ -1,8 +1,8 @@
 use Rattle.std.proofs.Common.{option_map, drop}
 use Rattle.gq_model.specs.machine.Amounts.{Ram, Caps}
-use Rattle.gq_verify.specs.Sections.{AreThere}
-use Rattle.gq_why.specs.Kept.{top_in}
-use Rattle.gq_why.proofs.Levels.{Goes}
+use Rattle.gq_verify.specs.Named_sections.{AreThere}
+use Rattle.gq_why.specs.First_maxima.{top_in}
+use Rattle.gq_why.proofs.Level_section_points.{Goes}
 use Rattle.gq_why.proofs.need.highest_at.Given as goal
 
 -- with the sections that are left, each of which is there, what is kept is the highest of all

@@ -1,5 +1,5 @@
 use Rattle.std.proofs.Common.{ap, arith, length}
-use Rattle.gq_scenario.specs.Trees.{version_number}
+use Rattle.gq_scenario.specs.Component_trees.{version_number}
 use Rattle.gq_why.proofs.Need_lines.{level_put}
 use Rattle.gq_why.proofs.need.push_levels.Goals as goal
 

@@ -1,5 +1,5 @@
 use Rattle.std.proofs.Common.{◌≡◌, ◌-◌, ◌++◌, suc, length}
-use Rattle.gq_scenario.specs.Trees.{version_number}
+use Rattle.gq_scenario.specs.Component_trees.{version_number}
 use Rattle.gq_why.specs.Why.{level_parts}
 use Rattle.gq_why.proofs.need.push_levels.Given as goal
 

@@ -2,7 +2,7 @@ use Rattle.std.proofs.Common.{◌≡◌, ◌∙◌, ◌++◌, [], Bool, ap, sym,
 use Rattle.std.specs.Prelude.{if◌then◌else◌, option_map}
 use Rattle.std.proofs.lemmas.Result.{on_ok_weaker}
 use Rattle.gq_model.specs.machine.Amounts.{Ram, Caps, part}
-use Rattle.gq_why.specs.Kept.{top_in}
+use Rattle.gq_why.specs.First_maxima.{top_in}
 use Rattle.gq_why.specs.Why.{need_part, points_at}
 use Rattle.gq_why.proofs.Need_lines.{need_put}
 use Rattle.gq_why.proofs.need.push_need.Goals as goal

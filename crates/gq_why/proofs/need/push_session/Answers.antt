@@ -3,8 +3,8 @@ use Rattle.std.specs.Prelude.{option_map}
 use Rattle.std.proofs.lemmas.Result.{on_ok_weaker}
 use Rattle.gq_caps.specs.Known.{all_known}
 use Rattle.gq_model.specs.rules.Kinds.{session_cost}
-use Rattle.gq_why.specs.Kept.{top_in}
-use Rattle.gq_why.specs.internal.Lines.{session_lines}
+use Rattle.gq_why.specs.First_maxima.{top_in}
+use Rattle.gq_why.specs.internal.Visitor_lines.{session_lines}
 use Rattle.gq_why.proofs.Need_lines.{part_is, session_put}
 use Rattle.gq_why.proofs.need.push_session.Goals as goal
 

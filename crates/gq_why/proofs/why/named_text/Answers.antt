@@ -1,6 +1,6 @@
 use Rattle.std.proofs.Common.{◌∙◌, sym, arith}
 use Rattle.gq_model.specs.machine.Scenario.{components}
-use Rattle.gq_why.proofs.Named.{place_within}
+use Rattle.gq_why.proofs.Searched_leaf_name.{place_within}
 use Rattle.gq_why.proofs.why.named_text.Goals as goal
 
 pub leaf_text-requires : goal.leaf_text-requires

@@ -2,7 +2,7 @@ use Rattle.std.proofs.Common.{◌∙◌, ◌≡◌, ℕ, Some, sym, ap, subst}
 use Rattle.std.specs.Prelude.{option_map, slice_get}
 use Rattle.gq_model.specs.machine.Program.{text_eq}
 use Rattle.gq_model.specs.machine.Scenario.{Component, components}
-use Rattle.gq_why.proofs.Named.{found_here, found_later}
+use Rattle.gq_why.proofs.Searched_leaf_name.{found_here, found_later}
 use Rattle.gq_why.proofs.why.numbered.Goals as goal
 
 pub returns-then-same_bytes : goal.returns-then-same_bytes

@@ -1,6 +1,6 @@
 use Rattle.std.proofs.Common.{◌≡◌, drop}
 use Rattle.gq_model.specs.machine.Scenario.{components}
-use Rattle.gq_why.specs.Written.{leaf_number}
+use Rattle.gq_why.specs.Why_written.{leaf_number}
 use Rattle.gq_why.proofs.why.numbered.Given as goal
 
 -- none of those so far has the name

@@ -1,6 +1,6 @@
 -- The text was made, and is written.
 use Rattle.std.proofs.Common.{Ok, ap, sym, ◌∙◌}
-use Rattle.gq_why.specs.Written.{why_from, why_written}
+use Rattle.gq_why.specs.Why_written.{why_from, why_written}
 use Rattle.gq_why.proofs.why.why.Goals as goal
 
 pub returns : goal.returns

@@ -1,7 +1,7 @@
 use Rattle.std.proofs.Common.{◌∙◌, ap, sym, length}
 use Rattle.gq_model.specs.rules.Accept.{step_budgets}
 use Rattle.gq_resolve.specs.NodeTables.{node_rows}
-use Rattle.gq_world.proofs.Accounts.{accounts_count}
+use Rattle.gq_world.proofs.World_account_lines.{accounts_count}
 use Rattle.gq_world.proofs.account_lines.account_count.Goals as goal
 
 pub returns-clause-accounts : goal.returns-clause-accounts

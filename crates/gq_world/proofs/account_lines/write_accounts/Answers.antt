@@ -4,10 +4,10 @@ use Rattle.std.proofs.lemmas.Result.{err_from_is_err_and}
 use Rattle.std.specs.Io.KnownBytes.{Appends}
 use Rattle.gq_model.specs.machine.Accounts.{account_line, account_lines}
 use Rattle.gq_model.specs.rules.Accept.{step_budgets}
-use Rattle.gq_world.specs.Lines.{accounts_by}
-use Rattle.gq_init.specs.Writes.{IsFront, IsRaised}
-use Rattle.gq_init.proofs.Known.{appends_nothing}
-use Rattle.gq_world.proofs.Fronts.{next_line, next_front, all_lines}
+use Rattle.gq_world.specs.Account_lines.{accounts_by}
+use Rattle.gq_init.specs.Writes.{IsPrefix, IsRaised}
+use Rattle.gq_init.proofs.Written_byte_facts.{appends_nothing}
+use Rattle.gq_world.proofs.Line_text_prefixes.{next_line, next_prefix, all_lines}
 use Rattle.gq_world.proofs.account_lines.write_accounts.Goals as goal
 
 pub loop-number-init : goal.loop-number-init
@@ -28,11 +28,11 @@ returns-in_err-put g c =
     let line = c.line_of-line.result.items in
     let less : l.number < length all = omega (arith, c.account_count-number-end.ensures.accounts, c.loop-number-test.true) in
     let here = subst (λ (n : ℕ). IfSome (slice_get all n) (λ r. line ≡ account_line m.scenario.version r)) c.new.ensures c.line_of-line.ensures in
-    let h = subst (λ (t : List ℕ). IsFront b d t) c.as_slice.ensures.value c.in_err-put.ensures.front in
+    let h = subst (λ (t : List ℕ). IsPrefix b d t) c.as_slice.ensures.value c.in_err-put.ensures.prefix in
     rw (p.1) (record {
       written = tt;
       counted = tt;
-      front = next_front m.scenario.version l.number all line less here a b d l.invariant.written h;
+      prefix = next_prefix m.scenario.version l.number all line less here a b d l.invariant.written h;
       raised = subst (λ n. IsRaised n c.put.new.out.failures) l.invariant.counted c.in_err-put.ensures.raised;
     })
 
@@ -65,6 +65,6 @@ returns g c =
       written = subst (Appends a b) (all_lines m.scenario.version l.number all
           (omega (arith, c.account_count-number-end.ensures.accounts, c.loop-number-test.false, l.auto.number-end))) l.invariant.written;
       counted = l.invariant.counted;
-      front = tt;
+      prefix = tt;
       raised = tt;
     }

@@ -2,7 +2,7 @@ use Rattle.std.proofs.Common.{◌≡◌, take}
 use Rattle.std.specs.Io.KnownBytes.{Appends}
 use Rattle.gq_model.specs.machine.Accounts.{account_lines}
 use Rattle.gq_model.specs.rules.Accept.{step_budgets}
-use Rattle.gq_world.specs.Lines.{accounts_by}
+use Rattle.gq_world.specs.Account_lines.{accounts_by}
 use Rattle.gq_world.proofs.account_lines.write_accounts.Given as goal
 
 -- the lines of the nodes so far were written

@@ -1,4 +1,4 @@
-use Rattle.gq_world.proofs.Hexadecimal.{code_text}
+use Rattle.gq_world.proofs.Hexadecimal_digits.{code_text}
 use Rattle.gq_world.proofs.asm.hexadecimal_line.Goals as goal
 
 pub returns : goal.returns

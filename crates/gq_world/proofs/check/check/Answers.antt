@@ -2,7 +2,7 @@
 use Rattle.std.proofs.Common.{Ok, ap, sym, ◌∙◌}
 use Rattle.gq_load.specs.Load.{loaded}
 use Rattle.gq_world.specs.Whole.{check_written}
-use Rattle.gq_world.proofs.Checked.{written_lines}
+use Rattle.gq_world.proofs.Printed_budget_lines.{written_lines}
 use Rattle.gq_world.proofs.check.check.Goals as goal
 
 pub returns : goal.returns

@@ -5,8 +5,8 @@ use Rattle.gq_model.specs.machine.Scenario.{Scenario}
 use Rattle.gq_model.specs.machine.World.{World}
 use Rattle.gq_model.specs.rules.Accept.{step_budgets}
 use Rattle.gq_resolve.specs.NodeTables.{node_rows}
-use Rattle.gq_world.specs.Lines.{accounts_by}
-use Rattle.gq_world.proofs.Accounts.{LeafRead, account_at_node, leaf_within, told_is}
+use Rattle.gq_world.specs.Account_lines.{accounts_by}
+use Rattle.gq_world.proofs.World_account_lines.{LeafRead, account_at_node, leaf_within, reported_is}
 use Rattle.gq_world.proofs.node_accounts.account_of.Goals as goal
 use Rattle.gq_world.proofs.node_accounts.account_of.Goals.{in-Some, in-None}
 
@@ -14,37 +14,37 @@ pub leaf_account-requires : goal.leaf_account-requires
 leaf_account-requires c =
     let s = c.args.machine.now.scenario in
     let w = c.args.machine.now.world in
-    let told = step_budgets c.args.budgets.now in
+    let reported = step_budgets c.args.budgets.now in
     let n = c.args.node in
-    let p = account_at_node s w told c.requires.leaves n c.requires.node in
+    let p = account_at_node s w reported c.requires.leaves n c.requires.node in
     let P : Scenario → Type 0 = λ s. IfSome (slice_get (node_rows s) n) (λ r. c.leaf.result ≡ r.leaf) in
-    leaf_within s w told (accounts_by s w told) n p c.leaf.result c.in-Some.leaf (subst P c.table.ensures c.leaf.ensures) c.in-Some.is
+    leaf_within s w reported (accounts_by s w reported) n p c.leaf.result c.in-Some.leaf (subst P c.table.ensures c.leaf.ensures) c.in-Some.is
 
--- an account as the machine tells it
-ram_of : (s : Scenario) (w : World) (told : List ℕ) (n q : ℕ) → IfSome (slice_get (accounts s w told) n) (λ a. q ≡ a.quota.ram)
-    → IfSome (slice_get (accounts_by s w told) n) (λ a. q ≡ a.quota.ram)
+-- an account as the machine reports it
+ram_of : (s : Scenario) (w : World) (reported : List ℕ) (n q : ℕ) → IfSome (slice_get (accounts s w reported) n) (λ a. q ≡ a.quota.ram)
+    → IfSome (slice_get (accounts_by s w reported) n) (λ a. q ≡ a.quota.ram)
 unfolding accounts_by
-ram_of s w told n q h = h
+ram_of s w reported n q h = h
 
-caps_of : (s : Scenario) (w : World) (told : List ℕ) (n q : ℕ) → IfSome (slice_get (accounts s w told) n) (λ a. q ≡ a.quota.caps)
-    → IfSome (slice_get (accounts_by s w told) n) (λ a. q ≡ a.quota.caps)
+caps_of : (s : Scenario) (w : World) (reported : List ℕ) (n q : ℕ) → IfSome (slice_get (accounts s w reported) n) (λ a. q ≡ a.quota.caps)
+    → IfSome (slice_get (accounts_by s w reported) n) (λ a. q ≡ a.quota.caps)
 unfolding accounts_by
-caps_of s w told n q h = h
+caps_of s w reported n q h = h
 
 pub returns : goal.returns
 returns c =
     let s = c.args.machine.now.scenario in
     let w = c.args.machine.now.world in
-    let told = step_budgets c.args.budgets.now in
+    let reported = step_budgets c.args.budgets.now in
     let n = c.args.node in
-    let p = account_at_node s w told c.requires.leaves n c.requires.node in
-    let ram = ram_of s w told n c.quota.result (c.quota.ensures told) in
-    let caps = caps_of s w told n c.caps.result (c.caps.ensures told) in
+    let p = account_at_node s w reported c.requires.leaves n c.requires.node in
+    let ram = ram_of s w reported n c.quota.result (c.quota.ensures reported) in
+    let caps = caps_of s w reported n c.caps.result (c.caps.ensures reported) in
     let P : Scenario → Type 0 = λ s. IfSome (slice_get (node_rows s) n) (λ r. c.leaf.result ≡ r.leaf) in
     let found = subst P c.table.ensures c.leaf.ensures in
     let leaf = c.match-leaf.leaf in
-    let read : LeafRead s w told c.leaf.result leaf = elim c.match-leaf.branch [
-      | in-Some b ↦ subst (λ (o : Option ℕ). LeafRead s w told o leaf) (sym b.in-Some.is) (b.leaf_account.result, b.leaf-is, b.leaf_account.ensures)
-      | in-None b ↦ subst (λ (o : Option ℕ). LeafRead s w told o leaf) (sym b.in-None.is) b.leaf-is
+    let read : LeafRead s w reported c.leaf.result leaf = elim c.match-leaf.branch [
+      | in-Some b ↦ subst (λ (o : Option ℕ). LeafRead s w reported o leaf) (sym b.in-Some.is) (b.leaf_account.result, b.leaf-is, b.leaf_account.ensures)
+      | in-None b ↦ subst (λ (o : Option ℕ). LeafRead s w reported o leaf) (sym b.in-None.is) b.leaf-is
     ] in
-    told_is s w told (accounts_by s w told) n p c.quota.result c.caps.result c.leaf.result leaf c.new.result c.new.ensures ram caps found read
+    reported_is s w reported (accounts_by s w reported) n p c.quota.result c.caps.result c.leaf.result leaf c.new.result c.new.ensures ram caps found read

@@ -1,7 +1,7 @@
 use Rattle.std.proofs.Common.{◌<◌, ◌≤◌, ◌∙◌, length, ap, sym, arith}
 use Rattle.std.specs.Prelude.{slice_index}
 use Rattle.gq_model.specs.rules.Accept.{step_budgets}
-use Rattle.gq_world.proofs.Accounts.{steps_at, steps_past}
+use Rattle.gq_world.proofs.World_account_lines.{steps_at, steps_past}
 use Rattle.gq_world.proofs.node_accounts.steps_of.Goals as goal
 
 pub returns-then-index-budgets : goal.returns-then-index-budgets

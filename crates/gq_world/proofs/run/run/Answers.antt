@@ -4,10 +4,10 @@ use Rattle.gq_model.specs.machine.Scenario.{Scenario, components}
 use Rattle.gq_model.specs.texts.Turns.{turned}
 use Rattle.gq_load.specs.Load.{loaded}
 use Rattle.gq_world.specs.Headline.{WritesPromised}
-use Rattle.gq_world.specs.Outcomes.{IsWhole, WritesAs}
-use Rattle.gq_world.specs.internal.Going.{turns_written}
+use Rattle.gq_world.specs.Command_outcomes.{IsWhole, WritesAs}
+use Rattle.gq_world.specs.internal.Act_transitions.{turns_written}
 use Rattle.gq_world.specs.Whole.{run_written, with_scenario, written_turns}
-use Rattle.gq_world.proofs.Whole.{promised}
+use Rattle.gq_world.proofs.Run_text.{promised}
 use Rattle.gq_world.proofs.run.run.Goals as goal
 
 -- what is written for a text that is loaded

@@ -1,12 +1,12 @@
 use Rattle.std.proofs.Common.{◌∙◌, List, ℕ, Option, subst}
 use Rattle.std.proofs.lemmas.Result.{err_from_is_err_and}
 use Rattle.std.specs.Io.KnownBytes.{Appends}
-use Rattle.gq_world.specs.Lines.{accounts_text}
-use Rattle.gq_init.specs.Writes.{IsFront}
+use Rattle.gq_world.specs.Account_lines.{accounts_text}
+use Rattle.gq_init.specs.Writes.{IsPrefix}
 use Rattle.gq_world.specs.Whole.{whole_of}
-use Rattle.gq_init.proofs.Known.{on_ok, on_err}
-use Rattle.gq_world.proofs.Commands.{since}
-use Rattle.gq_world.proofs.Whole.{complete, cut_lines, cut_turns}
+use Rattle.gq_init.proofs.Written_byte_facts.{on_ok, on_err}
+use Rattle.gq_world.proofs.Command_text_endings.{since}
+use Rattle.gq_world.proofs.Run_text.{complete, cut_lines, cut_turns}
 use Rattle.gq_world.proofs.run.run_world.Goals as goal
 
 pub returns-in_err-take_all : goal.returns-in_err-take_all
@@ -18,7 +18,7 @@ returns-in_err-take_all g c =
     rw (p.1) (record {
       written = tt;
       counted = tt;
-      front = cut_turns old.scenario c.args.turns.now old c.requires.start a b b c.in_err-take_all.ensures.cut;
+      prefix = cut_turns old.scenario c.args.turns.now old c.requires.start a b b c.in_err-take_all.ensures.cut;
       raised = c.in_err-take_all.ensures.raised;
     })
 

@@ -2,7 +2,7 @@
 use Rattle.std.proofs.Common.{◌≡◌, ◌∙◌, subst}
 use Rattle.gq_model.specs.machine.Run.{set_input}
 use Rattle.gq_model.specs.machine.Scenario.{system}
-use Rattle.gq_world.proofs.Going.{set_runs}
+use Rattle.gq_world.proofs.Turn_sequence_runs.{set_runs}
 use Rattle.gq_world.proofs.run.take_act.Goals as goal
 
 pub returns-in-Sets : goal.returns-in-Sets

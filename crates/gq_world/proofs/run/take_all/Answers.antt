@@ -2,7 +2,7 @@ use Rattle.std.proofs.Common.{◌∙◌, length, subst}
 use Rattle.std.proofs.lemmas.Result.{err_from_is_err_and}
 use Rattle.gq_init.specs.Writes.{IsRaised}
 use Rattle.gq_model.specs.machine.Scenario.{components}
-use Rattle.gq_world.proofs.Going.{here_is, below_at, goes_on_all, cut_all}
+use Rattle.gq_world.proofs.Turn_sequence_runs.{here_is, below_at, goes_on_all, cut_all}
 use Rattle.gq_world.proofs.run.take_all.Goals as goal
 
 pub returns-in_err-take_act : goal.returns-in_err-take_act

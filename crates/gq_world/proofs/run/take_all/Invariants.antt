@@ -1,7 +1,7 @@
 use Rattle.std.proofs.Common.{◌≡◌, drop, length}
 use Rattle.gq_model.specs.machine.Scenario.{components, system}
 use Rattle.gq_model.specs.machine.Run.{run_on}
-use Rattle.gq_world.specs.internal.Going.{AreBelow, HasLeft}
+use Rattle.gq_world.specs.internal.Act_transitions.{AreBelow, HasLeft}
 use Rattle.gq_world.proofs.run.take_all.Given as goal
 
 -- what is left of the turns, from here, does what all of them do

@@ -3,7 +3,7 @@ use Rattle.std.proofs.lemmas.Result.{err_from_is_err_and}
 use Rattle.gq_init.specs.Writes.{IsRaised}
 use Rattle.gq_model.specs.machine.Run.{turns_of}
 use Rattle.gq_model.specs.machine.Scenario.{system}
-use Rattle.gq_world.proofs.Going.{cut_on, goes_on}
+use Rattle.gq_world.proofs.Turn_sequence_runs.{cut_on, goes_on}
 use Rattle.gq_world.proofs.run.take_turns.Goals as goal
 
 pub returns-in_err-left : goal.returns-in_err-left

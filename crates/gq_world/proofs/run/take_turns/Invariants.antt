@@ -1,7 +1,7 @@
 use Rattle.std.proofs.Common.{◌≡◌, ◌≤◌}
 use Rattle.gq_model.specs.machine.Scenario.{system}
 use Rattle.gq_model.specs.machine.Run.{turns_of}
-use Rattle.gq_world.specs.internal.Going.{HasLeft}
+use Rattle.gq_world.specs.internal.Act_transitions.{HasLeft}
 use Rattle.gq_world.proofs.run.take_turns.Given as goal
 
 -- what is left of the turns, from here, does what all of them do

@@ -1,5 +1,5 @@
 use Rattle.std.proofs.Common.{◌≡◌, ◌++◌, drop}
-use Rattle.gq_budget.specs.internal.Rounds.{leaf_round}
+use Rattle.gq_budget.specs.internal.Run_rounds.{leaf_round}
 use Rattle.gq_budget.proofs.asks.LeafAsks.round.Given as goal
 
 -- the numbers so far, with those of the sections that are left, are those of all

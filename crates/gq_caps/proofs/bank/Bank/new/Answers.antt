@@ -1,4 +1,4 @@
-use Rattle.gq_caps.proofs.Measured.{totals_of_empty}
+use Rattle.gq_caps.proofs.Slot_measure_change.{totals_of_empty}
 use Rattle.gq_caps.proofs.bank.Bank.new.Goals as goal
 
 pub invariant_of-result : goal.invariant_of-result

@@ -1,6 +1,6 @@
 use Rattle.std.proofs.lemmas.Grind.{common_steps}
 use Rattle.std.proofs.Common.{arith}
-use Rattle.gq_caps.proofs.Measured.{gone_le, small_sums, totals_set}
+use Rattle.gq_caps.proofs.Slot_measure_change.{gone_le, small_sums, totals_set}
 use Rattle.gq_caps.proofs.bank.Bank.set.Goals as goal
 
 pub once_changed-self-inside-requires-clause-gone : goal.once_changed-self-inside-requires-clause-gone

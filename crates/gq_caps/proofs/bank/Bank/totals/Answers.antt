@@ -1,4 +1,4 @@
-use Rattle.gq_caps.proofs.Measured.{small_sums}
+use Rattle.gq_caps.proofs.Slot_measure_change.{small_sums}
 use Rattle.gq_caps.proofs.bank.Bank.totals.Goals as goal
 
 pub returns-clause-small : goal.returns-clause-small

@@ -1,8 +1,8 @@
 use Rattle.std.proofs.Common.{inl, inr}
-use Rattle.gq_contents.proofs.Calls.{block_frees, slice_frees, space_frees, none_holds, empty_holds, link_holds, waiting_holds, unchanged}
+use Rattle.gq_contents.proofs.Content_call_effects.{block_frees, slice_frees, space_frees, none_holds, empty_holds, link_holds, waiting_holds, unchanged}
 use Rattle.gq_contents.proofs.PoolCalls.{pool_ends}
-use Rattle.gq_contents.proofs.Paying.{block_frees_pays, slice_frees_pays, space_frees_pays, pool_ends_pays}
-use Rattle.gq_contents.proofs.Callers.{is_content, block_in_use, slice_there, slice_has_size, is_space, space_there, is_pool}
+use Rattle.gq_contents.proofs.Content_call_prices.{block_frees_pays, slice_frees_pays, space_frees_pays, pool_ends_pays}
+use Rattle.gq_contents.proofs.Content_caller_facts.{is_content, block_in_use, slice_there, slice_has_size, is_space, space_there, is_pool}
 use Rattle.gq_contents.proofs.content.Content.free.Goals as goal
 
 pub free-requires : goal.free-requires

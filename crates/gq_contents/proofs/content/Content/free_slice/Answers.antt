@@ -1,5 +1,5 @@
-use Rattle.gq_contents.proofs.Calls.{slice_frees}
-use Rattle.gq_contents.proofs.Paying.{slice_frees_pays}
+use Rattle.gq_contents.proofs.Content_call_effects.{slice_frees}
+use Rattle.gq_contents.proofs.Content_call_prices.{slice_frees_pays}
 use Rattle.gq_contents.proofs.content.Content.free_slice.Goals as goal
 
 pub returns-clause-changes : goal.returns-clause-changes

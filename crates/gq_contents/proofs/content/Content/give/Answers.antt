@@ -1,5 +1,5 @@
-use Rattle.gq_contents.proofs.Callers.{is_pool}
-use Rattle.gq_contents.proofs.Entries.{gives_changes, gives_seen, gives_absent, gives_pays, gives_peaks}
+use Rattle.gq_contents.proofs.Content_caller_facts.{is_pool}
+use Rattle.gq_contents.proofs.Slot_pool_entries.{gives_changes, gives_seen, gives_absent, gives_pays, gives_peaks}
 use Rattle.gq_contents.proofs.content.Content.give.Goals as goal
 
 pub give-requires-clause-kept : goal.give-requires-clause-kept

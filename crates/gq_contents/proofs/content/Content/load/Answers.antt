@@ -1,9 +1,9 @@
 use Rattle.gq_tariff.specs.Prices.{up}
 use Rattle.std.proofs.Common.{sym, ◌∙◌}
-use Rattle.gq_store.proofs.Lists.{get_or-listed}
-use Rattle.gq_heap.proofs.Contents.{block_byte}
-use Rattle.gq_sliced.proofs.Contents.{slice_byte_of}
-use Rattle.gq_contents.proofs.Callers.{block_in_use, block_byte_inside, slice_has_byte, space_has_byte}
+use Rattle.gq_store.proofs.Stored_byte_lists.{get_or-listed}
+use Rattle.gq_heap.proofs.Block_byte_lists.{block_byte}
+use Rattle.gq_sliced.proofs.Slice_byte_lists.{slice_byte_of}
+use Rattle.gq_contents.proofs.Content_caller_facts.{block_in_use, block_byte_inside, slice_has_byte, space_has_byte}
 use Rattle.gq_contents.proofs.content.Content.load.Goals as goal
 
 pub load-requires-clause-kept : goal.load-requires-clause-kept

@@ -1,9 +1,9 @@
 use Rattle.gq_tariff.specs.Prices.{up}
 use Rattle.std.proofs.Common.{sym, ◌∙◌}
-use Rattle.gq_store.proofs.Lists.{listed_word}
-use Rattle.gq_heap.proofs.Contents.{block_word}
-use Rattle.gq_sliced.proofs.Contents.{slice_word}
-use Rattle.gq_contents.proofs.Callers.{block_in_use, block_word_inside, slice_has_word, space_has_word}
+use Rattle.gq_store.proofs.Stored_byte_lists.{listed_word}
+use Rattle.gq_heap.proofs.Block_byte_lists.{block_word}
+use Rattle.gq_sliced.proofs.Slice_byte_lists.{slice_word}
+use Rattle.gq_contents.proofs.Content_caller_facts.{block_in_use, block_word_inside, slice_has_word, space_has_word}
 use Rattle.gq_contents.proofs.content.Content.load4.Goals as goal
 
 pub load4-requires-clause-kept : goal.load4-requires-clause-kept

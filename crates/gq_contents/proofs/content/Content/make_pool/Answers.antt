@@ -1,8 +1,8 @@
 use Rattle.std.proofs.Common.{rules}
 use Rattle.gq_model.specs.machine.World as world
-use Rattle.gq_pool.proofs.Contents.{entries_made}
+use Rattle.gq_pool.proofs.Pool_entry_lists.{entries_made}
 use Rattle.gq_contents.proofs.PoolCalls.{pool_makes}
-use Rattle.gq_contents.proofs.Paying.{pool_makes_pays}
+use Rattle.gq_contents.proofs.Content_call_prices.{pool_makes_pays}
 use Rattle.gq_contents.proofs.content.Content.make_pool.Goals as goal
 
 pub returns-clause-made : goal.returns-clause-made

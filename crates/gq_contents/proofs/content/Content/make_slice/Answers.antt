@@ -1,6 +1,6 @@
 use Rattle.std.proofs.Common.{rules}
-use Rattle.gq_contents.proofs.Calls.{slice_makes, slice_makes_seen}
-use Rattle.gq_contents.proofs.Paying.{slice_makes_pays}
+use Rattle.gq_contents.proofs.Content_call_effects.{slice_makes, slice_makes_seen}
+use Rattle.gq_contents.proofs.Content_call_prices.{slice_makes_pays}
 use Rattle.gq_contents.proofs.content.Content.make_slice.Goals as goal
 
 pub returns-clause-made : goal.returns-clause-made

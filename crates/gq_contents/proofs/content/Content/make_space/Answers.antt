@@ -1,6 +1,6 @@
 use Rattle.std.proofs.Common.{rules}
-use Rattle.gq_contents.proofs.Calls.{space_makes, space_makes_seen}
-use Rattle.gq_contents.proofs.Paying.{space_makes_pays}
+use Rattle.gq_contents.proofs.Content_call_effects.{space_makes, space_makes_seen}
+use Rattle.gq_contents.proofs.Content_call_prices.{space_makes_pays}
 use Rattle.gq_contents.proofs.content.Content.make_space.Goals as goal
 
 pub returns-clause-made : goal.returns-clause-made

@@ -1,5 +1,5 @@
-use Rattle.gq_contents.proofs.Callers.{is_pool}
-use Rattle.gq_contents.proofs.Entries.{reads_seen}
+use Rattle.gq_contents.proofs.Content_caller_facts.{is_pool}
+use Rattle.gq_contents.proofs.Slot_pool_entries.{reads_seen}
 use Rattle.gq_contents.proofs.content.Content.peek.Goals as goal
 
 pub load-requires-clause-kept : goal.load-requires-clause-kept

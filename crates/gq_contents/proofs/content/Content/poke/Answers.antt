@@ -1,7 +1,7 @@
 use Rattle.std.proofs.Common.{[], ◌∷◌}
-use Rattle.gq_contents.proofs.Callers.{is_pool}
+use Rattle.gq_contents.proofs.Content_caller_facts.{is_pool}
 use Rattle.gq_contents.proofs.PoolCalls.{pool_puts}
-use Rattle.gq_contents.proofs.Entries.{puts_seen}
+use Rattle.gq_contents.proofs.Slot_pool_entries.{puts_seen}
 use Rattle.gq_contents.proofs.content.Content.poke.Goals as goal
 
 pub store-requires-clause-kept : goal.store-requires-clause-kept

@@ -1,7 +1,7 @@
 use Rattle.std.proofs.Common.{[], ◌∷◌, arith}
-use Rattle.gq_store.proofs.Words.{one_there}
-use Rattle.gq_contents.proofs.Callers.{block_in_use, block_byte_inside, slice_has_byte, space_has_byte}
-use Rattle.gq_contents.proofs.Calls.{block_puts, block_puts_seen, slice_puts, slice_puts_seen, space_writes, space_writes_seen}
+use Rattle.gq_store.proofs.Word_byte_spelling.{one_there}
+use Rattle.gq_contents.proofs.Content_caller_facts.{block_in_use, block_byte_inside, slice_has_byte, space_has_byte}
+use Rattle.gq_contents.proofs.Content_call_effects.{block_puts, block_puts_seen, slice_puts, slice_puts_seen, space_writes, space_writes_seen}
 use Rattle.gq_contents.proofs.content.Content.store.Goals as goal
 
 pub store-requires-clause-kept : goal.store-requires-clause-kept

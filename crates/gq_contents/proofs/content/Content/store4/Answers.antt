@@ -1,8 +1,8 @@
 use Rattle.std.proofs.Common.{arith}
 use Rattle.gq_model.specs.machine.Program.{spelled}
-use Rattle.gq_store.proofs.Words.{word_there}
-use Rattle.gq_contents.proofs.Callers.{block_in_use, block_word_inside, slice_has_word, space_has_word}
-use Rattle.gq_contents.proofs.Calls.{block_puts, block_puts_seen, slice_puts, slice_puts_seen, space_writes, space_writes_seen}
+use Rattle.gq_store.proofs.Word_byte_spelling.{word_there}
+use Rattle.gq_contents.proofs.Content_caller_facts.{block_in_use, block_word_inside, slice_has_word, space_has_word}
+use Rattle.gq_contents.proofs.Content_call_effects.{block_puts, block_puts_seen, slice_puts, slice_puts_seen, space_writes, space_writes_seen}
 use Rattle.gq_contents.proofs.content.Content.store4.Goals as goal
 
 pub store4-requires-clause-kept : goal.store4-requires-clause-kept

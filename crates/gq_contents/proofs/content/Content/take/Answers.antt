@@ -4,8 +4,8 @@ use Rattle.gq_contents.specs.declared.content.Content.{Content}
 use Rattle.gq_pool.specs.Pools.{AddsEntry}
 use Rattle.gq_contents.specs.declared.content.Content.TheVariants.{Pool}
 use Rattle.gq_contents.specs.Paid.{TakesEntry}
-use Rattle.gq_contents.proofs.Callers.{is_pool}
-use Rattle.gq_contents.proofs.Entries.{if_ok, absent_none, none_absent, takes_changes, takes_seen, takes_added, takes_pays, takes_raises}
+use Rattle.gq_contents.proofs.Content_caller_facts.{is_pool}
+use Rattle.gq_contents.proofs.Slot_pool_entries.{if_ok, absent_none, none_absent, takes_changes, takes_seen, takes_added, takes_pays, takes_raises}
 use Rattle.gq_contents.proofs.content.Content.take.Goals as goal
 
 pub take-requires-clause-kept : goal.take-requires-clause-kept

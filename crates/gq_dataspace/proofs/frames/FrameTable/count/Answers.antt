@@ -1,5 +1,5 @@
 use Rattle.std.proofs.Common.{◌<◌, length, arith, sym, ap, ◌∙◌}
-use Rattle.gq_dataspace.proofs.Tables.{length-lists_in, length-list_at, reads}
+use Rattle.gq_dataspace.proofs.Dataspace_link_tables.{length-lists_in, length-list_at, reads}
 use Rattle.gq_dataspace.proofs.frames.FrameTable.count.Goals as goal
 
 pub index-requires : goal.index-requires

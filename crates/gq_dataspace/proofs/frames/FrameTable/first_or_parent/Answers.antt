@@ -1,6 +1,6 @@
 use Rattle.std.proofs.Common.{sym}
-use Rattle.gq_dataspace.specs.internal.Lists.{list_at}
-use Rattle.gq_dataspace.proofs.Tables.{parent_first}
+use Rattle.gq_dataspace.specs.internal.Frame_lists.{list_at}
+use Rattle.gq_dataspace.proofs.Dataspace_link_tables.{parent_first}
 use Rattle.gq_dataspace.proofs.frames.FrameTable.first_or_parent.Goals as goal
 
 pub returns-then-index-lt-LINKS-clause-value : goal.returns-then-index-lt-LINKS-clause-value

@@ -1,8 +1,8 @@
 use Rattle.std.proofs.Common.{◌≡◌, ◌+◌, ◌<◌, ◌*◌, ◌/◌, ◌%◌, ℕ, length, slice_index, arith, sym, ap, ◌∙◌}
-use Rattle.gq_dataspace.specs.internal.Trees.{parent_at}
-use Rattle.gq_dataspace.specs.internal.Links.{table_view}
-use Rattle.gq_dataspace.specs.internal.Lists.{Lists, list_at}
-use Rattle.gq_dataspace.proofs.Tables.{length-lists_in, length-list_at, parent_first, parent_more, frame_is_linked, reads}
+use Rattle.gq_dataspace.specs.internal.List_trees.{parent_at}
+use Rattle.gq_dataspace.specs.internal.Link_table.{table_view}
+use Rattle.gq_dataspace.specs.internal.Frame_lists.{Lists, list_at}
+use Rattle.gq_dataspace.proofs.Dataspace_link_tables.{length-lists_in, length-list_at, parent_first, parent_more, frame_is_linked, reads}
 use Rattle.gq_dataspace.proofs.frames.FrameTable.near_parent.Goals as goal
 
 pub returns-then-index-lt-LINKS-clause-value : goal.returns-then-index-lt-LINKS-clause-value

@@ -1,6 +1,6 @@
 use Rattle.std.proofs.Common.{◌≡◌, ◌*◌, ℕ, length, replicate, refl, arith, sym, ap, ◌∙◌}
 use Rattle.std.proofs.lemmas.List.{length-replicate}
-use Rattle.gq_dataspace.proofs.Tables.{lists_of_none, below_of_none}
+use Rattle.gq_dataspace.proofs.Dataspace_link_tables.{lists_of_none, below_of_none}
 use Rattle.gq_dataspace.proofs.frames.FrameTable.new.Goals as goal
 
 pub returns : goal.returns

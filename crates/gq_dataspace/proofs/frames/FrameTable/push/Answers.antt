@@ -1,8 +1,8 @@
 use Rattle.std.proofs.Common.{◌≡◌, ◌+◌, ◌<◌, ◌*◌, ◌%◌, ◌++◌, ◌∷◌, [], ℕ, length, set, slice_index, arith, sym, ap, subst, ◌∙◌, length-set}
-use Rattle.gq_dataspace.specs.internal.Lists.{Lists, list_at, AreApart, IsOwn, AreBelow}
-use Rattle.gq_dataspace.specs.internal.Trees.{parent_at}
-use Rattle.gq_dataspace.specs.internal.Links.{table_view, link_at}
-use Rattle.gq_dataspace.proofs.Tables.{length-lists_in, length-list_at, pushes, reads, below_set, below_more}
+use Rattle.gq_dataspace.specs.internal.Frame_lists.{Lists, list_at, AreApart, IsOwn, AreBelow}
+use Rattle.gq_dataspace.specs.internal.List_trees.{parent_at}
+use Rattle.gq_dataspace.specs.internal.Link_table.{table_view, link_at}
+use Rattle.gq_dataspace.proofs.Dataspace_link_tables.{length-lists_in, length-list_at, pushes, reads, below_set, below_more}
 use Rattle.gq_dataspace.proofs.frames.FrameTable.push.Goals as goal
 
 pub index-count-requires : goal.index-count-requires

@@ -1,8 +1,8 @@
 use Rattle.std.proofs.Common.{◌+◌, ◌-◌, ◌%◌, ℕ, Some, set, arith, ap, ◌∙◌}
-use Rattle.gq_pages.specs.Bytes.{zeroed}
+use Rattle.gq_pages.specs.Frame_bytes.{zeroed}
 use Rattle.gq_dataspace.specs.Dataspaces.{Contents, content_of}
-use Rattle.gq_dataspace.proofs.Edits.{content_there}
-use Rattle.gq_dataspace.proofs.Clearing.{cleared_again}
+use Rattle.gq_dataspace.proofs.Repeated_dataspace_sets.{content_there}
+use Rattle.gq_dataspace.proofs.Cleared_dataspace_bytes.{cleared_again}
 use Rattle.gq_dataspace.proofs.spaces.Spaces.+clear.Goals as goal
 
 pub returns-clause-written : goal.returns-clause-written

@@ -1,11 +1,11 @@
 use Rattle.std.proofs.Common.{◌≡◌, ◌<◌, ◌++◌, ◌∷◌, [], ℕ, List, Some, length, set, arith, refl, sym, ap, subst, ◌∙◌, length-append, length-set}
-use Rattle.gq_pages.specs.Bytes.{zeros}
-use Rattle.gq_pages.specs.Frames.{zero_frame}
-use Rattle.gq_dataspace.specs.internal.Lists.{list_at}
+use Rattle.gq_pages.specs.Frame_bytes.{zeros}
+use Rattle.gq_pages.specs.Frame_map.{zero_frame}
+use Rattle.gq_dataspace.specs.internal.Frame_lists.{list_at}
 use Rattle.gq_dataspace.specs.Dataspaces.{Dataspaces, IsVacant}
-use Rattle.gq_dataspace.specs.internal.Holding.{bytes_in, space_in, spaces_in}
-use Rattle.gq_dataspace.proofs.Changes.{length-spaces_in, space_at, new_of, grows, whole_grown, short_set, no_bytes}
-use Rattle.gq_dataspace.proofs.Apart.{IsNew, apart_grown, none_of}
+use Rattle.gq_dataspace.specs.internal.Spaces_fields.{bytes_in, space_in, spaces_in}
+use Rattle.gq_dataspace.proofs.Dataspace_call_effects.{length-spaces_in, space_at, new_of, grows, whole_grown, short_set, no_bytes}
+use Rattle.gq_dataspace.proofs.Disjoint_frame_lists.{IsNew, apart_grown, none_of}
 use Rattle.gq_dataspace.proofs.spaces.Spaces.begin.Goals as goal
 
 pub invariant_of-self : goal.invariant_of-self

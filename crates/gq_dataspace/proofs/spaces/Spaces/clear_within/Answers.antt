@@ -1,14 +1,14 @@
 use Rattle.std.proofs.Common.{◌≡◌, ◌*◌, ◌/◌, ◌%◌, ◌<◌, ℕ, List, Some, length, set, slice_index, arith, sym, ap, ◌∙◌, length-set}
-use Rattle.gq_pages.specs.Bytes.{zeroed}
-use Rattle.gq_pages.specs.Frames.{bytes_of}
-use Rattle.gq_pages.proofs.Zeros.{length-zeroed}
-use Rattle.gq_dataspace.specs.internal.Lists.{list_at}
+use Rattle.gq_pages.specs.Frame_bytes.{zeroed}
+use Rattle.gq_pages.specs.Frame_map.{bytes_of}
+use Rattle.gq_pages.proofs.Zeroed_byte_runs.{length-zeroed}
+use Rattle.gq_dataspace.specs.internal.Frame_lists.{list_at}
 use Rattle.gq_dataspace.specs.Dataspaces.{Contents, Dataspaces, content_of}
-use Rattle.gq_dataspace.specs.internal.Holding.{bytes_in, spaces_in}
-use Rattle.gq_dataspace.proofs.Changes.{content_at, length-content, writes, whole_written}
-use Rattle.gq_dataspace.proofs.Bytes.{is_taken}
-use Rattle.gq_dataspace.proofs.Clearing.{bytes_cleared}
-use Rattle.gq_dataspace.proofs.Edits.{content_there, content_set}
+use Rattle.gq_dataspace.specs.internal.Spaces_fields.{bytes_in, spaces_in}
+use Rattle.gq_dataspace.proofs.Dataspace_call_effects.{content_at, length-content, writes, whole_written}
+use Rattle.gq_dataspace.proofs.Frame_list_bytes.{is_taken}
+use Rattle.gq_dataspace.proofs.Cleared_dataspace_bytes.{bytes_cleared}
+use Rattle.gq_dataspace.proofs.Repeated_dataspace_sets.{content_there, content_set}
 use Rattle.gq_dataspace.proofs.spaces.Spaces.clear_within.Goals as goal
 
 pub frame-frame-requires : goal.frame-frame-requires

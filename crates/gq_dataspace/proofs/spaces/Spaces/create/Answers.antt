@@ -1,9 +1,9 @@
 use Rattle.std.proofs.Common.{◌≡◌, ℕ, ◌*◌, ◌/◌, ◌<◌, ◌≤◌, ◌++◌, Some, length, set, arith, ap, subst, ◌∙◌}
 use Rattle.gq_tariff.specs.Prices.{up}
-use Rattle.gq_pages.specs.Bytes.{zeros}
+use Rattle.gq_pages.specs.Frame_bytes.{zeros}
 use Rattle.gq_dataspace.specs.Dataspaces.{Contents, content_of}
-use Rattle.gq_dataspace.proofs.Bytes.{length-zeros}
-use Rattle.gq_dataspace.proofs.Edits.{content_set, zeros_again}
+use Rattle.gq_dataspace.proofs.Frame_list_bytes.{length-zeros}
+use Rattle.gq_dataspace.proofs.Repeated_dataspace_sets.{content_set, zeros_again}
 use Rattle.gq_dataspace.proofs.spaces.Spaces.create.Goals as goal
 
 -- the loop has made all pages

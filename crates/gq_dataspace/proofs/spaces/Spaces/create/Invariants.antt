@@ -1,5 +1,5 @@
 use Rattle.std.proofs.Common.{◌≡◌, ◌+◌, ◌*◌, Some, set}
-use Rattle.gq_pages.specs.Bytes.{zeros}
+use Rattle.gq_pages.specs.Frame_bytes.{zeros}
 use Rattle.gq_dataspace.specs.Dataspaces.{IsVacant}
 use Rattle.gq_dataspace.proofs.spaces.Spaces.create.Given as goal
 

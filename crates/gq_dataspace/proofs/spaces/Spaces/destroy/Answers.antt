@@ -1,9 +1,9 @@
 use Rattle.std.proofs.Common.{◌≡◌, suc, ◌+◌, ◌-◌, ◌*◌, ◌<◌, ℕ, List, length, set, arith, sym, ap, subst, ◌∙◌}
-use Rattle.gq_dataspace.specs.internal.Lists.{list_at}
+use Rattle.gq_dataspace.specs.internal.Frame_lists.{list_at}
 use Rattle.gq_dataspace.specs.Dataspaces.{Contents, Dataspaces, IsLive, content_of, shorter}
-use Rattle.gq_dataspace.proofs.Tables.{at_some}
-use Rattle.gq_dataspace.proofs.Changes.{length-content, live_some}
-use Rattle.gq_dataspace.proofs.Edits.{first_pages, all_pages, page_fewer, live_there}
+use Rattle.gq_dataspace.proofs.Dataspace_link_tables.{at_some}
+use Rattle.gq_dataspace.proofs.Dataspace_call_effects.{length-content, live_some}
+use Rattle.gq_dataspace.proofs.Repeated_dataspace_sets.{first_pages, all_pages, page_fewer, live_there}
 use Rattle.gq_dataspace.proofs.spaces.Spaces.destroy.Goals as goal
 
 pub count-count-requires : goal.count-count-requires

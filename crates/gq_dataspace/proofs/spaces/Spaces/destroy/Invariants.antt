@@ -1,6 +1,6 @@
 use Rattle.std.proofs.Common.{◌≡◌, ◌+◌, ◌-◌, set}
 use Rattle.gq_dataspace.specs.Dataspaces.{content_of}
-use Rattle.gq_dataspace.proofs.Edits.{first_pages}
+use Rattle.gq_dataspace.proofs.Repeated_dataspace_sets.{first_pages}
 use Rattle.gq_dataspace.proofs.spaces.Spaces.destroy.Given as goal
 
 abbrev pub invariant-loop-page : goal.invariant-loop-page

@@ -1,12 +1,12 @@
 use Rattle.std.proofs.Common.{◌≡◌, ◌*◌, ◌<◌, ◌++◌, ◌∷◌, [], ℕ, List, Some, length, set, arith, sym, ap, subst, ◌∙◌, length-append, length-set}
-use Rattle.gq_pages.specs.Bytes.{zeros}
-use Rattle.gq_pages.specs.Frames.{zero_frame}
-use Rattle.gq_dataspace.specs.internal.Lists.{list_at}
+use Rattle.gq_pages.specs.Frame_bytes.{zeros}
+use Rattle.gq_pages.specs.Frame_map.{zero_frame}
+use Rattle.gq_dataspace.specs.internal.Frame_lists.{list_at}
 use Rattle.gq_dataspace.specs.Dataspaces.{Dataspaces, IsLive, content_of}
-use Rattle.gq_dataspace.specs.internal.Holding.{spaces_in}
-use Rattle.gq_dataspace.proofs.Tables.{at_some}
-use Rattle.gq_dataspace.proofs.Changes.{live_some, content_at, length-content, new_of, grows, whole_grown, short_set}
-use Rattle.gq_dataspace.proofs.Apart.{IsNew, apart_grown, own_some}
+use Rattle.gq_dataspace.specs.internal.Spaces_fields.{spaces_in}
+use Rattle.gq_dataspace.proofs.Dataspace_link_tables.{at_some}
+use Rattle.gq_dataspace.proofs.Dataspace_call_effects.{live_some, content_at, length-content, new_of, grows, whole_grown, short_set}
+use Rattle.gq_dataspace.proofs.Disjoint_frame_lists.{IsNew, apart_grown, own_some}
 use Rattle.gq_dataspace.proofs.spaces.Spaces.extend.Goals as goal
 
 pub push-requires-clause-there : goal.push-requires-clause-there

@@ -1,9 +1,9 @@
 use Rattle.std.proofs.Common.{◌≡◌, ◌*◌, ◌/◌, ◌%◌, ◌<◌, ℕ, length, slice_index, arith, sym, ap, ◌∙◌}
-use Rattle.gq_pages.specs.Frames.{bytes_of}
-use Rattle.gq_dataspace.specs.internal.Lists.{list_at}
+use Rattle.gq_pages.specs.Frame_map.{bytes_of}
+use Rattle.gq_dataspace.specs.internal.Frame_lists.{list_at}
 use Rattle.gq_dataspace.specs.Dataspaces.{Dataspaces, content_of}
-use Rattle.gq_dataspace.proofs.Changes.{content_at, length-content}
-use Rattle.gq_dataspace.proofs.Bytes.{is_taken, get_or-bytes_in}
+use Rattle.gq_dataspace.proofs.Dataspace_call_effects.{content_at, length-content}
+use Rattle.gq_dataspace.proofs.Frame_list_bytes.{is_taken, get_or-bytes_in}
 use Rattle.gq_dataspace.proofs.spaces.Spaces.load.Goals as goal
 
 pub frame-frame-requires : goal.frame-frame-requires

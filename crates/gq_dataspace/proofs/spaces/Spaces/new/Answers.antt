@@ -1,8 +1,8 @@
 use Rattle.std.proofs.Common.{◌≡◌, ℕ, List, [], length, replicate, arith, ap, ◌∙◌}
 use Rattle.std.proofs.lemmas.List.{length-replicate}
-use Rattle.gq_dataspace.specs.internal.Holding.{spaces_in}
-use Rattle.gq_dataspace.proofs.Apart.{none_apart, none_long}
-use Rattle.gq_dataspace.proofs.Changes.{no_spaces, none_whole}
+use Rattle.gq_dataspace.specs.internal.Spaces_fields.{spaces_in}
+use Rattle.gq_dataspace.proofs.Disjoint_frame_lists.{none_apart, none_long}
+use Rattle.gq_dataspace.proofs.Dataspace_call_effects.{no_spaces, none_whole}
 use Rattle.gq_dataspace.proofs.spaces.Spaces.new.Goals as goal
 
 pub returns-clause-none : goal.returns-clause-none

@@ -1,13 +1,13 @@
 use Rattle.std.proofs.Common.{◌≡◌, ◌<◌, ◌++◌, ◌∷◌, [], ℕ, List, None, length, set, slice_index, arith, refl, sym, ap, subst, ◌∙◌, length-append, length-set}
 use Rattle.std.proofs.lemmas.List.{get_or_at}
-use Rattle.gq_pages.specs.Frames.{bytes_of}
-use Rattle.gq_dataspace.specs.internal.Lists.{list_at}
+use Rattle.gq_pages.specs.Frame_map.{bytes_of}
+use Rattle.gq_dataspace.specs.internal.Frame_lists.{list_at}
 use Rattle.gq_dataspace.specs.Dataspaces.{Dataspaces, IsLive, content_of, shorter}
-use Rattle.gq_dataspace.specs.internal.Holding.{spaces_in}
-use Rattle.gq_dataspace.proofs.Tables.{at_some}
-use Rattle.gq_dataspace.proofs.Changes.{live_some, content_at, shrinks, whole_shrunk, short_set}
-use Rattle.gq_dataspace.proofs.Apart.{apart_shrunk}
-use Rattle.gq_dataspace.proofs.Bytes.{is_taken}
+use Rattle.gq_dataspace.specs.internal.Spaces_fields.{spaces_in}
+use Rattle.gq_dataspace.proofs.Dataspace_link_tables.{at_some}
+use Rattle.gq_dataspace.proofs.Dataspace_call_effects.{live_some, content_at, shrinks, whole_shrunk, short_set}
+use Rattle.gq_dataspace.proofs.Disjoint_frame_lists.{apart_shrunk}
+use Rattle.gq_dataspace.proofs.Frame_list_bytes.{is_taken}
 use Rattle.gq_dataspace.proofs.spaces.Spaces.shorten.Goals as goal
 
 pub pop-frame-requires : goal.pop-frame-requires

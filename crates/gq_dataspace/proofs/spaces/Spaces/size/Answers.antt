@@ -1,8 +1,8 @@
 use Rattle.std.proofs.Common.{◌≡◌, ◌*◌, ℕ, length, sym, ap, subst, ◌∙◌}
-use Rattle.gq_dataspace.specs.internal.Lists.{list_at}
+use Rattle.gq_dataspace.specs.internal.Frame_lists.{list_at}
 use Rattle.gq_dataspace.specs.Dataspaces.{Dataspaces, IsLive, content_of}
-use Rattle.gq_dataspace.proofs.Tables.{at_some}
-use Rattle.gq_dataspace.proofs.Changes.{length-content, live_some}
+use Rattle.gq_dataspace.proofs.Dataspace_link_tables.{at_some}
+use Rattle.gq_dataspace.proofs.Dataspace_call_effects.{length-content, live_some}
 use Rattle.gq_dataspace.proofs.spaces.Spaces.size.Goals as goal
 
 pub count-requires : goal.count-requires

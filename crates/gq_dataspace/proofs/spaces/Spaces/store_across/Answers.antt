@@ -1,6 +1,6 @@
 use Rattle.std.proofs.Common.{◌≡◌, ◌+◌, ◌<◌, ℕ, List, Some, length, set, slice_index, arith, ap, ◌∙◌}
 use Rattle.gq_dataspace.specs.Dataspaces.{Contents, content_of}
-use Rattle.gq_dataspace.proofs.Edits.{content_there, stored_again}
+use Rattle.gq_dataspace.proofs.Repeated_dataspace_sets.{content_there, stored_again}
 use Rattle.gq_dataspace.proofs.spaces.Spaces.store_across.Goals as goal
 
 pub returns-clause-written : goal.returns-clause-written

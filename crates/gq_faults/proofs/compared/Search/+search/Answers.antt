@@ -1,6 +1,6 @@
 use Rattle.std.proofs.Common.{ap, arith}
 use Rattle.gq_model.specs.machine.Program.{size}
-use Rattle.gq_program.proofs.Sizes.{size_here}
+use Rattle.gq_program.proofs.Statement_list_sizes.{size_here}
 use Rattle.gq_faults.proofs.compared.Search.+search.Goals as goal
 
 pub body-statement-requires : goal.body-statement-requires

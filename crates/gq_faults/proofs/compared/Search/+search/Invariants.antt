@@ -1,6 +1,6 @@
 use Rattle.std.proofs.Common.{◌+◌, ◌*◌, ◌∷◌, []}
 use Rattle.gq_model.specs.machine.Program.{size}
-use Rattle.gq_program.specs.Trees.{tree_of}
+use Rattle.gq_program.specs.Statement_trees.{tree_of}
 use Rattle.gq_faults.proofs.compared.Search.+search.Given as goal
 
 abbrev pub decreases-body : goal.decreases-body

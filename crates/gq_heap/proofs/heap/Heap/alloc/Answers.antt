@@ -1,5 +1,5 @@
-use Rattle.gq_store.proofs.Results.{err_states}
-use Rattle.gq_heap.proofs.Callers.{heap_now, used_now}
+use Rattle.gq_store.proofs.Refused_call_state.{err_states}
+use Rattle.gq_heap.proofs.Heap_caller_facts.{heap_now, used_now}
 use Rattle.gq_heap.proofs.heap.Heap.alloc.Goals as goal
 
 pub returns-then-from-le-GREATEST_PLACE-clause-kept : goal.returns-then-from-le-GREATEST_PLACE-clause-kept

@@ -1,8 +1,8 @@
 use Rattle.std.proofs.Common.{◌≡◌, ◌+◌, List, length, refl, ap, ◌∙◌, arith, rules}
 use Rattle.gq_tariff.specs.Prices.{up}
-use Rattle.gq_heap.proofs.Lists.{up_small}
-use Rattle.gq_heap.proofs.Larges.{large_room, allocates_large}
-use Rattle.gq_heap.proofs.Calls.{allocates}
+use Rattle.gq_heap.proofs.Heap_cell_lists.{up_small}
+use Rattle.gq_heap.proofs.Large_block_calls.{large_room, allocates_large}
+use Rattle.gq_heap.proofs.Heap_call_effects.{allocates}
 use Rattle.gq_heap.proofs.heap.Heap.alloc_large.Goals as goal
 
 pub overflow_add-self-2 : goal.overflow_add-self-2

@@ -1,8 +1,8 @@
 use Rattle.std.proofs.Common.{◌≡◌, List, length, length-set, set, refl, ap, ◌∙◌, arith, rules}
 use Rattle.gq_heap.specs.Classes.{index_of}
 use Rattle.gq_heap.proofs.ClassLaws.{sizes, index_below}
-use Rattle.gq_heap.proofs.Heaps.{allocates_small}
-use Rattle.gq_heap.proofs.Calls.{allocates}
+use Rattle.gq_heap.proofs.Heap_call_invariants.{allocates_small}
+use Rattle.gq_heap.proofs.Heap_call_effects.{allocates}
 use Rattle.gq_heap.proofs.heap.Heap.alloc_small.Goals as goal
 
 pub take-requires-clause-size : goal.take-requires-clause-size

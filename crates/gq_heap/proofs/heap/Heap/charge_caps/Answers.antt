@@ -1,7 +1,7 @@
 use Rattle.std.proofs.Common.{arith}
 use Rattle.gq_tariff.specs.Prices.{classes}
 use Rattle.gq_heap.specs.Heap.{peaks}
-use Rattle.gq_heap.proofs.Charges.{pages_are}
+use Rattle.gq_heap.proofs.Heap_class_charges.{pages_are}
 use Rattle.gq_heap.proofs.heap.Heap.charge_caps.Goals as goal
 
 pub overflow_add-result : goal.overflow_add-result

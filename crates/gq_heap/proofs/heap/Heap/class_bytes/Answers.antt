@@ -3,10 +3,10 @@ use Rattle.std.proofs.lemmas.List.{drop_all}
 use Rattle.gq_tariff.specs.Prices.{up}
 use Rattle.gq_heap.specs.Classes.{size_at, places_at}
 use Rattle.gq_heap.specs.Heap.{no_bin}
-use Rattle.gq_heap.proofs.Sizes.{size_few}
+use Rattle.gq_heap.proofs.Cell_page_numbers.{size_few}
 use Rattle.gq_heap.proofs.ClassLaws.{sizes, size_in_order}
-use Rattle.gq_heap.proofs.Parts.{price_from}
-use Rattle.gq_heap.proofs.Charges.{price_is, charge_step, peak_small}
+use Rattle.gq_heap.proofs.Heap_change_parts.{price_from}
+use Rattle.gq_heap.proofs.Heap_class_charges.{price_is, charge_step, peak_small}
 use Rattle.gq_heap.proofs.heap.Heap.class_bytes.Goals as goal
 
 eight : {A : Type 0} (xs : List A) → length xs ≡ 8 → length xs ≡ 8

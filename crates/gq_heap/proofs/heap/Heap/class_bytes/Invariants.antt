@@ -1,5 +1,5 @@
 use Rattle.std.proofs.Common.{◌≡◌, ◌+◌, ◌*◌, ◌≤◌, drop}
-use Rattle.gq_heap.proofs.Parts.{price_from}
+use Rattle.gq_heap.proofs.Heap_change_parts.{price_from}
 use Rattle.gq_heap.proofs.heap.Heap.class_bytes.Given as goal
 
 abbrev pub invariant-loop-i : goal.invariant-loop-i

@@ -1,6 +1,6 @@
 use Rattle.std.proofs.Common.{subst}
 use Rattle.gq_heap.specs.Heap.{IsInUse}
-use Rattle.gq_heap.proofs.Callers.{heap_after}
+use Rattle.gq_heap.proofs.Heap_caller_facts.{heap_after}
 use Rattle.gq_heap.proofs.heap.Heap.free.Goals as goal
 
 pub returns-in-Small-clause-kept : goal.returns-in-Small-clause-kept

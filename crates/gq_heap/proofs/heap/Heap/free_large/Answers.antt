@@ -1,8 +1,8 @@
 use Rattle.std.proofs.Common.{◌≡◌, ◌-◌, List, length, refl, ap, ◌∙◌, arith, rules}
 use Rattle.gq_tariff.specs.Prices.{up}
-use Rattle.gq_heap.proofs.Lists.{up_pos}
-use Rattle.gq_heap.proofs.Larges.{has_large, frees_large}
-use Rattle.gq_heap.proofs.Calls.{frees}
+use Rattle.gq_heap.proofs.Heap_cell_lists.{up_pos}
+use Rattle.gq_heap.proofs.Large_block_calls.{has_large, frees_large}
+use Rattle.gq_heap.proofs.Heap_call_effects.{frees}
 use Rattle.gq_heap.proofs.heap.Heap.free_large.Goals as goal
 
 pub shrink-requires : goal.shrink-requires

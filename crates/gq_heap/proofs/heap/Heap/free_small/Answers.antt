@@ -1,8 +1,8 @@
 use Rattle.std.proofs.Common.{◌≡◌, List, length, length-set, set, refl, ap, ◌∙◌, rules}
 use Rattle.gq_heap.specs.Classes.{index_of}
 use Rattle.gq_heap.proofs.ClassLaws.{sizes, index_below}
-use Rattle.gq_heap.proofs.Heaps.{has_small, frees_small}
-use Rattle.gq_heap.proofs.Calls.{frees}
+use Rattle.gq_heap.proofs.Heap_call_invariants.{has_small, frees_small}
+use Rattle.gq_heap.proofs.Heap_call_effects.{frees}
 use Rattle.gq_heap.proofs.heap.Heap.free_small.Goals as goal
 
 pub give-requires-clause-size : goal.give-requires-clause-size

@@ -1,7 +1,7 @@
 use Rattle.std.proofs.Common.{sym, ◌∙◌, arith}
-use Rattle.gq_store.proofs.Words.{word_shifted}
+use Rattle.gq_store.proofs.Word_byte_spelling.{word_shifted}
 use Rattle.gq_heap.specs.Heap.{chunk_of, offset_of}
-use Rattle.gq_heap.proofs.Heaps.{block_inside}
+use Rattle.gq_heap.proofs.Heap_call_invariants.{block_inside}
 use Rattle.gq_heap.proofs.heap.Heap.load4.Goals as goal
 
 pub overflow_add-offset : goal.overflow_add-offset

@@ -1,5 +1,5 @@
 use Rattle.std.proofs.Common.{[], refl}
-use Rattle.gq_heap.proofs.Laws.{new_keeps}
+use Rattle.gq_heap.proofs.New_heap_laws.{new_keeps}
 use Rattle.gq_heap.proofs.heap.Heap.new.Goals as goal
 
 pub returns-clause-keeps : goal.returns-clause-keeps

@@ -1,9 +1,9 @@
 use Rattle.std.proofs.Common.{◌+◌, [], ◌∷◌, arith}
-use Rattle.gq_store.proofs.Words.{one_there}
+use Rattle.gq_store.proofs.Word_byte_spelling.{one_there}
 use Rattle.gq_heap.specs.Heap.{chunk_of, offset_of}
-use Rattle.gq_heap.proofs.Heaps.{block_inside, written}
-use Rattle.gq_heap.proofs.Calls.{puts}
-use Rattle.gq_heap.proofs.Callers.{in_use_still}
+use Rattle.gq_heap.proofs.Heap_call_invariants.{block_inside, written}
+use Rattle.gq_heap.proofs.Heap_call_effects.{puts}
+use Rattle.gq_heap.proofs.Heap_caller_facts.{in_use_still}
 use Rattle.gq_heap.proofs.heap.Heap.store.Goals as goal
 
 pub overflow_add-offset : goal.overflow_add-offset

@@ -3,9 +3,9 @@ use Rattle.std.proofs.Common.{◌≡◌, ℕ, ◌+◌, ◌∷◌, ◌++◌, [], 
 use Rattle.gq_model.specs.declared.act.Act.{Act}
 use Rattle.gq_model.specs.declared.act.Act.TheVariants.{Turns}
 use Rattle.gq_model.specs.texts.Letters.{lines}
-use Rattle.gq_init.specs.TurnReading.{told}
-use Rattle.gq_init.specs.internal.Reading.{lines_read}
-use Rattle.gq_init.proofs.Reading.{read_turn_ahead}
+use Rattle.gq_init.specs.TurnReading.{reported}
+use Rattle.gq_init.specs.internal.Piecewise_lines.{lines_read}
+use Rattle.gq_init.proofs.Piecewise_turn_lines.{read_turn_ahead}
 use Rattle.gq_init.proofs.turn_list.TurnList.read_ahead.Goals as goal
 
 pub loop-turn-preserved : goal.loop-turn-preserved
@@ -17,10 +17,10 @@ loop-turn-preserved c =
     let after = c.in-Some.after.now in
     let items : c.push.new.self.items ≡ l.self.items.items ++ turn ∷ [] = c.in-Ok.ensures.items ∙ ap (λ t. l.self.items.items ++ t ∷ []) c.new.ensures in
     record {
-      told = λ is_last more.
-          ap (λ ts. told all ts (l.total + count) (l.line + 1) None (lines_read is_last (lines after) ++ more)) items
+      reported = λ is_last more.
+          ap (λ ts. reported all ts (l.total + count) (l.line + 1) None (lines_read is_last (lines after) ++ more)) items
           ∙ (read_turn_ahead all l.self.items.items l.total l.line l.left.now after turn c.in-Some.ensures.turn (search rules) is_last more
-          ∙ l.invariant.told is_last more);
+          ∙ l.invariant.reported is_last more);
       kept_total = l.invariant.kept_total;
       kept_line = l.invariant.kept_line;
       clear = l.invariant.clear;

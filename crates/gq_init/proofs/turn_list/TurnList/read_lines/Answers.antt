@@ -3,10 +3,10 @@ use Rattle.std.proofs.Common.{◌≡◌, ◌≤◌, ◌+◌, ◌∷◌, ◌++◌
 use Rattle.std.specs.Prelude.{option_map, IfOk, IfSome}
 use Rattle.gq_model.specs.declared.act.Act.{Act}
 use Rattle.gq_model.specs.texts.Turns.{greatest_turns, turns_given}
-use Rattle.gq_scenario.specs.Lines.{lines_left}
-use Rattle.gq_init.specs.TurnReading.{told}
-use Rattle.gq_init.specs.internal.Reading.{lines_read}
-use Rattle.gq_init.proofs.Reading.{read_fault, read_none, read_some}
+use Rattle.gq_scenario.specs.Text_pieces.{lines_left}
+use Rattle.gq_init.specs.TurnReading.{reported}
+use Rattle.gq_init.specs.internal.Piecewise_lines.{lines_read}
+use Rattle.gq_init.proofs.Piecewise_turn_lines.{read_fault, read_none, read_some}
 use Rattle.gq_init.proofs.turn_list.TurnList.read_lines.Goals as goal
 
 pub loop-left-preserved-in-Ok-None : goal.loop-left-preserved-in-Ok-None
@@ -17,12 +17,12 @@ loop-left-preserved-in-Ok-None c =
     let found : c.in-Ok-None.field-0 ≡ None = rw (c.in-Ok-None.is) at c.in-Ok-None.field-0-is in
     let said = c.in-Ok-None.is ∙ ap Ok found in
     record {
-      told = λ more. read_none all r.items.items r.total r.line c.args.is_last c.in_ok-rest.rest.now c.next_turn-said.result.0
+      reported = λ more. read_none all r.items.items r.total r.line c.args.is_last c.in_ok-rest.rest.now c.next_turn-said.result.0
           c.next_turn-said.result.1 c.next_turn-said.ensures.line (sym c.is_begun.ensures ∙ c.if-is_begun.false) said more
-          ∙ (c.in_ok-rest.ensures.told c.args.is_last more
-          ∙ (ap (λ o. told all l.self.items.items l.self.total l.self.line None
+          ∙ (c.in_ok-rest.ensures.reported c.args.is_last more
+          ∙ (ap (λ o. reported all l.self.items.items l.self.total l.self.line None
           (lines_read c.args.is_last (lines_left (option_map (λ rest. rest.now) o)) ++ more))
-          (sym c.in-Some.is) ∙ l.invariant.told more));
+          (sym c.in-Some.is) ∙ l.invariant.reported more));
       clear = c.in_ok-rest.ensures.clear;
       few = c.in_ok-rest.ensures.few;
       counted = search rules;
@@ -41,26 +41,27 @@ loop-left-preserved c =
     let rest = lines_read c.args.is_last (lines_left (option_map (λ rest. rest.now) c.next_turn-said.result.1)) in
     let room = subst (λ s. IfOk s (λ o. IfSome o (λ t. r.total + turns_given t.1 ≤ greatest_turns))) said c.next_turn-said.ensures.few in
     record {
-      told = λ more.
-          ap (λ ts. told all ts (r.total + c.turns_given.result) (r.line + 1) None (rest ++ more)) items
-          ∙ (ap (λ n. told all (r.items.items ++ turn ∷ []) (r.total + n) (r.line + 1) None (rest ++ more)) given
+      reported = λ more.
+          ap (λ ts. reported all ts (r.total + c.turns_given.result) (r.line + 1) None (rest ++ more)) items
+          ∙ (ap (λ n. reported all (r.items.items ++ turn ∷ []) (r.total + n) (r.line + 1) None (rest ++ more)) given
           ∙ (read_some all r.items.items r.total r.line c.args.is_last c.in_ok-rest.rest.now c.next_turn-said.result.0
           c.next_turn-said.result.1 c.next_turn-said.ensures.line (sym c.is_begun.ensures ∙ c.if-is_begun.false) turn said more
-          ∙ (c.in_ok-rest.ensures.told c.args.is_last more
-          ∙ (ap (λ o. told all l.self.items.items l.self.total l.self.line None
-          (lines_read c.args.is_last (lines_left (option_map (λ rest. rest.now) o)) ++ more)) (sym c.in-Some.is) ∙ l.invariant.told more))));
+          ∙ (c.in_ok-rest.ensures.reported c.args.is_last more
+          ∙ (ap (λ o. reported all l.self.items.items l.self.total l.self.line None
+          (lines_read c.args.is_last (lines_left (option_map (λ rest. rest.now) o)) ++ more)) (sym c.in-Some.is) ∙ l.invariant.reported more))));
       clear = c.in_ok-rest.ensures.clear;
       few = subst (λ n. r.total + n ≤ greatest_turns) (sym given) room;
       counted = search rules;
     }
 
-pub returns-in-Err-clause-told : goal.returns-in-Err-clause-told
-returns-in-Err-clause-told c more =
+pub returns-in-Err-clause-reported : goal.returns-in-Err-clause-reported
+returns-in-Err-clause-reported c more =
     let l = c.loop-left in
     let r = c.read_ahead.new.self in
     let all = c.args.table.now in
     read_fault all r.items.items r.total r.line c.args.is_last c.in_ok-rest.rest.now c.next_turn-said.result.0
     c.next_turn-said.result.1 c.next_turn-said.ensures.line (sym c.is_begun.ensures ∙ c.if-is_begun.false) c.in-Err.fault (c.in-Err.is) more
-    ∙ (c.in_ok-rest.ensures.told c.args.is_last more
-    ∙ (ap (λ o. told all l.self.items.items l.self.total l.self.line None (lines_read c.args.is_last (lines_left (option_map (λ rest. rest.now) o)) ++ more))
-    (sym c.in-Some.is) ∙ (l.invariant.told more ∙ search rules)))
+    ∙ (c.in_ok-rest.ensures.reported c.args.is_last more
+    ∙ (ap (λ o. reported all l.self.items.items l.self.total l.self.line None
+    (lines_read c.args.is_last (lines_left (option_map (λ rest. rest.now) o)) ++ more))
+    (sym c.in-Some.is) ∙ (l.invariant.reported more ∙ search rules)))

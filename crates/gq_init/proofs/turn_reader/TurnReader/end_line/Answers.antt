@@ -2,9 +2,9 @@
 use Rattle.std.proofs.Common.{◌≡◌, ◌++◌, List, ℕ, ap, sym, subst, refl, ◌∙◌}
 use Rattle.std.proofs.lemmas.Result.{on_ok_weaker}
 use Rattle.gq_model.specs.texts.Letters.{lines}
-use Rattle.gq_init.specs.TurnReading.{Reading, answer, told}
-use Rattle.gq_init.specs.internal.Reading.{IsEnded, lines_read}
-use Rattle.gq_init.proofs.Reading.{answer_kept, answer_read, ended_behind}
+use Rattle.gq_init.specs.TurnReading.{Reading, answer, reported}
+use Rattle.gq_init.specs.internal.Piecewise_lines.{IsEnded, lines_read}
+use Rattle.gq_init.proofs.Piecewise_turn_lines.{answer_kept, answer_read, ended_behind}
 use Rattle.std.specs.Prelude.{false}
 use Rattle.gq_init.proofs.turn_reader.TurnReader.end_line.Goals as goal
 
@@ -32,8 +32,8 @@ returns-clause-answer c =
     let kept = c.self.view_is ∙ c.in_ok-keep.ensures.kept in
     let last : mid.last ≡ c.args.self.now.last ++ c.args.piece.now = ap (λ (r : Reading). r.last) kept in
     let ended : IsEnded mid.last = subst IsEnded (sym last) (ended_behind c.args.self.now.last c.args.piece.now c.requires.ended) in
-    on_ok_weaker c.read_lines-read.result (λ told_is rest.
+    on_ok_weaker c.read_lines-read.result (λ reported_is rest.
     answer_read all mid new ended c.clear.ensures.items refl
-    (λ more. told_is more ∙ ap (λ (s : List ℕ). told all mid.items mid.total mid.line mid.fault (lines_read false (lines s) ++ more))
+    (λ more. reported_is more ∙ ap (λ (s : List ℕ). reported all mid.items mid.total mid.line mid.fault (lines_read false (lines s) ++ more))
     c.as_slice.ensures.value) rest
-    ∙ (ap (λ r. answer all r rest) kept ∙ answer_kept all c.args.self.now c.args.piece.now rest)) c.read_lines-read.ensures.told
+    ∙ (ap (λ r. answer all r rest) kept ∙ answer_kept all c.args.self.now c.args.piece.now rest)) c.read_lines-read.ensures.reported

@@ -2,7 +2,7 @@
 use Rattle.std.proofs.Common.{◌≡◌, ◌++◌, ◌+◌, [], length, List, ℕ, ap, sym, refl, ◌∙◌}
 use Rattle.std.proofs.lemmas.Result.{on_ok_weaker}
 use Rattle.gq_init.specs.TurnReading.{Reading, answer}
-use Rattle.gq_init.proofs.Reading.{answer_kept, answer_read}
+use Rattle.gq_init.proofs.Piecewise_turn_lines.{answer_kept, answer_read}
 use Rattle.gq_init.proofs.turn_reader.TurnReader.push_ended.Goals as goal
 
 pub returns-clause-answer : goal.returns-clause-answer
@@ -29,8 +29,8 @@ returns-clause-answer c =
     } in
     let empty : held.last ≡ [] = ap (λ (r : Reading). r.last) c.self.view_is ∙ c.requires.last in
     let mid : Reading = record held { size = held.size + length piece; last = piece } in
-    on_ok_weaker c.read_lines.result (λ told_is rest.
-    answer_read all mid new c.requires.ended empty refl told_is rest
+    on_ok_weaker c.read_lines.result (λ reported_is rest.
+    answer_read all mid new c.requires.ended empty refl reported_is rest
     ∙ (ap (λ (l : List ℕ). answer all (record held { size = held.size + length piece; last = l ++ piece }) rest) (sym empty)
     ∙ (ap (λ (r : Reading). answer all (record r { size = r.size + length piece; last = r.last ++ piece }) rest) c.self.view_is
-    ∙ answer_kept all c.args.self.now piece rest))) c.read_lines.ensures.told
+    ∙ answer_kept all c.args.self.now piece rest))) c.read_lines.ensures.reported

@@ -3,7 +3,7 @@ use Rattle.std.proofs.Common.{◌++◌, ◌+◌, ap, drop, ◌∙◌}
 use Rattle.std.proofs.lemmas.List.{take_rest}
 use Rattle.std.proofs.lemmas.Result.{on_ok_weaker}
 use Rattle.gq_init.specs.TurnReading.{Reading, answer}
-use Rattle.gq_init.proofs.Reading.{answer_kept, in_parts}
+use Rattle.gq_init.proofs.Piecewise_turn_lines.{answer_kept, in_parts}
 use Rattle.gq_init.proofs.turn_reader.TurnReader.push_lines.Goals as goal
 
 pub returns-clause-answer : goal.returns-clause-answer

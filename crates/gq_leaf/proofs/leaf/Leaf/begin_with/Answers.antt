@@ -1,7 +1,7 @@
 -- The first place of a section.
 use Rattle.std.proofs.Common.{ap}
 use Rattle.gq_bytecode.specs.Cores.{Core}
-use Rattle.gq_leaf.proofs.Codes.{first_inside}
+use Rattle.gq_leaf.proofs.Sound_program_code.{first_inside}
 use Rattle.gq_leaf.proofs.leaf.Leaf.begin_with.Goals as goal
 
 pub invariant_of-self : goal.invariant_of-self

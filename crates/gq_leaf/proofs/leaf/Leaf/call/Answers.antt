@@ -2,18 +2,18 @@
 use Rattle.std.proofs.Common.{◌≡◌, ◌+◌, Ok, Err, drop, refl, ap, subst, ◌∙◌, arith}
 use Rattle.gq_model.specs.declared.phase.Phase.TheVariants as phase
 use Rattle.gq_model.specs.declared.program.Instruction.TheVariants as instruction
-use Rattle.gq_model.specs.declared.program.Place.{Place}
+use Rattle.gq_model.specs.declared.program.OperandSlot.{OperandSlot}
 use Rattle.gq_bytecode.specs.Cores.{Core}
 use Rattle.gq_bytecode.specs.declared.operation.Operation.TheVariants as operation
-use Rattle.gq_leaf.specs.Leaves.{stepped}
-use Rattle.gq_statements.specs.Statements.{done}
+use Rattle.gq_leaf.specs.Leaf_states.{stepped}
+use Rattle.gq_statements.specs.Slot_statements.{done}
 use Rattle.gq_leaf.specs.Coded.{Coded, operation_of}
-use Rattle.gq_leaf.specs.Steps.{LeadsTo}
-use Rattle.gq_leaf.proofs.Blocking.{asked_fails, asked_leads, below_top, call_missing}
-use Rattle.gq_leaf.proofs.Leading.{inside_then, slot_next, small_then}
+use Rattle.gq_leaf.specs.Leaf_steps.{LeadsTo}
+use Rattle.gq_leaf.proofs.Blocked_leaf_world.{asked_fails, asked_leads, below_top, call_missing}
+use Rattle.gq_leaf.proofs.Operation_leads_step.{inside_then, slot_next, small_then}
 use Rattle.gq_leaf.proofs.leaf.Leaf.call.Goals as goal
 
-no_end : (p : Place) → operation.Call p ≡ operation.End → ⊥
+no_end : (p : OperandSlot) → operation.Call p ≡ operation.End → ⊥
 no_end p e = cc
 
 pub call-requires-clause-place : goal.call-requires-clause-place

@@ -1,9 +1,9 @@
 -- The number of a long statement is a place of the list.
 use Rattle.std.proofs.Common.{◌≡◌, ℕ, ap, ◌∙◌}
 use Rattle.gq_bytecode.specs.declared.operation.Operation.TheVariants as operation
-use Rattle.gq_leaf.specs.Leaves.{section_at}
+use Rattle.gq_leaf.specs.Leaf_states.{section_at}
 use Rattle.gq_leaf.specs.Coded.{Coded, operation_of}
-use Rattle.gq_leaf.proofs.Leading.{section}
+use Rattle.gq_leaf.proofs.Operation_leads_step.{section}
 use Rattle.gq_leaf.proofs.leaf.Leaf.long.Goals as goal
 
 no_end : (n : ℕ) → operation.Long n ≡ operation.End → ⊥

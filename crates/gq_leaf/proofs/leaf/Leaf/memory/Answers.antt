@@ -4,15 +4,15 @@ use Rattle.std.specs.Prelude.{Result}
 use Rattle.gq_model.specs.declared.fault.Wrong.{Wrong}
 use Rattle.gq_bytecode.specs.Cores.{Core}
 use Rattle.gq_bytecode.specs.Programs.{code_in}
-use Rattle.gq_leaf.specs.Leaves.{section_at, stepped}
+use Rattle.gq_leaf.specs.Leaf_states.{section_at, stepped}
 use Rattle.gq_leaf.specs.Leaves_steps.{Does}
 use Rattle.gq_leaf.proofs.Leaves_stepping.{steps_err, steps_ok}
 use Rattle.gq_statements.specs.declared.actor.Actor.{Actor}
-use Rattle.gq_statements.specs.Statements.{done}
+use Rattle.gq_statements.specs.Slot_statements.{done}
 use Rattle.gq_leaf.specs.Coded.{Coded, operation_of}
-use Rattle.gq_leaf.specs.Steps.{LeadsTo}
-use Rattle.gq_leaf.specs.internal.Holds.{IsInside}
-use Rattle.gq_leaf.proofs.Leading.{inside_after, leading, memory_before, memory_instruction, not_end, ranged_next, small_place}
+use Rattle.gq_leaf.specs.Leaf_steps.{LeadsTo}
+use Rattle.gq_leaf.specs.internal.Leaf_invariant.{IsInside}
+use Rattle.gq_leaf.proofs.Operation_leads_step.{inside_after, leading, memory_before, memory_instruction, not_end, ranged_next, small_place}
 use Rattle.gq_leaf.proofs.leaf.Leaf.memory.Goals as goal
 
 pub do_memory-requires-clause-ranged : goal.do_memory-requires-clause-ranged

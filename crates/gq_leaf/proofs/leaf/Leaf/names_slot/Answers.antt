@@ -1,8 +1,8 @@
 -- What a request names is a slot.
 use Rattle.std.proofs.Common.{ap, ◌∙◌}
-use Rattle.gq_bytecode.specs.Layout.{instruction_in}
+use Rattle.gq_bytecode.specs.Bytecode_layout.{instruction_in}
 use Rattle.gq_leaf.specs.Coded.{Coded, operation_of}
-use Rattle.gq_leaf.proofs.Leading.{slot_next}
+use Rattle.gq_leaf.proofs.Operation_leads_step.{slot_next}
 use Rattle.gq_leaf.proofs.leaf.Leaf.names_slot.Goals as goal
 
 pub returns : goal.returns

@@ -3,12 +3,12 @@ use Rattle.std.proofs.Common.{◌≡◌, ◌+◌, ℕ, Ok, Err, refl, ap, subst,
 use Rattle.gq_model.specs.declared.phase.Phase.TheVariants as phase
 use Rattle.gq_bytecode.specs.Cores.{Core}
 use Rattle.gq_bytecode.specs.declared.operation.Operation.TheVariants as operation
-use Rattle.gq_leaf.specs.Leaves.{stepped}
-use Rattle.gq_statements.specs.Statements.{done}
+use Rattle.gq_leaf.specs.Leaf_states.{stepped}
+use Rattle.gq_statements.specs.Slot_statements.{done}
 use Rattle.gq_leaf.specs.Coded.{Coded, operation_of}
-use Rattle.gq_leaf.specs.Steps.{OpensTo}
-use Rattle.gq_leaf.proofs.Upgrading.{open_fails, open_leads}
-use Rattle.gq_leaf.proofs.Leading.{inside_then, small_then}
+use Rattle.gq_leaf.specs.Leaf_steps.{OpensTo}
+use Rattle.gq_leaf.proofs.Upgrade_open_steps.{open_fails, open_leads}
+use Rattle.gq_leaf.proofs.Operation_leads_step.{inside_then, small_then}
 use Rattle.gq_leaf.proofs.leaf.Leaf.open.Goals as goal
 
 no_end : (n : ℕ) → operation.Long n ≡ operation.End → ⊥

@@ -2,8 +2,8 @@
 use Rattle.std.proofs.Common.{ap, subst, ◌∙◌}
 use Rattle.std.specs.Prelude.{slice_get}
 use Rattle.gq_leaf.specs.Coded.{Coded, operation_of}
-use Rattle.gq_leaf.specs.Steps.{OpensNowhere}
-use Rattle.gq_leaf.proofs.Upgrading.{opens_nowhere}
+use Rattle.gq_leaf.specs.Leaf_steps.{OpensNowhere}
+use Rattle.gq_leaf.proofs.Upgrade_open_steps.{opens_nowhere}
 use Rattle.gq_leaf.proofs.leaf.Leaf.opens_nowhere.Goals as goal
 
 pub returns : goal.returns

@@ -2,11 +2,11 @@
 use Rattle.std.proofs.Common.{◌≡◌, ◌+◌, ℕ, refl, ap, subst, ◌∙◌, arith}
 use Rattle.gq_bytecode.specs.Cores.{Core}
 use Rattle.gq_bytecode.specs.declared.operation.Operation.TheVariants as operation
-use Rattle.gq_leaf.specs.Leaves.{stepped}
+use Rattle.gq_leaf.specs.Leaf_states.{stepped}
 use Rattle.gq_leaf.specs.Coded.{Coded, operation_of}
-use Rattle.gq_leaf.specs.Steps.{LeadsTo, shows}
-use Rattle.gq_leaf.proofs.Leading.{inside_then, small_then}
-use Rattle.gq_leaf.proofs.Telling.{say_leads}
+use Rattle.gq_leaf.specs.Leaf_steps.{LeadsTo, shows}
+use Rattle.gq_leaf.proofs.Operation_leads_step.{inside_then, small_then}
+use Rattle.gq_leaf.proofs.Line_statement_steps.{say_leads}
 use Rattle.gq_leaf.proofs.leaf.Leaf.said.Goals as goal
 
 no_end : (n : ℕ) → operation.Long n ≡ operation.End → ⊥

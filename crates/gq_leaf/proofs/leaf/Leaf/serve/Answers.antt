@@ -2,7 +2,7 @@
 use Rattle.std.proofs.Common.{ap}
 use Rattle.gq_model.specs.declared.program.Section.TheVariants.{Main}
 use Rattle.gq_bytecode.specs.Cores.{Core}
-use Rattle.gq_leaf.proofs.Codes.{first_inside}
+use Rattle.gq_leaf.proofs.Sound_program_code.{first_inside}
 use Rattle.gq_leaf.proofs.leaf.Leaf.serve.Goals as goal
 
 pub invariant_of-self : goal.invariant_of-self

@@ -4,12 +4,12 @@ use Rattle.std.specs.Prelude.{decimal}
 use Rattle.gq_model.specs.declared.fault.Wrong.TheVariants.{MissingOperand}
 use Rattle.gq_bytecode.specs.Cores.{Core}
 use Rattle.gq_bytecode.specs.declared.operation.Operation.TheVariants as operation
-use Rattle.gq_leaf.specs.Leaves.{stepped}
-use Rattle.gq_statements.specs.Statements.{done}
+use Rattle.gq_leaf.specs.Leaf_states.{stepped}
+use Rattle.gq_statements.specs.Slot_statements.{done}
 use Rattle.gq_leaf.specs.Coded.{Coded, operation_of}
-use Rattle.gq_leaf.specs.Steps.{LeadsTo, shows}
-use Rattle.gq_leaf.proofs.Leading.{inside_then, small_then}
-use Rattle.gq_leaf.proofs.Telling.{out_fails, out_leads}
+use Rattle.gq_leaf.specs.Leaf_steps.{LeadsTo, shows}
+use Rattle.gq_leaf.proofs.Operation_leads_step.{inside_then, small_then}
+use Rattle.gq_leaf.proofs.Line_statement_steps.{out_fails, out_leads}
 use Rattle.gq_leaf.proofs.leaf.Leaf.show.Goals as goal
 
 no_end : operation.Out ≡ operation.End → ⊥

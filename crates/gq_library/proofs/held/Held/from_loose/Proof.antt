@@ -23,9 +23,9 @@ use Rattle.std.proofs.alloc.Global.TheLaws as heap_laws
 use Rattle.std.specs.contracts.impls.GlobalAllocator.TheImpl.{ghosts}
 use Rattle.std.proofs.raw_atomic.Walks.{proved_at, leaves}
 use Rattle.gq_world.specs.contracts.world.World.{the_row as world_row}
-use Rattle.gq_library.specs.Held.{boxed}
-use Rattle.gq_library.proofs.Values.{both, Loose, loose_good, loose_out}
-use Rattle.gq_library.proofs.Holding.{one, held_in}
+use Rattle.gq_library.specs.Held_world.{boxed}
+use Rattle.gq_library.proofs.Loose_box_values.{both, Loose, loose_good, loose_out}
+use Rattle.gq_library.proofs.Held_value_ownership.{one, held_in}
 use Rattle.gq_library.specs.contracts.held.Held.from_loose.{ended, clauses}
 use Rattle.gq_library.specs.contracts.held.Held.from_loose.Key.{name as #self}
 use Rattle.gq_library.proofs.held.Held.from_loose.Statement.{statement}

@@ -28,8 +28,8 @@ use Rattle.std.specs.contracts.impls.GlobalAllocator.TheImpl.{ghosts}
 use Rattle.std.proofs.raw_atomic.Walks.{proved_at, leaves}
 use Rattle.std.proofs.ResultValues.{and_tt}
 use Rattle.gq_world.specs.contracts.world.World.{the_row as world_row}
-use Rattle.gq_library.proofs.Values.{both, Loose, al, loose_good, loose_in}
-use Rattle.gq_library.proofs.Holding.{one, Held, held_out, either_held}
+use Rattle.gq_library.proofs.Loose_box_values.{both, Loose, al, loose_good, loose_in}
+use Rattle.gq_library.proofs.Held_value_ownership.{one, Held, held_out, either_held}
 use Rattle.gq_library.specs.contracts.held.Held.into_loose.{ended, clauses}
 use Rattle.gq_library.specs.contracts.held.Held.into_loose.Key.{name as #self}
 use Rattle.gq_library.proofs.held.Held.into_loose.Statement.{statement}

@@ -15,7 +15,7 @@ use denote.RawPtr.{Ptr, null_ptr, ptr_val}
 use denote.Steps.{nothing}
 use denote.Triple.Walked.{Stays, walk_of}
 use Rattle.std.proofs.raw_atomic.Walks.{proved_at, leaves}
-use Rattle.gq_library.proofs.Holding.{one, held_in}
+use Rattle.gq_library.proofs.Held_value_ownership.{one, held_in}
 use Rattle.gq_library.specs.contracts.held.Held.none.{ended, clauses}
 use Rattle.gq_library.specs.contracts.held.Held.none.Key.{name as #self}
 use Rattle.gq_library.proofs.held.Held.none.Statement.{statement}

@@ -1,5 +1,5 @@
 use Rattle.std.proofs.Common.{rules}
-use Rattle.gq_load.proofs.Refusals.{refuses_or}
+use Rattle.gq_load.proofs.First_refusal_reason.{refuses_or}
 use Rattle.gq_load.proofs.accepted.Accepted.read.Goals as goal
 
 pub returns-in-Err-Fault-clause-refused : goal.returns-in-Err-Fault-clause-refused

@@ -1,7 +1,7 @@
 -- What a leaf holds, in capabilities.
 use Rattle.std.proofs.Common.{◌∙◌}
 use Rattle.gq_trade.specs.Balances.{use_of}
-use Rattle.gq_machine.proofs.Readers.{account_there, caps_used_read, exited_none, its_node}
+use Rattle.gq_machine.proofs.Machine_reader_values.{account_there, caps_used_read, exited_none, its_node}
 use Rattle.gq_machine.proofs.machine.Machine.caps_used.Goals as goal
 
 pub caps_used-requires : goal.caps_used-requires

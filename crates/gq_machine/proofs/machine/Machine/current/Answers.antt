@@ -1,7 +1,7 @@
 -- The current session of a leaf.
 use Rattle.std.proofs.Common.{ap, refl}
-use Rattle.gq_statements.specs.Statements.{current_seen}
-use Rattle.gq_machine.proofs.Readers.{read}
+use Rattle.gq_statements.specs.Slot_statements.{current_seen}
+use Rattle.gq_machine.proofs.Machine_reader_values.{read}
 use Rattle.gq_machine.proofs.machine.Machine.current.Goals as goal
 
 pub returns : goal.returns

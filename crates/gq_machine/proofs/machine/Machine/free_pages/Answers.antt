@@ -3,8 +3,8 @@ use Rattle.std.proofs.Common.{ap, arith, ◌≡◌, ◌∙◌}
 use Rattle.gq_model.specs.machine.Amounts.{Amount}
 use Rattle.gq_model.specs.machine.Scenario.{Scenario}
 use Rattle.gq_machine.specs.Machines.{Machine}
-use Rattle.gq_machine.proofs.Pages.{all_pages}
-use Rattle.gq_machine.proofs.Readers.{free_read}
+use Rattle.gq_machine.proofs.Whole_page_holdings.{all_pages}
+use Rattle.gq_machine.proofs.Machine_reader_values.{free_read}
 use Rattle.gq_machine.proofs.machine.Machine.free_pages.Goals as goal
 
 pub overflow_sub-result : goal.overflow_sub-result

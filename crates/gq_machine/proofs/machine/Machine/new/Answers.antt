@@ -1,6 +1,6 @@
 -- The machine at the start of a scenario.
-use Rattle.gq_machine.specs.declared.state.Fixed.{Fixed}
-use Rattle.gq_machine.proofs.Starts.{first_world, holds_first}
+use Rattle.gq_machine.specs.declared.machine_state.Fixed.{Fixed}
+use Rattle.gq_machine.proofs.Machine_start.{first_world, holds_first}
 use Rattle.gq_machine.proofs.machine.Machine.new.Goals as goal
 
 pub invariant_of-result : goal.invariant_of-result

@@ -1,5 +1,5 @@
 -- The oldest request to a leaf.
-use Rattle.gq_machine.proofs.Requested.{no_oldest_read, oldest_read}
+use Rattle.gq_machine.proofs.Machine_session_reads.{no_oldest_read, oldest_read}
 use Rattle.gq_machine.proofs.machine.Machine.oldest.Goals as goal
 
 pub returns-in-Some : goal.returns-in-Some

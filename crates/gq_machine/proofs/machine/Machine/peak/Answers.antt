@@ -1,5 +1,5 @@
 -- The peak of a class in a leaf's heap.
-use Rattle.gq_machine.proofs.Requested.{peak_read}
+use Rattle.gq_machine.proofs.Machine_session_reads.{peak_read}
 use Rattle.gq_machine.proofs.machine.Machine.peak.Goals as goal
 
 pub returns : goal.returns

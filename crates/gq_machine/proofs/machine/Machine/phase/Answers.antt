@@ -1,6 +1,6 @@
 -- The phase of a leaf.
 use Rattle.std.proofs.Common.{refl}
-use Rattle.gq_machine.proofs.Readers.{read}
+use Rattle.gq_machine.proofs.Machine_reader_values.{read}
 use Rattle.gq_machine.proofs.machine.Machine.phase.Goals as goal
 
 pub returns : goal.returns

@@ -1,5 +1,5 @@
 -- The request of a session.
-use Rattle.gq_machine.proofs.Requested.{no_request_read, request_read, request_taken}
+use Rattle.gq_machine.proofs.Machine_session_reads.{no_request_read, request_read, request_taken}
 use Rattle.gq_machine.proofs.machine.Machine.request_of.Goals as goal
 
 pub asked_of-requires-clause-there : goal.asked_of-requires-clause-there

@@ -1,6 +1,6 @@
--- What is told of a session.
+-- What is reported of a session.
 use Rattle.std.proofs.Common.{ap, option_map, refl, sym, ◌∙◌}
-use Rattle.gq_machine.proofs.Requested.{no_session_read, session_read}
+use Rattle.gq_machine.proofs.Machine_session_reads.{no_session_read, session_read}
 use Rattle.gq_machine.proofs.machine.Machine.session.Goals as goal
 
 pub returns-in-Some-clause-some : goal.returns-in-Some-clause-some

@@ -4,9 +4,9 @@ use Rattle.std.specs.Prelude.{slice_get}
 use Rattle.gq_model.specs.machine.Scenario.{components}
 use Rattle.gq_leaf.specs.Coded.{Coded}
 use Rattle.gq_machine.specs.Machines.{Machine}
-use Rattle.gq_machine.specs.internal.Holds.{OfLeaf}
+use Rattle.gq_machine.specs.internal.Machine_invariant.{OfLeaf}
 use Rattle.gq_machine.specs.Countable.{IsCountable}
-use Rattle.gq_machine.proofs.Counting.{counted_there}
+use Rattle.gq_machine.proofs.Machine_step_counts.{counted_there}
 use Rattle.gq_machine.proofs.machine.Machine.step_tested.Goals as goal
 
 pub turn-requires-clause-countable : goal.turn-requires-clause-countable

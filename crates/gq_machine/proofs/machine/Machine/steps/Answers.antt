@@ -1,6 +1,6 @@
 -- The steps of a leaf.
 use Rattle.std.proofs.Common.{refl}
-use Rattle.gq_machine.proofs.Readers.{read}
+use Rattle.gq_machine.proofs.Machine_reader_values.{read}
 use Rattle.gq_machine.proofs.machine.Machine.steps.Goals as goal
 
 pub returns : goal.returns

@@ -1,7 +1,7 @@
 -- What a leaf holds, in bytes.
 use Rattle.std.proofs.Common.{◌∙◌}
 use Rattle.gq_trade.specs.Balances.{use_of}
-use Rattle.gq_machine.proofs.Readers.{account_there, exited_none, its_node, used_read}
+use Rattle.gq_machine.proofs.Machine_reader_values.{account_there, exited_none, its_node, used_read}
 use Rattle.gq_machine.proofs.machine.Machine.used.Goals as goal
 
 pub used-requires : goal.used-requires

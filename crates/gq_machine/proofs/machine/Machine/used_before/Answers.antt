@@ -1,6 +1,6 @@
 -- What the leaves from the first to one hold.
 use Rattle.std.proofs.Common.{arith}
-use Rattle.gq_machine.proofs.Readers.{one_more}
+use Rattle.gq_machine.proofs.Machine_reader_values.{one_more}
 use Rattle.gq_machine.proofs.machine.Machine.used_before.Goals as goal
 
 pub overflow_add-sum : goal.overflow_add-sum

@@ -1,5 +1,5 @@
 -- The leaves so far, and what they hold.
-use Rattle.gq_machine.proofs.Readers.{IsSum}
+use Rattle.gq_machine.proofs.Machine_reader_values.{IsSum}
 use Rattle.gq_machine.proofs.machine.Machine.used_before.Given as goal
 
 abbrev pub invariant-loop-number : goal.invariant-loop-number

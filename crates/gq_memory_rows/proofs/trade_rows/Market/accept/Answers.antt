@@ -1,4 +1,4 @@
-use Rattle.gq_memory_rows.proofs.Markets.{opened_one}
+use Rattle.gq_memory_rows.proofs.Market_invariant.{opened_one}
 use Rattle.gq_memory_rows.proofs.trade_rows.Market.accept.Goals as goal
 
 pub returns-clause-one : goal.returns-clause-one

@@ -1,4 +1,4 @@
-use Rattle.gq_memory_rows.proofs.Markets.{asked_one, on_ok}
+use Rattle.gq_memory_rows.proofs.Market_invariant.{asked_one, on_ok}
 use Rattle.gq_memory_rows.proofs.trade_rows.Market.ask.Goals as goal
 
 pub returns-clause-asked : goal.returns-clause-asked

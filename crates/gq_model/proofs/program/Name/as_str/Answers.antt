@@ -1,5 +1,5 @@
 use Rattle.std.proofs.lemmas.Str.{IsUtf8-from_ascii}
-use Rattle.gq_model.proofs.Ascii.{ascii_name}
+use Rattle.gq_model.proofs.Ascii_names.{ascii_name}
 use Rattle.gq_model.proofs.program.Name.as_str.Goals as goal
 
 pub unreachable-requires : goal.unreachable-requires

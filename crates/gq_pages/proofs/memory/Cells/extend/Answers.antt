@@ -1,6 +1,6 @@
 use Rattle.std.proofs.Common.{◌≡◌, ◌+◌, ◌-◌, length, arith, ap, ◌∙◌, length-append}
-use Rattle.gq_pages.specs.Bytes.{zeros}
-use Rattle.gq_pages.proofs.Zeros.{behind_none, behind_more, length-zeros}
+use Rattle.gq_pages.specs.Frame_bytes.{zeros}
+use Rattle.gq_pages.proofs.Zeroed_byte_runs.{behind_none, behind_more, length-zeros}
 use Rattle.gq_pages.proofs.memory.Cells.extend.Goals as goal
 
 pub loop-k-init : goal.loop-k-init

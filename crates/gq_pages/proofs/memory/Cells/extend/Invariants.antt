@@ -1,5 +1,5 @@
 use Rattle.std.proofs.Common.{◌≡◌, ◌-◌, ◌++◌}
-use Rattle.gq_pages.specs.Bytes.{zeros}
+use Rattle.gq_pages.specs.Frame_bytes.{zeros}
 use Rattle.gq_pages.proofs.memory.Cells.extend.Given as goal
 
 abbrev pub invariant-loop-k : goal.invariant-loop-k

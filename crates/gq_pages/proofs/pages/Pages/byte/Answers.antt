@@ -1,9 +1,9 @@
 use Rattle.std.proofs.Common.{ℕ, List, get_or, arith, sym, ap, ◌∙◌}
-use Rattle.gq_pages.specs.Frames.{Frames, bytes_of}
+use Rattle.gq_pages.specs.Frame_map.{Frames, bytes_of}
 use Rattle.gq_pages.specs.internal.Pages.{free_frames}
-use Rattle.gq_pages.proofs.Frames.{is_taken_says}
-use Rattle.gq_pages.proofs.Free.{outside}
-use Rattle.gq_pages.proofs.Parts.{get_or-page}
+use Rattle.gq_pages.proofs.Frame_number_lists.{is_taken_says}
+use Rattle.gq_pages.proofs.Free_frame_list.{outside}
+use Rattle.gq_pages.proofs.Region_frame_bytes.{get_or-page}
 use Rattle.gq_pages.proofs.pages.Pages.byte.Goals as goal
 
 pub byte-requires : goal.byte-requires

@@ -1,6 +1,6 @@
 use Rattle.std.proofs.Common.{length, sym, ap, ◌∙◌}
 use Rattle.gq_pages.specs.internal.Pages.{free_frames}
-use Rattle.gq_pages.proofs.Frames.{length-frames_of}
+use Rattle.gq_pages.proofs.Frame_number_lists.{length-frames_of}
 use Rattle.gq_pages.proofs.pages.Pages.frame_count.Goals as goal
 
 pub returns : goal.returns

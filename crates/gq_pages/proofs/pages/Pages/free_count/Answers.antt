@@ -1,7 +1,7 @@
 use Rattle.std.proofs.Common.{◌≡◌, ◌≤◌, length, arith, sym, ap, ◌∙◌}
 use Rattle.gq_pages.specs.internal.Pages.{free_frames}
-use Rattle.gq_pages.proofs.Frames.{no_more_free, length-frames_of}
-use Rattle.gq_pages.proofs.Free.{count_free-free_list, length-free_list}
+use Rattle.gq_pages.proofs.Frame_number_lists.{no_more_free, length-frames_of}
+use Rattle.gq_pages.proofs.Free_frame_list.{count_free-free_list, length-free_list}
 use Rattle.gq_pages.proofs.pages.Pages.free_count.Goals as goal
 
 pub returns : goal.returns

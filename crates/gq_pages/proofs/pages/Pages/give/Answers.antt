@@ -1,9 +1,9 @@
 use Rattle.std.proofs.Common.{◌≡◌, suc, ◌+◌, ℕ, arith, sym, ap, ◌∙◌}
-use Rattle.gq_pages.specs.Frames.{count_free}
+use Rattle.gq_pages.specs.Frame_map.{count_free}
 use Rattle.gq_pages.specs.internal.Pages.{free_frames}
-use Rattle.gq_pages.proofs.Frames.{is_taken_says, fewer_free}
-use Rattle.gq_pages.proofs.Free.{outside, length-free_list, count_free-free_list}
-use Rattle.gq_pages.proofs.Moves.{gives}
+use Rattle.gq_pages.proofs.Frame_number_lists.{is_taken_says, fewer_free}
+use Rattle.gq_pages.proofs.Free_frame_list.{outside, length-free_list, count_free-free_list}
+use Rattle.gq_pages.proofs.Frame_give_take.{gives}
 use Rattle.gq_pages.proofs.pages.Pages.give.Goals as goal
 
 pub set_word-requires : goal.set_word-requires

@@ -1,6 +1,6 @@
 use Rattle.std.proofs.Common.{◌≡◌, ◌-◌, length, arith, refl, ap}
-use Rattle.gq_pages.proofs.Frames.{frames_range}
-use Rattle.gq_pages.proofs.Free.{frames_of_range}
+use Rattle.gq_pages.proofs.Frame_number_lists.{frames_range}
+use Rattle.gq_pages.proofs.Free_frame_list.{frames_of_range}
 use Rattle.gq_pages.proofs.pages.Pages.new.Goals as goal
 
 pub invariant_of-result : goal.invariant_of-result

@@ -1,5 +1,5 @@
 use Rattle.std.proofs.Common.{arith}
-use Rattle.gq_pages.proofs.Free.{count_free-free_list}
+use Rattle.gq_pages.proofs.Free_frame_list.{count_free-free_list}
 use Rattle.gq_pages.proofs.pages.Pages.new_count.Goals as goal
 
 pub returns : goal.returns

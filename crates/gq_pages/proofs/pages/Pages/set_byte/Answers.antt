@@ -1,9 +1,9 @@
 use Rattle.std.proofs.Common.{◌+◌, ◌*◌, ℕ, List, set, arith, sym, ap, ◌∙◌, length-set}
 use Rattle.gq_pages.specs.internal.Pages.{free_frames}
-use Rattle.gq_pages.specs.Frames.{count_free}
-use Rattle.gq_pages.proofs.Frames.{is_taken_says}
-use Rattle.gq_pages.proofs.Parts.{page-set_same, page-set_other}
-use Rattle.gq_pages.proofs.Free.{outside, writes, count_free-free_list}
+use Rattle.gq_pages.specs.Frame_map.{count_free}
+use Rattle.gq_pages.proofs.Frame_number_lists.{is_taken_says}
+use Rattle.gq_pages.proofs.Region_frame_bytes.{page-set_same, page-set_other}
+use Rattle.gq_pages.proofs.Free_frame_list.{outside, writes, count_free-free_list}
 use Rattle.gq_pages.proofs.pages.Pages.set_byte.Goals as goal
 
 pub set_byte-requires : goal.set_byte-requires

@@ -1,11 +1,11 @@
 use Rattle.std.proofs.Common.{◌+◌, ◌*◌, ◌≤◌, ℕ, List, length, arith, sym, ap, ◌∙◌}
 use Rattle.gq_pages.specs.internal.Pages.{free_frames}
-use Rattle.gq_pages.specs.Frames.{count_free}
+use Rattle.gq_pages.specs.Frame_map.{count_free}
 use Rattle.std.specs.Int.{w32, to_le_bytes}
-use Rattle.gq_pages.specs.Bytes.{with_bytes}
-use Rattle.gq_pages.proofs.Frames.{is_taken_says}
-use Rattle.gq_pages.proofs.Parts.{length-with_bytes, page-with_bytes_same, page-with_bytes_other}
-use Rattle.gq_pages.proofs.Free.{outside, writes, count_free-free_list}
+use Rattle.gq_pages.specs.Frame_bytes.{with_bytes}
+use Rattle.gq_pages.proofs.Frame_number_lists.{is_taken_says}
+use Rattle.gq_pages.proofs.Region_frame_bytes.{length-with_bytes, page-with_bytes_same, page-with_bytes_other}
+use Rattle.gq_pages.proofs.Free_frame_list.{outside, writes, count_free-free_list}
 use Rattle.gq_pages.proofs.pages.Pages.set_word.Goals as goal
 
 pub set_word-requires : goal.set_word-requires

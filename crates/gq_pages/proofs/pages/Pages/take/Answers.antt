@@ -1,8 +1,8 @@
 use Rattle.std.proofs.Common.{◌≡◌, ◌+◌, ◌-◌, ◌<◌, ℕ, arith, sym, ap, subst, ◌∙◌}
-use Rattle.gq_pages.specs.Frames.{Frames, IsFree, count_free}
-use Rattle.gq_pages.proofs.Frames.{none_free}
-use Rattle.gq_pages.proofs.Free.{count_free-free_list}
-use Rattle.gq_pages.proofs.Moves.{takes_chained, takes_fresh}
+use Rattle.gq_pages.specs.Frame_map.{Frames, IsFree, count_free}
+use Rattle.gq_pages.proofs.Frame_number_lists.{none_free}
+use Rattle.gq_pages.proofs.Free_frame_list.{count_free-free_list}
+use Rattle.gq_pages.proofs.Frame_give_take.{takes_chained, takes_fresh}
 use Rattle.gq_pages.proofs.pages.Pages.take.Goals as goal
 
 pub word-next-requires : goal.word-next-requires

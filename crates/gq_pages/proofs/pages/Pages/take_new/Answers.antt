@@ -1,7 +1,7 @@
 use Rattle.std.proofs.Common.{◌+◌, ◌<◌, ℕ, arith, sym, ap, subst, ◌∙◌}
-use Rattle.gq_pages.specs.Frames.{Frames, IsFree}
-use Rattle.gq_pages.proofs.Free.{count_free-free_list}
-use Rattle.gq_pages.proofs.Moves.{takes_fresh}
+use Rattle.gq_pages.specs.Frame_map.{Frames, IsFree}
+use Rattle.gq_pages.proofs.Free_frame_list.{count_free-free_list}
+use Rattle.gq_pages.proofs.Frame_give_take.{takes_fresh}
 use Rattle.gq_pages.proofs.pages.Pages.take_new.Goals as goal
 
 pub invariant_of-self : goal.invariant_of-self

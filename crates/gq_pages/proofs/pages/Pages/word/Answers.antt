@@ -1,10 +1,10 @@
 use Rattle.std.proofs.Common.{ℕ, List, arith, sym, ap, ◌∙◌}
-use Rattle.gq_pages.specs.Bytes.{word_at}
-use Rattle.gq_pages.specs.Frames.{Frames, bytes_of}
+use Rattle.gq_pages.specs.Frame_bytes.{word_at}
+use Rattle.gq_pages.specs.Frame_map.{Frames, bytes_of}
 use Rattle.gq_pages.specs.internal.Pages.{free_frames}
-use Rattle.gq_pages.proofs.Frames.{is_taken_says}
-use Rattle.gq_pages.proofs.Free.{outside}
-use Rattle.gq_pages.proofs.Parts.{word_at-page}
+use Rattle.gq_pages.proofs.Frame_number_lists.{is_taken_says}
+use Rattle.gq_pages.proofs.Free_frame_list.{outside}
+use Rattle.gq_pages.proofs.Region_frame_bytes.{word_at-page}
 use Rattle.gq_pages.proofs.pages.Pages.word.Goals as goal
 
 pub word-requires : goal.word-requires

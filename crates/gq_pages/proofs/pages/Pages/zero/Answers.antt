@@ -1,11 +1,11 @@
 use Rattle.std.proofs.Common.{◌+◌, ◌*◌, ◌≤◌, ℕ, List, length, arith, sym, ap, ◌∙◌}
 use Rattle.gq_pages.specs.internal.Pages.{free_frames}
-use Rattle.gq_pages.specs.Frames.{count_free}
-use Rattle.gq_pages.specs.Bytes.{zeroed}
-use Rattle.gq_pages.proofs.Frames.{is_taken_says}
-use Rattle.gq_pages.proofs.Parts.{page-zeroed_same, page-zeroed_other}
-use Rattle.gq_pages.proofs.Zeros.{length-zeroed}
-use Rattle.gq_pages.proofs.Free.{outside, writes, count_free-free_list}
+use Rattle.gq_pages.specs.Frame_map.{count_free}
+use Rattle.gq_pages.specs.Frame_bytes.{zeroed}
+use Rattle.gq_pages.proofs.Frame_number_lists.{is_taken_says}
+use Rattle.gq_pages.proofs.Region_frame_bytes.{page-zeroed_same, page-zeroed_other}
+use Rattle.gq_pages.proofs.Zeroed_byte_runs.{length-zeroed}
+use Rattle.gq_pages.proofs.Free_frame_list.{outside, writes, count_free-free_list}
 use Rattle.gq_pages.proofs.pages.Pages.zero.Goals as goal
 
 pub zero-requires : goal.zero-requires

@@ -1,8 +1,8 @@
 use Rattle.std.proofs.Common.{◌≡◌, ℕ, ◌+◌, List, length, arith, sym, ap, subst, ◌∙◌, length-append}
 use Rattle.gq_pages.specs.internal.Region.{AreClean, Contents}
-use Rattle.gq_pages.specs.Bytes.{zeros}
-use Rattle.gq_pages.proofs.Clean.{clean_behind}
-use Rattle.gq_pages.proofs.Zeros.{length-zeros}
+use Rattle.gq_pages.specs.Frame_bytes.{zeros}
+use Rattle.gq_pages.proofs.Zero_page_tails.{clean_behind}
+use Rattle.gq_pages.proofs.Zeroed_byte_runs.{length-zeros}
 use Rattle.gq_pages.proofs.region.Region.extend.Goals as goal
 
 pub invariant_of-self : goal.invariant_of-self

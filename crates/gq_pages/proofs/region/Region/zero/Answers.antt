@@ -1,8 +1,8 @@
 use Rattle.std.proofs.Common.{ℕ, ◌+◌, ◌≤◌, List, length, arith, sym, ap, subst, ◌∙◌}
-use Rattle.gq_pages.specs.Bytes.{zeroed}
+use Rattle.gq_pages.specs.Frame_bytes.{zeroed}
 use Rattle.gq_pages.specs.internal.Region.{AreClean, Contents}
-use Rattle.gq_pages.proofs.Clean.{clean_zeroed, zeroed_rest}
-use Rattle.gq_pages.proofs.Zeros.{length-zeroed}
+use Rattle.gq_pages.proofs.Zero_page_tails.{clean_zeroed, zeroed_rest}
+use Rattle.gq_pages.proofs.Zeroed_byte_runs.{length-zeroed}
 use Rattle.gq_pages.proofs.region.Region.zero.Goals as goal
 
 pub invariant_of-self : goal.invariant_of-self

@@ -1,5 +1,5 @@
 use Rattle.std.proofs.Common.{arith}
-use Rattle.gq_pool.proofs.Ending.{none_cleared, pool_still, one_more_cleared, table_left, ends}
+use Rattle.gq_pool.proofs.Pool_removal.{none_cleared, pool_still, one_more_cleared, table_left, ends}
 use Rattle.gq_pool.proofs.pool.Pool.end.Goals as goal
 
 pub loop-index-init : goal.loop-index-init

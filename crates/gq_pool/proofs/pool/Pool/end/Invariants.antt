@@ -1,4 +1,4 @@
-use Rattle.gq_pool.proofs.Ending.{Cleared}
+use Rattle.gq_pool.proofs.Pool_removal.{Cleared}
 use Rattle.gq_pool.proofs.pool.Pool.end.Given as goal
 
 abbrev pub invariant-loop-index : goal.invariant-loop-index

@@ -1,6 +1,6 @@
 use Rattle.std.proofs.Common.{refl, arith}
-use Rattle.gq_pool.proofs.Entries.{entry_in_use, room_freed, removes}
-use Rattle.gq_pool.proofs.Callers.{after_removes}
+use Rattle.gq_pool.proofs.Pool_call_effects.{entry_in_use, room_freed, removes}
+use Rattle.gq_pool.proofs.Pool_caller_facts.{after_removes}
 use Rattle.gq_pool.proofs.pool.Pool.give.Goals as goal
 
 pub free-requires : goal.free-requires

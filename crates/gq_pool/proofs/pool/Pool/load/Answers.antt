@@ -1,5 +1,5 @@
 use Rattle.std.proofs.Common.{arith}
-use Rattle.gq_pool.proofs.Entries.{entry_in_use, entry_room}
+use Rattle.gq_pool.proofs.Pool_call_effects.{entry_in_use, entry_room}
 use Rattle.gq_pool.proofs.pool.Pool.load.Goals as goal
 
 pub load-requires-clause-kept : goal.load-requires-clause-kept

@@ -1,6 +1,6 @@
 use Rattle.std.proofs.Common.{[], ◌∷◌, arith}
-use Rattle.gq_pool.proofs.Entries.{entry_in_use, entry_room, puts_there, puts_absent}
-use Rattle.gq_pool.proofs.Callers.{after_puts}
+use Rattle.gq_pool.proofs.Pool_call_effects.{entry_in_use, entry_room, puts_there, puts_absent}
+use Rattle.gq_pool.proofs.Pool_caller_facts.{after_puts}
 use Rattle.gq_pool.proofs.pool.Pool.store.Goals as goal
 
 pub store-requires-clause-kept : goal.store-requires-clause-kept

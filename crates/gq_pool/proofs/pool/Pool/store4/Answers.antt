@@ -1,7 +1,7 @@
 use Rattle.std.proofs.Common.{arith}
 use Rattle.gq_model.specs.machine.Program.{spelled}
-use Rattle.gq_pool.proofs.Entries.{entry_in_use, entry_room, puts_there, puts_absent}
-use Rattle.gq_pool.proofs.Callers.{after_puts}
+use Rattle.gq_pool.proofs.Pool_call_effects.{entry_in_use, entry_room, puts_there, puts_absent}
+use Rattle.gq_pool.proofs.Pool_caller_facts.{after_puts}
 use Rattle.gq_pool.proofs.pool.Pool.store4.Goals as goal
 
 pub store4-requires-clause-kept : goal.store4-requires-clause-kept

@@ -1,8 +1,8 @@
 use Rattle.std.proofs.Common.{◌++◌, refl, subst, arith}
 use Rattle.gq_heap.specs.Heap.{Allocates}
 use Rattle.gq_pool.specs.Pools.{places_of}
-use Rattle.gq_pool.proofs.Entries.{adds, place_few, room_made}
-use Rattle.gq_pool.proofs.Callers.{after_adds}
+use Rattle.gq_pool.proofs.Pool_call_effects.{adds, place_few, room_made}
+use Rattle.gq_pool.proofs.Pool_caller_facts.{after_adds}
 use Rattle.gq_pool.proofs.pool.Pool.take.Goals as goal
 
 pub overflow_add-number : goal.overflow_add-number

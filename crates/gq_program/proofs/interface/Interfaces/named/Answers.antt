@@ -2,7 +2,7 @@ use Rattle.std.proofs.Common.{◌∙◌, ap, sym, subst, ◌≡◌, true}
 use Rattle.gq_model.specs.machine.Scenario.{interface_in}
 use Rattle.gq_model.specs.machine.Program.{text_eq}
 use Rattle.gq_program.specs.Interfaces.{are_interfaces}
-use Rattle.gq_program.proofs.Rising.{named_there}
+use Rattle.gq_program.proofs.Sorted_interfaces.{named_there}
 use Rattle.gq_program.proofs.interface.Interfaces.named.Goals as goal
 
 -- the names rise, so the one that is looked at first is the only one of its letters

@@ -1,6 +1,6 @@
 use Rattle.std.proofs.Common.{◌≡◌, ◌≤◌, true, length, arith, subst, sym}
 use Rattle.gq_program.specs.Interfaces.{are_interfaces}
-use Rattle.gq_program.proofs.Unbounded.{all_gone}
+use Rattle.gq_program.proofs.Interfaces_without_quantities.{all_gone}
 use Rattle.gq_program.proofs.interface.Interfaces.unbounded.Goals as goal
 
 -- the names stay, so they rise

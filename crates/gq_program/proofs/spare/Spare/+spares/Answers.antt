@@ -1,8 +1,8 @@
 use Rattle.std.proofs.Common.{List, ap, ◌∙◌, arith}
 use Rattle.gq_model.specs.machine.Program.{size}
-use Rattle.gq_program.specs.Trees.{tree_of}
-use Rattle.gq_program.specs.declared.program.Statement.{Statement}
-use Rattle.gq_program.proofs.Sizes.{size_last}
+use Rattle.gq_program.specs.Statement_trees.{tree_of}
+use Rattle.gq_program.specs.declared.program_tree.Statement.{Statement}
+use Rattle.gq_program.proofs.Statement_list_sizes.{size_last}
 use Rattle.gq_program.proofs.spare.Spare.+spares.Goals as goal
 
 pub give_all-give_blocks-requires : goal.give_all-give_blocks-requires

@@ -1,7 +1,7 @@
 use Rattle.std.proofs.Common.{ap, arith, sym}
 use Rattle.std.specs.Prelude.{not}
 use Rattle.std.proofs.lemmas.Bool.Decides.{nat_tests}
-use Rattle.gq_races.proofs.Owned.{any_nobody, shared_only}
+use Rattle.gq_races.proofs.Leaf_owner_rounds.{any_nobody, shared_only}
 use Rattle.gq_races.proofs.owners.Owner.is_shared.Goals as goal
 
 pub returns-in-Only : goal.returns-in-Only

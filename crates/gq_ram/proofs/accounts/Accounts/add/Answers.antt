@@ -1,7 +1,7 @@
 use Rattle.std.proofs.Common.{sym, subst}
-use Rattle.gq_ram.specs.Entries.{IsOpen}
+use Rattle.gq_ram.specs.Account_table.{IsOpen}
 use Rattle.gq_ram.specs.Ledgers.{Ledger}
-use Rattle.gq_ram.specs.internal.Fields.{ledger_view}
+use Rattle.gq_ram.specs.internal.Accounts_fields.{ledger_view}
 use Rattle.gq_ram.proofs.Ram_opening.{opened_balanced}
 use Rattle.gq_ram.proofs.accounts.Accounts.add.Goals as goal
 

@@ -1,12 +1,12 @@
 use Rattle.std.proofs.Common.{◌≡◌, ◌≤◌, ◌*◌, length, refl, arith, sym, ap, subst, ◌∙◌, Some, set}
 use Rattle.gq_tariff.specs.Prices.{up}
-use Rattle.gq_pages.specs.Bytes.{zeros}
+use Rattle.gq_pages.specs.Frame_bytes.{zeros}
 use Rattle.gq_ram.specs.declared.account.Account.{Account}
-use Rattle.gq_ram.specs.Entries.{account_at, its_account, IsOpen}
+use Rattle.gq_ram.specs.Account_table.{account_at, its_account, IsOpen}
 use Rattle.gq_ram.specs.Ledgers.{Ledger}
-use Rattle.gq_ram.specs.internal.Fields.{ledger_view}
-use Rattle.gq_ram.proofs.Sums.{err_no_ok, account_within, account_slack}
-use Rattle.gq_ram.proofs.Spending.{spent_balanced, length_zeros, of_fields}
+use Rattle.gq_ram.specs.internal.Accounts_fields.{ledger_view}
+use Rattle.gq_ram.proofs.Account_sums.{err_no_ok, account_within, account_slack}
+use Rattle.gq_ram.proofs.Balances_made_spaces.{spent_balanced, length_zeros, of_fields}
 use Rattle.gq_ram.proofs.accounts.Accounts.alloc.Goals as goal
 
 pub round_up-cost-requires : goal.round_up-cost-requires

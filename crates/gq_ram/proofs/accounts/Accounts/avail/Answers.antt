@@ -1,8 +1,8 @@
 use Rattle.std.proofs.Common.{◌≡◌, arith, ap, sym, ◌∙◌}
 use Rattle.gq_ram.specs.declared.account.Account.{Account}
-use Rattle.gq_ram.specs.Entries.{account_at}
+use Rattle.gq_ram.specs.Account_table.{account_at}
 use Rattle.gq_ram.specs.Ledgers.{Ledger}
-use Rattle.gq_ram.specs.internal.Fields.{ledger_view}
+use Rattle.gq_ram.specs.internal.Accounts_fields.{ledger_view}
 use Rattle.gq_ram.proofs.accounts.Accounts.avail.Goals as goal
 
 pub overflow_sub-result : goal.overflow_sub-result

@@ -1,10 +1,10 @@
 use Rattle.std.proofs.Common.{◌≡◌, ◌+◌, ◌≤◌, ℕ, List, length, arith, sym, subst, ap, ◌∙◌, Some, set}
-use Rattle.gq_pages.specs.Bytes.{zeroed}
-use Rattle.gq_pages.proofs.Zeros.{length-zeroed}
+use Rattle.gq_pages.specs.Frame_bytes.{zeroed}
+use Rattle.gq_pages.proofs.Zeroed_byte_runs.{length-zeroed}
 use Rattle.gq_dataspace.specs.Dataspaces.{content_of}
 use Rattle.gq_ram.specs.Ledgers.{Ledger}
-use Rattle.gq_ram.specs.internal.Fields.{ledger_view}
-use Rattle.gq_ram.proofs.Freeing.{written_balanced}
+use Rattle.gq_ram.specs.internal.Accounts_fields.{ledger_view}
+use Rattle.gq_ram.proofs.Balances_freed_spaces.{written_balanced}
 use Rattle.gq_ram.proofs.accounts.Accounts.clear.Goals as goal
 
 pub invariant_of-self : goal.invariant_of-self

@@ -1,10 +1,10 @@
 use Rattle.std.proofs.Common.{◌≡◌, refl, arith, rules, sym, ap, subst, ◌∙◌}
 use Rattle.gq_ram.specs.declared.account.Account.{Account}
-use Rattle.gq_ram.specs.Entries.{account_at, IsOpen}
+use Rattle.gq_ram.specs.Account_table.{account_at, IsOpen}
 use Rattle.gq_ram.specs.Ledgers.{Ledger}
-use Rattle.gq_ram.specs.internal.Fields.{ledger_view}
-use Rattle.gq_ram.proofs.Sums.{account_within}
-use Rattle.gq_ram.proofs.Closing.{IsClosing, closing}
+use Rattle.gq_ram.specs.internal.Accounts_fields.{ledger_view}
+use Rattle.gq_ram.proofs.Account_sums.{account_within}
+use Rattle.gq_ram.proofs.Closed_account_balances.{IsClosing, closing}
 use Rattle.gq_ram.proofs.accounts.Accounts.close.Goals as goal
 
 pub account-heir-requires : goal.account-heir-requires

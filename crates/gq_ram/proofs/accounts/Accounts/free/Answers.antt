@@ -1,11 +1,11 @@
 use Rattle.std.proofs.Common.{◌≡◌, length, arith, sym, ap, subst, None, set}
 use Rattle.gq_ram.specs.declared.account.Account.{Account}
-use Rattle.gq_ram.specs.Entries.{account_at, its_account, IsOpen}
+use Rattle.gq_ram.specs.Account_table.{account_at, its_account, IsOpen}
 use Rattle.gq_ram.specs.Owning.{IsOf}
 use Rattle.gq_ram.specs.Ledgers.{Ledger}
-use Rattle.gq_ram.specs.internal.Fields.{ledger_view}
-use Rattle.gq_ram.proofs.Freeing.{its_within, freed_balanced}
-use Rattle.gq_ram.proofs.Spending.{of_fields}
+use Rattle.gq_ram.specs.internal.Accounts_fields.{ledger_view}
+use Rattle.gq_ram.proofs.Balances_freed_spaces.{its_within, freed_balanced}
+use Rattle.gq_ram.proofs.Balances_made_spaces.{of_fields}
 use Rattle.gq_ram.proofs.accounts.Accounts.free.Goals as goal
 
 pub overflow_sub-payer : goal.overflow_sub-payer

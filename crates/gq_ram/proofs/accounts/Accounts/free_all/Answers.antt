@@ -1,7 +1,7 @@
 use Rattle.std.proofs.Common.{◌≡◌, ◌<◌, ◌+◌, length, get_or, None, arith, sym, ap, subst, ◌∙◌}
 use Rattle.gq_ram.specs.Ledgers.{Ledger, IsBalanced}
-use Rattle.gq_ram.proofs.Sums.{is_same, is_other, owner_default}
-use Rattle.gq_ram.proofs.Closing.{IsCleared, cleared_more, cleared_skip, cleared_paid}
+use Rattle.gq_ram.proofs.Account_sums.{is_same, is_other, owner_default}
+use Rattle.gq_ram.proofs.Closed_account_balances.{IsCleared, cleared_more, cleared_skip, cleared_paid}
 use Rattle.gq_ram.proofs.accounts.Accounts.free_all.Goals.{then-is_it, else-is_it}
 use Rattle.gq_ram.proofs.accounts.Accounts.free_all.Goals as goal
 

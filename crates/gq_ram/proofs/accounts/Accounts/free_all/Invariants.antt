@@ -1,4 +1,4 @@
-use Rattle.gq_ram.proofs.Closing.{IsCleared}
+use Rattle.gq_ram.proofs.Closed_account_balances.{IsCleared}
 use Rattle.gq_ram.proofs.accounts.Accounts.free_all.Given as goal
 
 abbrev pub invariant-loop-k : goal.invariant-loop-k

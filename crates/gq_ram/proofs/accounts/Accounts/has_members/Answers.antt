@@ -1,7 +1,7 @@
 use Rattle.std.proofs.Common.{ap, ◌∙◌}
-use Rattle.gq_ram.specs.Entries.{has_members}
+use Rattle.gq_ram.specs.Account_table.{has_members}
 use Rattle.gq_ram.specs.Ledgers.{Ledger}
-use Rattle.gq_ram.proofs.Numbers.{refers, refers_all}
+use Rattle.gq_ram.proofs.Numbered_account_tables.{refers, refers_all}
 use Rattle.gq_ram.proofs.accounts.Accounts.has_members.Goals as goal
 
 pub loop-member-init : goal.loop-member-init

@@ -1,6 +1,6 @@
 use Rattle.std.proofs.Common.{◌≡◌}
-use Rattle.gq_ram.specs.Entries.{has_members}
-use Rattle.gq_ram.proofs.Numbers.{refers}
+use Rattle.gq_ram.specs.Account_table.{has_members}
+use Rattle.gq_ram.proofs.Numbered_account_tables.{refers}
 use Rattle.gq_ram.proofs.accounts.Accounts.has_members.Given as goal
 
 abbrev pub invariant-loop-member : goal.invariant-loop-member

@@ -1,7 +1,7 @@
 use Rattle.std.proofs.Common.{◌≡◌, ◌/◌, ℕ, length, refl, sym, ap, subst, ◌∙◌}
-use Rattle.gq_pages.specs.Frames.{all_free, count_free}
+use Rattle.gq_pages.specs.Frame_map.{all_free, count_free}
 use Rattle.gq_ram.specs.Ledgers.{IsBalanced, price_where, caps_where}
-use Rattle.gq_ram.proofs.First.{first_balanced, first_is, count_all_free, length_all_free}
+use Rattle.gq_ram.proofs.First_balances.{first_balanced, first_is, count_all_free, length_all_free}
 use Rattle.gq_ram.proofs.accounts.Accounts.new.Goals.{in-Some, in-None}
 use Rattle.gq_ram.proofs.accounts.Accounts.new.Goals as goal
 

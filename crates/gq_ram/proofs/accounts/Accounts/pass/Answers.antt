@@ -1,10 +1,10 @@
 use Rattle.std.proofs.Common.{◌≡◌, ◌≤◌, refl, arith, sym, ap, subst, ◌∙◌}
 use Rattle.gq_ram.specs.declared.account.Account.{Account}
-use Rattle.gq_ram.specs.Entries.{account_at, available, available_caps, IsOpen}
+use Rattle.gq_ram.specs.Account_table.{account_at, available, available_caps, IsOpen}
 use Rattle.gq_ram.specs.Ledgers.{Ledger}
-use Rattle.gq_ram.specs.internal.Fields.{ledger_view}
-use Rattle.gq_ram.proofs.Sums.{account_within}
-use Rattle.gq_ram.proofs.Balances.{both_balanced}
+use Rattle.gq_ram.specs.internal.Accounts_fields.{ledger_view}
+use Rattle.gq_ram.proofs.Account_sums.{account_within}
+use Rattle.gq_ram.proofs.Balances_after_calls.{both_balanced}
 use Rattle.gq_ram.proofs.accounts.Accounts.pass.Goals as goal
 
 pub overflow_add-more : goal.overflow_add-more

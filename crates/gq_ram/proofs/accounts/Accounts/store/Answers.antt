@@ -1,8 +1,8 @@
 use Rattle.std.proofs.Common.{◌≡◌, ◌<◌, ℕ, List, length, arith, sym, subst, ap, ◌∙◌, Some, set, length-set}
 use Rattle.gq_dataspace.specs.Dataspaces.{content_of}
 use Rattle.gq_ram.specs.Ledgers.{Ledger}
-use Rattle.gq_ram.specs.internal.Fields.{ledger_view}
-use Rattle.gq_ram.proofs.Freeing.{written_balanced}
+use Rattle.gq_ram.specs.internal.Accounts_fields.{ledger_view}
+use Rattle.gq_ram.proofs.Balances_freed_spaces.{written_balanced}
 use Rattle.gq_ram.proofs.accounts.Accounts.store.Goals as goal
 
 pub invariant_of-self : goal.invariant_of-self

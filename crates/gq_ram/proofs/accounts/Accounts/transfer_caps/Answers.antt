@@ -1,11 +1,11 @@
 use Rattle.std.proofs.Common.{rules}
 use Rattle.std.proofs.Common.{◌≡◌, ◌≤◌, ◌-◌, true, refl, arith, sym, ap, subst, ◌∙◌}
 use Rattle.gq_ram.specs.declared.account.Account.{Account}
-use Rattle.gq_ram.specs.Entries.{account_at, are_related, IsOpen}
+use Rattle.gq_ram.specs.Account_table.{account_at, are_related, IsOpen}
 use Rattle.gq_ram.specs.Ledgers.{Ledger}
-use Rattle.gq_ram.specs.internal.Fields.{ledger_view}
-use Rattle.gq_ram.proofs.Sums.{related_apart, account_within}
-use Rattle.gq_ram.proofs.Balances.{caps_balanced}
+use Rattle.gq_ram.specs.internal.Accounts_fields.{ledger_view}
+use Rattle.gq_ram.proofs.Account_sums.{related_apart, account_within}
+use Rattle.gq_ram.proofs.Balances_after_calls.{caps_balanced}
 use Rattle.gq_ram.proofs.accounts.Accounts.transfer_caps.Goals as goal
 
 pub overflow_add-more : goal.overflow_add-more

@@ -1,7 +1,7 @@
 use Rattle.std.proofs.Common.{◌≡◌, ◌<◌, length, set, Some, arith, refl, sym, subst, ◌∙◌, length-set}
 use Rattle.gq_region.specs.declared.map.Range.{Range}
-use Rattle.gq_region.specs.Places.{Places, lowest_free}
-use Rattle.gq_region.proofs.Lowest.{below_lowest, lowest_within, taken_more}
+use Rattle.gq_region.specs.Region_places.{Places, lowest_free}
+use Rattle.gq_region.proofs.Lowest_free_region.{below_lowest, lowest_within, taken_more}
 use Rattle.gq_region.proofs.map.RegionMap.attach.Goals as goal
 
 pub invariant_of-self : goal.invariant_of-self

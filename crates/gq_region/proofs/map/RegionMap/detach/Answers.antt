@@ -1,5 +1,5 @@
 use Rattle.std.proofs.Common.{◌/◌, length, arith, ap}
-use Rattle.gq_region.proofs.Lowest.{taken_there}
+use Rattle.gq_region.proofs.Lowest_free_region.{taken_there}
 use Rattle.gq_region.proofs.map.RegionMap.detach.Goals as goal
 
 pub overflow_cast-place : goal.overflow_cast-place

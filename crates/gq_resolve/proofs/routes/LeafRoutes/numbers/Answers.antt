@@ -1,6 +1,6 @@
 use Rattle.std.proofs.Common.{[], ◌∷◌, ◌++◌, ◌+◌, ◌∙◌, ap, drop}
 use Rattle.gq_resolve.specs.Served.{servers}
-use Rattle.gq_resolve.proofs.Pushed.{next_is, onto}
+use Rattle.gq_resolve.proofs.Mapped_list_growth.{next_is, onto}
 use Rattle.gq_resolve.proofs.routes.LeafRoutes.numbers.Goals as goal
 
 pub loop-service-preserved : goal.loop-service-preserved

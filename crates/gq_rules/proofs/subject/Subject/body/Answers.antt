@@ -1,6 +1,6 @@
 use Rattle.std.proofs.Common.{◌∙◌, ap}
 use Rattle.gq_model.specs.machine.Program.{section_in}
-use Rattle.gq_rules.proofs.Programs.{body_loops, body_few}
+use Rattle.gq_rules.proofs.Program_section_facts.{body_loops, body_few}
 use Rattle.gq_rules.proofs.subject.Subject.body.Goals as goal
 
 pub returns-clause-loops : goal.returns-clause-loops

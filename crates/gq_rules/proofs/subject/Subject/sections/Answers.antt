@@ -1,4 +1,4 @@
-use Rattle.gq_rules.proofs.Programs.{each_section, few_statements}
+use Rattle.gq_rules.proofs.Program_section_facts.{each_section, few_statements}
 use Rattle.gq_rules.proofs.subject.Subject.sections.Goals as goal
 
 pub returns-clause-each : goal.returns-clause-each

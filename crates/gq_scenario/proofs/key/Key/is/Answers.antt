@@ -1,5 +1,5 @@
 use Rattle.std.proofs.Common.{refl, sym}
-use Rattle.gq_scenario.proofs.Keyed.{text_eq-read}
+use Rattle.gq_scenario.proofs.Table_key_lookup.{text_eq-read}
 use Rattle.gq_scenario.proofs.key.Key.is.Goals as goal
 
 pub returns : goal.returns

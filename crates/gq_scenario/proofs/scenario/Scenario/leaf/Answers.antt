@@ -3,7 +3,7 @@ use Rattle.std.specs.Prelude.{slice_get}
 use Rattle.gq_model.specs.machine.Accounts.{leaf_count}
 use Rattle.gq_model.specs.machine.Scenario.{Scenario}
 use Rattle.gq_scenario.specs.Sizes.{leaves_in}
-use Rattle.gq_scenario.proofs.Preorder.{components-count, component_leaf}
+use Rattle.gq_scenario.proofs.Preorder_leaves.{components-count, component_leaf}
 use Rattle.gq_scenario.proofs.scenario.Scenario.leaf.Goals as goal
 
 pub unreachable-requires : goal.unreachable-requires

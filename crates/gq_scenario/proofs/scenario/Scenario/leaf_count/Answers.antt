@@ -2,7 +2,7 @@ use Rattle.std.proofs.Common.{◌+◌, ap, sym, ◌∙◌, arith}
 use Rattle.gq_model.specs.machine.Accounts.{leaf_count}
 use Rattle.gq_model.specs.machine.Scenario.{Scenario}
 use Rattle.gq_scenario.proofs.Tree_counts.{counted_some}
-use Rattle.gq_scenario.proofs.Preorder.{components-count}
+use Rattle.gq_scenario.proofs.Preorder_leaves.{components-count}
 use Rattle.gq_scenario.proofs.scenario.Scenario.leaf_count.Goals as goal
 
 pub returns-clause-count : goal.returns-clause-count

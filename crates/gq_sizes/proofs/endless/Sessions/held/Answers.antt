@@ -3,7 +3,7 @@ use Rattle.gq_caps.specs.Known.{all_known, known}
 use Rattle.gq_model.specs.machine.Lists.{any_of}
 use Rattle.gq_sizes.specs.Endless.{leads}
 use Rattle.gq_sizes.specs.Passing.{passing}
-use Rattle.gq_sizes.proofs.Finding.{any_end, any_here, any_map}
+use Rattle.gq_sizes.proofs.Any_test_search.{any_end, any_here, any_map}
 use Rattle.gq_sizes.proofs.endless.Sessions.held.Goals as goal
 
 pub returns-then-leads : goal.returns-then-leads

@@ -1,11 +1,11 @@
 use Rattle.std.proofs.Common.{◌≡◌, ◌↔◌, false, None, refl, sym, ap, subst, ◌∙◌}
 use Rattle.gq_contents.specs.Contents.{entry_in, removed, with_entry}
 use Rattle.gq_contents.specs.declared.content.Content.TheVariants.{Pool}
-use Rattle.gq_trade.specs.declared.session.Spot.TheVariants.{InLeaf}
+use Rattle.gq_trade.specs.declared.session.SlotId.TheVariants.{InLeaf}
 use Rattle.gq_slots.specs.Slots.{Slots, slot_of}
-use Rattle.gq_slots.proofs.Facts.{places_entry, removed_less}
-use Rattle.gq_slots.proofs.Answering.{at_inside, gives_place, is_among, slot_paying}
-use Rattle.gq_slots.proofs.Inside.{slots_of}
+use Rattle.gq_slots.proofs.Content_price_facts.{places_entry, removed_less}
+use Rattle.gq_slots.proofs.Slot_call_effects.{at_inside, gives_place, is_among, slot_paying}
+use Rattle.gq_slots.proofs.Slots_view_fields.{slots_of}
 use Rattle.gq_slots.proofs.slots.Slots.give_own.Goals as goal
 
 pub give-requires-clause-kept : goal.give-requires-clause-kept

@@ -1,10 +1,10 @@
 use Rattle.std.proofs.Common.{◌≡◌, ap, subst, sym, ◌∙◌}
 use Rattle.gq_ram.specs.Ledgers.{IsBalanced}
 use Rattle.gq_slots.specs.Slots.{ArePaidFor, AreRead, AreRises, AreSmallEntries, Slots}
-use Rattle.gq_slots.proofs.Paid.{paid_at}
-use Rattle.gq_slots.proofs.Rising.{rises, small_entries}
-use Rattle.gq_slots.proofs.Worlds.{reads}
-use Rattle.gq_slots.proofs.Inside.{slots_of}
+use Rattle.gq_slots.proofs.Leaf_use_paid.{paid_at}
+use Rattle.gq_slots.proofs.Class_price_rises.{rises, small_entries}
+use Rattle.gq_slots.proofs.Slot_change_worlds.{reads}
+use Rattle.gq_slots.proofs.Slots_view_fields.{slots_of}
 use Rattle.gq_slots.proofs.slots.Slots.laws.Goals as goal
 
 pub returns-clause-held : goal.returns-clause-held

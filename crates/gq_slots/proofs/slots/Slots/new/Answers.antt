@@ -1,7 +1,7 @@
 use Rattle.std.proofs.Common.{◌≡◌, length, replicate, subst, ap, ◌∙◌, arith}
 use Rattle.gq_contents.specs.declared.content.Content.TheVariants.{Empty}
 use Rattle.gq_slots.specs.Slots.{AreNew}
-use Rattle.gq_slots.proofs.First.{first_slots}
+use Rattle.gq_slots.proofs.First_empty_slots.{first_slots}
 use Rattle.gq_slots.proofs.slots.Slots.new.Goals as goal
 
 count_is : (c : goal.In-Ok) → c.len-count.result ≡ length c.args.plan.leaves.items

@@ -1,9 +1,9 @@
 use Rattle.std.proofs.Common.{refl, sym, ◌∙◌}
 use Rattle.gq_contents.specs.declared.content.Content.TheVariants.{Pool}
-use Rattle.gq_trade.specs.declared.session.Spot.TheVariants.{InLeaf}
+use Rattle.gq_trade.specs.declared.session.SlotId.TheVariants.{InLeaf}
 use Rattle.gq_slots.specs.Slots.{Slots}
-use Rattle.gq_slots.proofs.Answering.{at_inside, is_among}
-use Rattle.gq_slots.proofs.Inside.{slots_of}
+use Rattle.gq_slots.proofs.Slot_call_effects.{at_inside, is_among}
+use Rattle.gq_slots.proofs.Slots_view_fields.{slots_of}
 use Rattle.gq_slots.proofs.slots.Slots.peek_own.Goals as goal
 
 pub peek-requires-clause-kept : goal.peek-requires-clause-kept

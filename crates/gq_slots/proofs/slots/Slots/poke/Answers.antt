@@ -1,25 +1,26 @@
 use Rattle.gq_model.specs.machine.Memory.{entry_with}
 use Rattle.gq_contents.specs.Contents.{with_entry}
 use Rattle.gq_slots.specs.Slots.{Slots}
-use Rattle.gq_slots.proofs.Facts.{entry_same, places_entry, price_entry}
-use Rattle.gq_slots.proofs.Answering.{at_inside, is_among, stays}
-use Rattle.gq_slots.proofs.Inside.{slots_of}
+use Rattle.gq_slots.proofs.Content_price_facts.{entry_same, places_entry, price_entry}
+use Rattle.gq_slots.proofs.Slot_call_effects.{at_inside, is_among, stays}
+use Rattle.gq_slots.proofs.Slots_view_fields.{slots_of}
 use Rattle.gq_slots.proofs.slots.Slots.poke.Goals as goal
 
 pub poke-requires-clause-kept : goal.poke-requires-clause-kept
 poke-requires-clause-kept c =
     let s : Slots = slots_of c.self.inside in
-    is_among s c.args.spot c.index.result.now c.content-content.result
-    (at_inside c.args.self.now s c.args.spot c.index.result.now c.content-content.result c.holder-holder.result c.self.view_is c.self.invariant c.requires.there
+    is_among s c.args.slot_id c.index.result.now c.content-content.result
+    (at_inside c.args.self.now s c.args.slot_id c.index.result.now c.content-content.result c.holder-holder.result c.self.view_is c.self.invariant
+    c.requires.there
     c.holder-holder.ensures.is c.holder-holder.ensures.there c.content-content.ensures.is c.index.ensures c.requires.paid)
 
 pub invariant_of-self : goal.invariant_of-self
 invariant_of-self c =
     let s : Slots = slots_of c.self.inside in
-    let a = at_inside c.args.self.now s c.args.spot c.index.result.now c.content-content.result c.holder-holder.result c.self.view_is c.self.invariant
+    let a = at_inside c.args.self.now s c.args.slot_id c.index.result.now c.content-content.result c.holder-holder.result c.self.view_is c.self.invariant
     c.requires.there c.holder-holder.ensures.is c.holder-holder.ensures.there c.content-content.ensures.is c.index.ensures c.requires.paid in
     let e = c.poke.ensures in
-    (stays c.args.self.now s c.poke.new.store c.args.spot c.index.result.now c.content-content.result
+    (stays c.args.self.now s c.poke.new.store c.args.slot_id c.index.result.now c.content-content.result
     (with_entry c.args.index (λ n. entry_with c.args.offset c.args.value)) c.self.view_is a
     c.laws.ensures.trading e.rest e.changes e.seen e.left e.caps (λ q y. price_entry q c.args.index (λ n. entry_with c.args.offset c.args.value) y)
     (λ k y. places_entry k c.args.index (λ n. entry_with c.args.offset c.args.value) y (λ n o. entry_same c.args.offset c.args.value n o))).0
@@ -27,10 +28,10 @@ invariant_of-self c =
 pub returns : goal.returns
 returns c =
     let s : Slots = slots_of c.self.inside in
-    let a = at_inside c.args.self.now s c.args.spot c.index.result.now c.content-content.result c.holder-holder.result c.self.view_is c.self.invariant
+    let a = at_inside c.args.self.now s c.args.slot_id c.index.result.now c.content-content.result c.holder-holder.result c.self.view_is c.self.invariant
     c.requires.there c.holder-holder.ensures.is c.holder-holder.ensures.there c.content-content.ensures.is c.index.ensures c.requires.paid in
     let e = c.poke.ensures in
-    (stays c.args.self.now s c.poke.new.store c.args.spot c.index.result.now c.content-content.result
+    (stays c.args.self.now s c.poke.new.store c.args.slot_id c.index.result.now c.content-content.result
     (with_entry c.args.index (λ n. entry_with c.args.offset c.args.value)) c.self.view_is a
     c.laws.ensures.trading e.rest e.changes e.seen e.left e.caps (λ q y. price_entry q c.args.index (λ n. entry_with c.args.offset c.args.value) y)
     (λ k y. places_entry k c.args.index (λ n. entry_with c.args.offset c.args.value) y (λ n o. entry_same c.args.offset c.args.value n o))).1

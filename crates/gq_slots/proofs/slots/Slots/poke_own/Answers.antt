@@ -2,11 +2,11 @@ use Rattle.std.proofs.Common.{refl, sym, ◌∙◌}
 use Rattle.gq_model.specs.machine.Memory.{entry_with}
 use Rattle.gq_contents.specs.Contents.{with_entry}
 use Rattle.gq_contents.specs.declared.content.Content.TheVariants.{Pool}
-use Rattle.gq_trade.specs.declared.session.Spot.TheVariants.{InLeaf}
+use Rattle.gq_trade.specs.declared.session.SlotId.TheVariants.{InLeaf}
 use Rattle.gq_slots.specs.Slots.{Slots}
-use Rattle.gq_slots.proofs.Facts.{entry_same, places_entry, price_entry}
-use Rattle.gq_slots.proofs.Answering.{at_inside, is_among, stays}
-use Rattle.gq_slots.proofs.Inside.{slots_of}
+use Rattle.gq_slots.proofs.Content_price_facts.{entry_same, places_entry, price_entry}
+use Rattle.gq_slots.proofs.Slot_call_effects.{at_inside, is_among, stays}
+use Rattle.gq_slots.proofs.Slots_view_fields.{slots_of}
 use Rattle.gq_slots.proofs.slots.Slots.poke_own.Goals as goal
 
 pub poke-requires-clause-kept : goal.poke-requires-clause-kept

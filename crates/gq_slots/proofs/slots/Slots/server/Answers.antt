@@ -2,7 +2,7 @@ use Rattle.std.proofs.Common.{length, ap, sym, subst, arith}
 use Rattle.gq_trade.specs.Numbers.{IsTaken}
 use Rattle.gq_trade.proofs.Sessions_kept.{between_at}
 use Rattle.gq_slots.specs.Slots.{Slots}
-use Rattle.gq_slots.proofs.Inside.{slots_of}
+use Rattle.gq_slots.proofs.Slots_view_fields.{slots_of}
 use Rattle.gq_slots.proofs.slots.Slots.server.Goals as goal
 
 pub returns-clause-there : goal.returns-clause-there

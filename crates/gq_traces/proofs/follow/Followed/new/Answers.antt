@@ -2,7 +2,7 @@
 use Rattle.std.proofs.Common.{subst}
 use Rattle.gq_model.specs.machine.Scenario.{Scenario, components}
 use Rattle.gq_traces.specs.internal.Flat.{ArePrograms, programs_of}
-use Rattle.gq_traces.proofs.Following.{started}
+use Rattle.gq_traces.proofs.Unprinted_turns.{started}
 use Rattle.gq_traces.proofs.follow.Followed.new.Goals as goal
 
 pub returns-clause-followed : goal.returns-clause-followed

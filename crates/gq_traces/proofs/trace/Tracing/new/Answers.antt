@@ -1,8 +1,8 @@
 -- At the start.
 use Rattle.std.proofs.Common.{sym, subst, List}
 use Rattle.gq_model.specs.machine.Scenario.{Scenario, components}
-use Rattle.gq_traces.specs.Places.{start_aheads}
-use Rattle.gq_traces.specs.declared.numbered.Numbered.{Numbered as Entries}
+use Rattle.gq_traces.specs.Step_positions.{start_aheads}
+use Rattle.gq_traces.specs.declared.numbered_program.NumberedProgram.{NumberedProgram as Entries}
 use Rattle.gq_traces.specs.internal.Flat.{AreAheads, ArePrograms, programs_of}
 use Rattle.gq_traces.proofs.Leaves_standing.{all_stand}
 use Rattle.gq_traces.proofs.trace.Tracing.new.Goals as goal

@@ -1,6 +1,6 @@
 -- The place of the end of a list of statements.
 use Rattle.std.proofs.Common.{◌∙◌, [], drop}
-use Rattle.gq_traces.proofs.Passing.{end_here, entry_there, innermost_within, loop_here}
+use Rattle.gq_traces.proofs.Position_after_step.{end_here, entry_there, innermost_within, loop_here}
 use Rattle.gq_traces.proofs.tracker.Ahead.end_place.Goals as goal
 
 pub entry_place-requires : goal.entry_place-requires

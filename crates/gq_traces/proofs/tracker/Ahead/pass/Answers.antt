@@ -1,7 +1,7 @@
 -- Past a statement.
 use Rattle.std.proofs.Common.{[], Some, sym, ap, refl, arith, ◌∙◌}
 use Rattle.std.proofs.lemmas.Option.{slice_get-get_or}
-use Rattle.gq_traces.proofs.Passing.{loop_room, pass_if, pass_loop, pass_plain, place_within}
+use Rattle.gq_traces.proofs.Position_after_step.{loop_room, pass_if, pass_loop, pass_plain, place_within}
 use Rattle.gq_traces.proofs.tracker.Ahead.pass.Goals as goal
 
 pub index-requires : goal.index-requires

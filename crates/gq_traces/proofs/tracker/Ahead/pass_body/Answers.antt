@@ -3,7 +3,7 @@ use Rattle.std.proofs.Common.{◌∙◌, [], Some, ap, arith, drop, get_or, leng
 use Rattle.gq_traces.specs.declared.tracker.Round.{Round}
 use Rattle.std.proofs.lemmas.Option.{slice_get-get_or}
 use Rattle.gq_traces.specs.internal.Flat.{IsLoop}
-use Rattle.gq_traces.proofs.Passing.{innermost_loop, innermost_within, pass_out, pass_round}
+use Rattle.gq_traces.proofs.Position_after_step.{innermost_loop, innermost_within, pass_out, pass_round}
 use Rattle.gq_traces.proofs.tracker.Ahead.pass_body.Goals as goal
 
 pub index-requires : goal.index-requires

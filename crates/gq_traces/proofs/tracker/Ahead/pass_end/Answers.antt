@@ -1,6 +1,6 @@
 -- Past the end of a list of statements.
 use Rattle.std.proofs.Common.{refl}
-use Rattle.gq_traces.proofs.Passing.{pass_none}
+use Rattle.gq_traces.proofs.Position_after_step.{pass_none}
 use Rattle.gq_traces.proofs.tracker.Ahead.pass_end.Goals as goal
 
 pub returns-in-None : goal.returns-in-None

@@ -1,6 +1,6 @@
 -- The place of the next step.
 use Rattle.std.proofs.Common.{◌∙◌}
-use Rattle.gq_traces.proofs.Passing.{entry_there, place_here, place_within}
+use Rattle.gq_traces.proofs.Position_after_step.{entry_there, place_here, place_within}
 use Rattle.gq_traces.proofs.tracker.Ahead.place.Goals as goal
 
 pub entry_place-requires : goal.entry_place-requires

@@ -1,6 +1,6 @@
 -- One statement more.
 use Rattle.std.proofs.Common.{◌∙◌, sym, arith}
-use Rattle.gq_traces.proofs.Straight.{plain_more}
+use Rattle.gq_traces.proofs.Straight_line_statements.{plain_more}
 use Rattle.gq_traces.proofs.tracker.Ahead.straight.Goals as goal
 
 pub loop-count-preserved : goal.loop-count-preserved

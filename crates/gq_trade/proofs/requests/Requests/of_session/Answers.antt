@@ -2,7 +2,7 @@
 use Rattle.std.proofs.Common.{◌+◌, sym, ap, ◌∙◌, drop}
 use Rattle.std.proofs.lemmas.List.{at_drop_all, at_drop_more}
 use Rattle.gq_trade.specs.Queues.{request_of}
-use Rattle.gq_trade.proofs.Places.{blank, request_further, request_here}
+use Rattle.gq_trade.proofs.Oldest_request_position.{blank, request_further, request_here}
 use Rattle.gq_trade.proofs.requests.Requests.of_session.Goals as goal
 
 pub returns : goal.returns

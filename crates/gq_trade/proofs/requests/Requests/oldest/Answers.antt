@@ -2,7 +2,7 @@ use Rattle.std.proofs.Common.{◌≡◌, ◌<◌, List, length, get_or, Some, sy
 use Rattle.gq_trade.specs.declared.requests.Request.{Request}
 use Rattle.std.specs.List.{remove}
 use Rattle.gq_trade.specs.Queues.{place_to}
-use Rattle.gq_trade.proofs.Places.{blank, no_place, at_place, place_within}
+use Rattle.gq_trade.proofs.Oldest_request_position.{blank, no_place, at_place, place_within}
 use Rattle.gq_trade.proofs.requests.Requests.oldest.Goals as goal
 
 pub returns-then-place-len-clause-none : goal.returns-then-place-len-clause-none

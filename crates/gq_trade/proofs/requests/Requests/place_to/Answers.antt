@@ -1,6 +1,6 @@
 use Rattle.std.proofs.Common.{◌≡◌, sym, ap, ◌∙◌, arith}
 use Rattle.gq_trade.specs.Queues.{place_to}
-use Rattle.gq_trade.proofs.Places.{none_before, none_at_all, blank}
+use Rattle.gq_trade.proofs.Oldest_request_position.{none_before, none_at_all, blank}
 use Rattle.gq_trade.proofs.requests.Requests.place_to.Goals as goal
 
 pub returns-then-requests-k : goal.returns-then-requests-k

@@ -2,7 +2,7 @@ use Rattle.std.proofs.Common.{◌≡◌, ◌<◌, List, length, get_or, Some, re
 use Rattle.gq_trade.specs.declared.requests.Request.{Request}
 use Rattle.std.specs.List.{remove}
 use Rattle.gq_trade.specs.Queues.{place_to}
-use Rattle.gq_trade.proofs.Places.{no_place, at_place, place_within}
+use Rattle.gq_trade.proofs.Oldest_request_position.{no_place, at_place, place_within}
 use Rattle.gq_trade.proofs.requests.Requests.take_oldest.Goals as goal
 
 pub returns-then-place-len-clause-none : goal.returns-then-place-len-clause-none

@@ -2,8 +2,8 @@ use Rattle.std.proofs.Common.{◌≡◌, ◌<◌, IfSome, sym, ap, subst, ◌∙
 use Rattle.gq_trade.specs.declared.requests.Ask.TheVariants.{Upgrade}
 use Rattle.gq_trade.specs.Trading.{Begins, session_at}
 use Rattle.gq_trade.specs.Trades.{Trades}
-use Rattle.gq_trade.proofs.Inside.{here}
-use Rattle.gq_trade.proofs.Holding.{accepted_holds}
+use Rattle.gq_trade.proofs.Trades_view_fields.{here}
+use Rattle.gq_trade.proofs.Quotas_after_trades.{accepted_holds}
 use Rattle.gq_trade.proofs.Sessions_kept.{begins_requests, taken_is}
 use Rattle.gq_trade.proofs.trades.Trades.accept.Goals as goal
 

@@ -1,13 +1,13 @@
 use Rattle.std.proofs.Common.{◌≡◌, ◌<◌, length, ◌++◌, [], ◌∷◌, refl, rules, sym, ap, subst, ◌∙◌}
-use Rattle.gq_ram.specs.Entries.{available, available_caps}
+use Rattle.gq_ram.specs.Account_table.{available, available_caps}
 use Rattle.gq_ram.specs.Ledgers.{IsBalanced}
 use Rattle.gq_trade.specs.declared.requests.Ask.TheVariants.{Open}
-use Rattle.gq_trade.specs.internal.Fields.{Holds, trades_of}
+use Rattle.gq_trade.specs.internal.Trades_fields.{Holds, trades_of}
 use Rattle.gq_trade.specs.Trading.{asked, entered, fresh, given, node_of}
 use Rattle.gq_trade.specs.Trades.{Trades, AreParties, IsLive, with_trading}
 use Rattle.gq_trade.specs.Waiting.{IsIdle}
-use Rattle.gq_trade.proofs.Inside.{here}
-use Rattle.gq_trade.proofs.Holding.{asked_holds, enough_of, given_is, room_for_one}
+use Rattle.gq_trade.proofs.Trades_view_fields.{here}
+use Rattle.gq_trade.proofs.Quotas_after_trades.{asked_holds, enough_of, given_is, room_for_one}
 use Rattle.gq_trade.proofs.trades.Trades.ask.Goals as goal
 
 pub push-requires : goal.push-requires
@@ -23,7 +23,7 @@ invariant_of-self-2 c =
     let w : Trades = here c.self.inside in
     let v : w ≡ c.args.self.now = c.self.view_is in
     let x = c.args.client in let y = c.args.server in
-    let s = fresh x c.args.spot y c.args.service c.args.donation in
+    let s = fresh x c.args.slot_id y c.args.service c.args.donation in
     let p : AreParties w s = record {
       client = subst (λ (a : Trades). IsLive a x) (sym v) c.requires.can.client;
       server = subst (λ (a : Trades). IsLive a y) (sym v) c.requires.can.server;

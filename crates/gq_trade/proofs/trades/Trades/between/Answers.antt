@@ -3,8 +3,8 @@ use Rattle.gq_trade.specs.Numbers.{IsTaken}
 use Rattle.gq_trade.specs.declared.session.Session.{Session}
 use Rattle.gq_trade.specs.Trading.{found}
 use Rattle.gq_trade.specs.Trades.{Trades, AreParties}
-use Rattle.gq_trade.proofs.Inside.{here}
-use Rattle.gq_trade.proofs.Holding.{parties_at}
+use Rattle.gq_trade.proofs.Trades_view_fields.{here}
+use Rattle.gq_trade.proofs.Quotas_after_trades.{parties_at}
 use Rattle.gq_trade.proofs.trades.Trades.between.Goals as goal
 
 pub returns-clause-parties : goal.returns-clause-parties

@@ -1,4 +1,4 @@
-use Rattle.gq_trade.proofs.Returning.{bytes_back, caps_back}
+use Rattle.gq_trade.proofs.Returnable_donation.{bytes_back, caps_back}
 use Rattle.gq_trade.proofs.trades.Trades.closed.Goals as goal
 
 pub part-requires-clause-enough : goal.part-requires-clause-enough

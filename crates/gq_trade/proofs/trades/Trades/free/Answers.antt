@@ -1,9 +1,9 @@
 use Rattle.std.proofs.Common.{◌≡◌, sym, ap, subst, ◌∙◌}
-use Rattle.gq_ram.specs.Entries.{IsOpen}
+use Rattle.gq_ram.specs.Account_table.{IsOpen}
 use Rattle.gq_trade.specs.Trading.{Frees, account_no, with_memory}
 use Rattle.gq_trade.specs.Trades.{Trades}
-use Rattle.gq_trade.proofs.Inside.{here}
-use Rattle.gq_trade.proofs.Holding.{memory_holds}
+use Rattle.gq_trade.proofs.Trades_view_fields.{here}
+use Rattle.gq_trade.proofs.Quotas_after_trades.{memory_holds}
 use Rattle.gq_trade.proofs.Sessions_kept.{frees_of}
 use Rattle.gq_trade.proofs.trades.Trades.free.Goals as goal
 

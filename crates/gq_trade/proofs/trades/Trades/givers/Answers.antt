@@ -2,8 +2,8 @@ use Rattle.std.proofs.Common.{◌≡◌, sym, subst}
 use Rattle.gq_ram.specs.Giving.{CanGive}
 use Rattle.gq_trade.specs.Trading.{node_of}
 use Rattle.gq_trade.specs.Trades.{Trades, IsLive}
-use Rattle.gq_trade.proofs.Inside.{here}
-use Rattle.gq_trade.proofs.Holding.{can_give}
+use Rattle.gq_trade.proofs.Trades_view_fields.{here}
+use Rattle.gq_trade.proofs.Quotas_after_trades.{can_give}
 use Rattle.gq_trade.proofs.Sessions_kept.{item}
 use Rattle.gq_trade.proofs.trades.Trades.givers.Goals as goal
 

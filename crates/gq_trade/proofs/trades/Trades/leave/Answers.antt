@@ -1,15 +1,15 @@
 use Rattle.std.proofs.Common.{◌≡◌, IfSome, false, slice_set, sym, ap, subst, ◌∙◌}
-use Rattle.gq_ram.specs.Entries.{has_members}
+use Rattle.gq_ram.specs.Account_table.{has_members}
 use Rattle.gq_ram.specs.Ledgers.{IsBalanced}
-use Rattle.gq_ram.specs.Trees.{number}
+use Rattle.gq_ram.specs.Account_tree.{number}
 use Rattle.gq_trade.specs.Stores.{Memory}
 use Rattle.gq_trade.specs.Trading.{account_no, account_of, node_of, with_memory}
-use Rattle.gq_trade.specs.declared.node.Stage.TheVariants.{Ended}
-use Rattle.gq_trade.specs.Ends.{CanStart, HasNoSessions, follower, with_stage}
+use Rattle.gq_trade.specs.declared.trade_node.Stage.TheVariants.{Ended}
+use Rattle.gq_trade.specs.Leaf_ends.{CanStart, HasNoSessions, follower, with_stage}
 use Rattle.gq_trade.specs.Trades.{Trades, IsLive}
-use Rattle.gq_trade.proofs.Inside.{here}
-use Rattle.gq_trade.proofs.Holding.{follower_now, left_now}
-use Rattle.gq_trade.proofs.Leaving.{no_members}
+use Rattle.gq_trade.proofs.Trades_view_fields.{here}
+use Rattle.gq_trade.proofs.Quotas_after_trades.{follower_now, left_now}
+use Rattle.gq_trade.proofs.Leaf_end_start.{no_members}
 use Rattle.gq_trade.proofs.Sessions_kept.{item as number_at}
 use Rattle.gq_trade.proofs.trades.Trades.leave.Goals as goal
 

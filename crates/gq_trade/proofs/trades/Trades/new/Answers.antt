@@ -1,16 +1,16 @@
 use Rattle.std.proofs.Common.{◌≡◌, ℕ, [], ◌+◌, ◌<◌, length, get_or, map, refl, sym, ap, subst, ◌∙◌, arith}
 use Rattle.std.proofs.lemmas.List.{length-map}
-use Rattle.gq_ram.specs.Entries.{account_at, no_amount}
-use Rattle.gq_ram.specs.Trees.{AreNodes, IsTree, account_of, number}
+use Rattle.gq_ram.specs.Account_table.{account_at, no_amount}
+use Rattle.gq_ram.specs.Account_tree.{AreNodes, IsTree, account_of, number}
 use Rattle.gq_ram.specs.Handing.{spent}
 use Rattle.gq_ram.specs.Ledgers.{Ledger, first_ledger, with_accounts}
 use Rattle.gq_trade.specs.Trading.{IsTrading}
 use Rattle.gq_trade.specs.Balances.{handed}
-use Rattle.gq_trade.specs.internal.Fields.{Holds, trades_of}
+use Rattle.gq_trade.specs.internal.Trades_fields.{Holds, trades_of}
 use Rattle.gq_trade.specs.Numbers.{Numbers}
 use Rattle.gq_trade.specs.Trades.{IsTrades}
 use Rattle.gq_trade.specs.declared.session.Session.{Session}
-use Rattle.gq_trade.proofs.First.{counted_here, empty_at, first_at, first_kept, fits_here, unused_at}
+use Rattle.gq_trade.proofs.First_trades.{counted_here, empty_at, first_at, first_kept, fits_here, unused_at}
 use Rattle.gq_trade.proofs.trades.Trades.new.Goals as goal
 
 pub hand_out-requires-clause-nodes : goal.hand_out-requires-clause-nodes

@@ -1,14 +1,14 @@
 use Rattle.std.proofs.Common.{◌≡◌, ◌≤◌, sym, ap, subst, ◌∙◌}
-use Rattle.gq_ram.specs.Entries.{available, available_caps}
-use Rattle.gq_ram.specs.Trees.{donated}
+use Rattle.gq_ram.specs.Account_table.{available, available_caps}
+use Rattle.gq_ram.specs.Account_tree.{donated}
 use Rattle.gq_trade.specs.Numbers.{IsTaken}
 use Rattle.gq_trade.specs.Stores.{Memory}
 use Rattle.gq_trade.specs.declared.session.Session.{Session}
-use Rattle.gq_trade.specs.internal.Fields.{Holds, trades_of}
+use Rattle.gq_trade.specs.internal.Trades_fields.{Holds, trades_of}
 use Rattle.gq_trade.specs.Trading.{AreOfOthers, client_of, given, its_account, node_of, parted, server_of, session_at}
 use Rattle.gq_trade.specs.Trades.{Trades, with_trading}
-use Rattle.gq_trade.proofs.Inside.{here}
-use Rattle.gq_trade.proofs.Holding.{given_is, parted_holds}
+use Rattle.gq_trade.proofs.Trades_view_fields.{here}
+use Rattle.gq_trade.proofs.Quotas_after_trades.{given_is, parted_holds}
 use Rattle.gq_trade.proofs.trades.Trades.part.Goals as goal
 
 pub invariant_of-self : goal.invariant_of-self

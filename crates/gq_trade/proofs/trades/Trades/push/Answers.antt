@@ -1,12 +1,12 @@
 use Rattle.std.proofs.Common.{◌≡◌, ◌++◌, [], ◌∷◌, sym, ap, subst, ◌∙◌, List}
 use Rattle.gq_trade.specs.declared.requests.Request.{Request}
 use Rattle.gq_trade.specs.Numbers.{IsTaken}
-use Rattle.gq_trade.specs.internal.Fields.{Holds}
+use Rattle.gq_trade.specs.internal.Trades_fields.{Holds}
 use Rattle.gq_trade.specs.Trading.{client_of, found, with_ask, with_requests}
 use Rattle.gq_trade.specs.Trades.{Trades, with_trading}
 use Rattle.gq_trade.specs.Waiting.{IsIdle}
-use Rattle.gq_trade.proofs.Inside.{here}
-use Rattle.gq_trade.proofs.Holding.{ask_holds, room_for_its}
+use Rattle.gq_trade.proofs.Trades_view_fields.{here}
+use Rattle.gq_trade.proofs.Quotas_after_trades.{ask_holds, room_for_its}
 use Rattle.gq_trade.proofs.trades.Trades.push.Goals as goal
 
 pub push-requires : goal.push-requires

@@ -1,7 +1,7 @@
 use Rattle.std.proofs.Common.{refl, arith}
 use Rattle.gq_trade.specs.Trading.{opened}
-use Rattle.gq_trade.proofs.Inside.{here}
-use Rattle.gq_trade.proofs.Holding.{session_holds}
+use Rattle.gq_trade.proofs.Trades_view_fields.{here}
+use Rattle.gq_trade.proofs.Quotas_after_trades.{session_holds}
 use Rattle.gq_trade.proofs.trades.Trades.put_object.Goals as goal
 
 pub invariant_of-self : goal.invariant_of-self

@@ -1,8 +1,8 @@
 use Rattle.std.proofs.Common.{◌≡◌, ◌<◌, refl, sym, ap, subst, arith}
 use Rattle.gq_trade.specs.Trading.{found, raised, session_at}
 use Rattle.gq_trade.specs.Trades.{Trades}
-use Rattle.gq_trade.proofs.Inside.{here}
-use Rattle.gq_trade.proofs.Holding.{session_holds}
+use Rattle.gq_trade.proofs.Trades_view_fields.{here}
+use Rattle.gq_trade.proofs.Quotas_after_trades.{session_holds}
 use Rattle.gq_trade.proofs.trades.Trades.raise.Goals as goal
 
 pub invariant_of-self : goal.invariant_of-self

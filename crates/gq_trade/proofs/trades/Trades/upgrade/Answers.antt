@@ -1,16 +1,16 @@
 use Rattle.std.proofs.Common.{◌≡◌, ◌++◌, [], ◌∷◌, Some, set, sym, ap, subst, ◌∙◌, arith}
-use Rattle.gq_ram.specs.Entries.{available, available_caps}
+use Rattle.gq_ram.specs.Account_table.{available, available_caps}
 use Rattle.gq_ram.specs.Ledgers.{IsBalanced}
 use Rattle.gq_trade.specs.Lends.{with_value}
 use Rattle.gq_trade.specs.Numbers.{IsTaken}
 use Rattle.gq_trade.specs.declared.requests.Ask.TheVariants.{Upgrade}
 use Rattle.gq_trade.specs.declared.session.Session.{Session}
-use Rattle.gq_trade.specs.internal.Fields.{Holds, trades_of}
+use Rattle.gq_trade.specs.internal.Trades_fields.{Holds, trades_of}
 use Rattle.gq_trade.specs.Trading.{client_of, found, given, node_of, server_of, session_at, upgraded, with_more}
 use Rattle.gq_trade.specs.Trades.{Trades, with_trading}
 use Rattle.gq_trade.specs.Waiting.{IsIdle}
-use Rattle.gq_trade.proofs.Inside.{here}
-use Rattle.gq_trade.proofs.Holding.{enough_of, given_is, room_for_its, small_caps, small_ram, upgraded_holds}
+use Rattle.gq_trade.proofs.Trades_view_fields.{here}
+use Rattle.gq_trade.proofs.Quotas_after_trades.{enough_of, given_is, room_for_its, small_caps, small_ram, upgraded_holds}
 use Rattle.gq_trade.proofs.Sessions_kept.{server_still}
 use Rattle.gq_trade.proofs.trades.Trades.upgrade.Goals as goal
 

@@ -2,7 +2,7 @@ use Rattle.std.proofs.Common.{◌≡◌, IfSome, subst}
 use Rattle.gq_trade.specs.Numbers.{IsTaken}
 use Rattle.gq_trade.specs.Trading.{server_of}
 use Rattle.gq_trade.specs.Trades.{Trades}
-use Rattle.gq_trade.proofs.Inside.{here}
+use Rattle.gq_trade.proofs.Trades_view_fields.{here}
 use Rattle.gq_trade.proofs.Sessions_kept.{its_oldest}
 use Rattle.gq_trade.proofs.trades.Trades.waiting.Goals as goal
 

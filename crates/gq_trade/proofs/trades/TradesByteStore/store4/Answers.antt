@@ -1,8 +1,8 @@
 use Rattle.std.proofs.Common.{subst}
-use Rattle.gq_ram.specs.Entries.{IsOpen}
+use Rattle.gq_ram.specs.Account_table.{IsOpen}
 use Rattle.gq_ram.specs.declared.account.AccountNo.{AccountNo}
-use Rattle.gq_trade.proofs.Inside.{here}
-use Rattle.gq_trade.proofs.Holding.{rest_holds}
+use Rattle.gq_trade.proofs.Trades_view_fields.{here}
+use Rattle.gq_trade.proofs.Quotas_after_trades.{rest_holds}
 use Rattle.gq_trade.proofs.trades.TradesByteStore.store4.Goals as goal
 
 pub invariant_of-self : goal.invariant_of-self

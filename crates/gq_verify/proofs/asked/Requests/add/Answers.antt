@@ -1,8 +1,8 @@
 use Rattle.std.proofs.Common.{◌<◌, ℕ, List, length, ap, sym, subst, ◌∙◌}
 use Rattle.gq_verify.specs.Requested.{Requested}
-use Rattle.gq_verify.proofs.Adding.{requests_put}
-use Rattle.gq_program.specs.Keys.{AreWithin}
-use Rattle.gq_verify.proofs.Keys.{keys_set}
+use Rattle.gq_verify.proofs.Summed_section_requests.{requests_put}
+use Rattle.gq_program.specs.Name_keys.{AreWithin}
+use Rattle.gq_verify.proofs.Service_name_keys.{keys_set}
 use Rattle.gq_verify.proofs.asked.Requests.add.Goals as goal
 
 pub invariant_of-self : goal.invariant_of-self

@@ -1,5 +1,5 @@
 use Rattle.std.proofs.Common.{◌≡◌, ◌≤◌, ◌+◌, ◌-◌, ◌^◌, drop}
-use Rattle.gq_verify.specs.Counting.{saturated}
+use Rattle.gq_verify.specs.Saturated_numbers.{saturated}
 use Rattle.gq_verify.specs.Requested.{requests_for}
 use Rattle.gq_verify.proofs.asked.Requests.count_for.Given as goal
 

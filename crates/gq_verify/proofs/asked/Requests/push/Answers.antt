@@ -1,10 +1,10 @@
 use Rattle.std.proofs.Common.{arith, ◌≡◌, ℕ, ◌++◌, ◌∷◌, [], List, length, ap, sym, subst, ◌∙◌}
 use Rattle.gq_verify.specs.Requested.{Requested}
-use Rattle.gq_program.specs.Keys.{key_of}
-use Rattle.gq_program.specs.Keys.{AreWithin}
-use Rattle.gq_verify.specs.internal.Keys.{keys_of}
-use Rattle.gq_verify.proofs.Adding.{requests_push}
-use Rattle.gq_verify.proofs.Keys.{keys_push, length_keys}
+use Rattle.gq_program.specs.Name_keys.{key_of}
+use Rattle.gq_program.specs.Name_keys.{AreWithin}
+use Rattle.gq_verify.specs.internal.Service_keys.{keys_of}
+use Rattle.gq_verify.proofs.Summed_section_requests.{requests_push}
+use Rattle.gq_verify.proofs.Service_name_keys.{keys_push, length_keys}
 use Rattle.gq_verify.proofs.asked.Requests.push.Goals as goal
 
 pub invariant_of-self-2 : goal.invariant_of-self-2
@@ -15,8 +15,8 @@ invariant_of-self-2 c =
     let all = ap (λ (l : List Requested). l ++ a ∷ []) (sym c.reserve.ensures.items) ∙ sym c.push_reserved.ensures.items in
     let many : length (keys_of entries) ≡ c.len.result =
     omega (arith, length_keys entries, c.len.ensures, ap (λ (l : List Requested). length l) c.reserve.ensures.items) in
-    let told = ap (λ (k : ℕ). keys_of entries ++ k ∷ []) key ∙ (sym (keys_push entries a) ∙ ap keys_of all) in
-    subst (λ (l : List ℕ). AreWithin c.put.new.self l) told (c.put.ensures (keys_of entries) c.self.invariant many)
+    let reported = ap (λ (k : ℕ). keys_of entries ++ k ∷ []) key ∙ (sym (keys_push entries a) ∙ ap keys_of all) in
+    subst (λ (l : List ℕ). AreWithin c.put.new.self l) reported (c.put.ensures (keys_of entries) c.self.invariant many)
 
 pub returns : goal.returns
 returns c = λ v r.

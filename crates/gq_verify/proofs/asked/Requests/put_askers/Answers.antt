@@ -5,8 +5,8 @@ use Rattle.gq_model.specs.declared.program.Section.TheVariants.{Main}
 use Rattle.gq_verify.specs.declared.asked.Asker.{Asker}
 use Rattle.gq_verify.specs.Askers.{askers_of}
 use Rattle.gq_verify.specs.Requested.{Requested}
-use Rattle.gq_verify.proofs.Askers.{put_here, put_past, put_all}
-use Rattle.gq_verify.proofs.Outside.{skipped, rest, not_asker}
+use Rattle.gq_verify.proofs.Requests_list_ends.{put_here, put_past, put_all}
+use Rattle.gq_verify.proofs.Requests_outside_range.{skipped, rest, not_asker}
 use Rattle.gq_verify.proofs.asked.Requests.put_askers.Goals as goal
 use Rattle.gq_verify.proofs.asked.Requests.put_askers.Goals.{then-is_of_at+in_ok-push, else-is_of_at}
 

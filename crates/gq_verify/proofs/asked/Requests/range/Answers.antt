@@ -1,8 +1,8 @@
 use Rattle.std.proofs.Common.{arith, ◌≡◌, List, length, ap, subst}
 use Rattle.gq_verify.specs.Requested.{Requested}
-use Rattle.gq_program.specs.Keys.{AreWithin}
-use Rattle.gq_verify.specs.internal.Keys.{keys_of}
-use Rattle.gq_verify.proofs.Keys.{length_keys, outside}
+use Rattle.gq_program.specs.Name_keys.{AreWithin}
+use Rattle.gq_verify.specs.internal.Service_keys.{keys_of}
+use Rattle.gq_verify.proofs.Service_name_keys.{length_keys, outside}
 use Rattle.gq_verify.proofs.asked.Requests.range.Goals as goal
 
 pub returns-clause-outside : goal.returns-clause-outside

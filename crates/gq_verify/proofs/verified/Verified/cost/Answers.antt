@@ -1,5 +1,5 @@
 use Rattle.std.proofs.Common.{sym}
-use Rattle.gq_verify.proofs.Costs.{cost_is, cost_none}
+use Rattle.gq_verify.proofs.Section_step_costs.{cost_is, cost_none}
 use Rattle.gq_verify.proofs.verified.Verified.cost.Goals as goal
 
 pub returns-in-Some : goal.returns-in-Some

@@ -1,8 +1,8 @@
 use Rattle.std.proofs.Common.{List, subst, sym}
 use Rattle.gq_model.specs.declared.program.Section.{Section}
 use Rattle.gq_model.specs.machine.Program.{Statements}
-use Rattle.gq_verify.specs.Sections.{AreThere}
-use Rattle.gq_verify.proofs.There.{are_there}
+use Rattle.gq_verify.specs.Named_sections.{AreThere}
+use Rattle.gq_verify.proofs.Sections_by_name.{are_there}
 use Rattle.gq_verify.proofs.verified.Verified.sections.Goals as goal
 
 pub returns-clause-there : goal.returns-clause-there

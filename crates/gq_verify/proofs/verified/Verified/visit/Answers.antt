@@ -1,7 +1,7 @@
 use Rattle.std.proofs.Common.{subst, sym}
 use Rattle.gq_model.specs.rules.Kinds.{Subject}
 use Rattle.gq_verify.specs.Visits.{Shows, section_sights}
-use Rattle.gq_verify.proofs.Visited.{section_shown}
+use Rattle.gq_verify.proofs.Visitor_statement_walk.{section_shown}
 use Rattle.gq_verify.proofs.verified.Verified.visit.Goals as goal
 
 pub returns-in-Some : goal.returns-in-Some

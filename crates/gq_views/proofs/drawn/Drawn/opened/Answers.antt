@@ -1,6 +1,6 @@
 use Rattle.std.proofs.Common.{◌≡◌, ◌∙◌, ◌<◌, ◌≤◌, ap, subst, length, get_or}
-use Rattle.gq_views.specs.internal.Opened.{opened_at}
-use Rattle.gq_views.proofs.Told_services.{opened_there, opened_nowhere}
+use Rattle.gq_views.specs.internal.Opened_services.{opened_at}
+use Rattle.gq_views.proofs.Printed_services.{opened_there, opened_nowhere}
 use Rattle.gq_views.proofs.drawn.Drawn.opened.Goals as goal
 
 pub returns-in-Some : goal.returns-in-Some

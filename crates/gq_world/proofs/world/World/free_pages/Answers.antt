@@ -1,5 +1,5 @@
 -- The pages that no leaf holds.
-use Rattle.gq_world.proofs.Free.{within_total}
+use Rattle.gq_world.proofs.Holdings_within_total.{within_total}
 use Rattle.gq_world.proofs.world.World.free_pages.Goals as goal
 
 pub free_pages-requires : goal.free_pages-requires

@@ -1,5 +1,5 @@
 use Rattle.std.proofs.Common.{ap}
-use Rattle.gq_world.proofs.Turns.{defined, stands_seen, upheld_here}
+use Rattle.gq_world.proofs.World_turn_facts.{defined, stands_seen, upheld_here}
 use Rattle.gq_world.proofs.world.World.laws.Goals as goal
 
 pub returns-clause-upheld : goal.returns-clause-upheld

@@ -1,6 +1,6 @@
 -- A world stands.
 use Rattle.std.proofs.Common.{ap}
-use Rattle.gq_world.proofs.Turns.{stands_seen}
+use Rattle.gq_world.proofs.World_turn_facts.{stands_seen}
 use Rattle.gq_world.proofs.world.World.machine.Goals as goal
 
 pub returns-clause-stands : goal.returns-clause-stands

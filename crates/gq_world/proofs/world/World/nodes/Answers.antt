@@ -1,7 +1,7 @@
 use Rattle.std.proofs.Common.{◌∙◌, ap, sym, length}
 use Rattle.gq_resolve.specs.NodeTables.{node_rows}
-use Rattle.gq_world.proofs.Accounts.{all_count, leaves_count}
-use Rattle.gq_world.proofs.Turns.{stands_seen}
+use Rattle.gq_world.proofs.World_account_lines.{all_count, leaves_count}
+use Rattle.gq_world.proofs.World_turn_facts.{stands_seen}
 use Rattle.gq_world.proofs.world.World.nodes.Goals as goal
 
 pub returns-clause-accounts : goal.returns-clause-accounts

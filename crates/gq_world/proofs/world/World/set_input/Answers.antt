@@ -1,8 +1,8 @@
 -- A setting keeps what stands.
 use Rattle.std.proofs.Common.{◌≡◌, ◌∙◌, Option, ap, sym, subst}
 use Rattle.gq_machine.specs.Machines as machines
-use Rattle.gq_machine.specs.Settings.{input_fault}
-use Rattle.gq_world.proofs.Turns.{kept_by_setting, set_seen}
+use Rattle.gq_machine.specs.Input_settings.{input_fault}
+use Rattle.gq_world.proofs.World_turn_facts.{kept_by_setting, set_seen}
 use Rattle.gq_world.proofs.world.World.set_input.Goals as goal
 
 pub invariant_of-self : goal.invariant_of-self

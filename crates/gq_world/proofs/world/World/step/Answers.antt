@@ -1,7 +1,7 @@
 -- A step keeps what stands.
 use Rattle.std.proofs.Common.{ap, refl}
 use Rattle.gq_machine.specs.Events.{event_of}
-use Rattle.gq_world.proofs.Turns.{countable, defined, kept_by_step, stepped_in}
+use Rattle.gq_world.proofs.World_turn_facts.{countable, defined, kept_by_step, stepped_in}
 use Rattle.gq_world.proofs.world.World.step.Goals as goal
 
 pub step-requires-clause-defined : goal.step-requires-clause-defined

@@ -1,8 +1,8 @@
 -- The steps of a leaf, which is there.
 use Rattle.std.proofs.Common.{ap, subst}
-use Rattle.gq_world.specs.Worlds.{HasTaken}
-use Rattle.gq_world.proofs.Accounts.{leaves_count}
-use Rattle.gq_world.proofs.Turns.{has_taken}
+use Rattle.gq_world.specs.World_between_turns.{HasTaken}
+use Rattle.gq_world.proofs.World_account_lines.{leaves_count}
+use Rattle.gq_world.proofs.World_turn_facts.{has_taken}
 use Rattle.gq_world.proofs.world.World.steps.Goals as goal
 
 pub returns : goal.returns

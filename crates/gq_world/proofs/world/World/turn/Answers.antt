@@ -11,10 +11,10 @@ use Rattle.gq_model.specs.machine.Run.{label_at}
 use Rattle.gq_machine.specs.Events.{event_of}
 use Rattle.gq_machine.specs.declared.event.Event.TheVariants as events
 use Rattle.gq_laws.specs.Stands.{Stands}
-use Rattle.gq_world.specs.Worlds.{World}
-use Rattle.gq_world.specs.internal.Keeping.{IsBudgeted}
-use Rattle.gq_init.proofs.Known.{appends_nothing}
-use Rattle.gq_world.proofs.Turns.{countable, defined, kept_by_step, silent, shown-event_of, stepped_in, told_in}
+use Rattle.gq_world.specs.World_between_turns.{World}
+use Rattle.gq_world.specs.internal.World_invariant.{IsBudgeted}
+use Rattle.gq_init.proofs.Written_byte_facts.{appends_nothing}
+use Rattle.gq_world.proofs.World_turn_facts.{countable, defined, kept_by_step, silent, shown-event_of, stepped_in, reported_in}
 use Rattle.gq_world.proofs.world.World.turn.Goals as goal
 
 pub step-requires-clause-defined : goal.step-requires-clause-defined
@@ -42,15 +42,15 @@ returns-in-Ok-clause-turned g c =
     let m = c.self.inside.machine in
     let old = c.args.self.now in
     let a = g.W.Write.contents c.args.out.now.writer in
-    let b = g.W.Write.contents c.tell.new.out.writer in
+    let b = g.W.Write.contents c.report.new.out.writer in
     let text = c.step.new.line.items in
     let same : m.scenario ≡ old.scenario = ap (λ w. w.scenario) c.self.view_is in
     record {
       step = doing.Line text;
-      next = stepped_in m.scenario m.world c.step.new.self.world c.tell.new.self.world old c.args.leaf (doing.Line text) same
-          (ap (λ w. w.world) c.self.view_is) c.tell.ensures.world c.in-Line.ensures.stepped;
-      told = refl;
-      written = told_in (Appends a b) c.step.new.self.scenario old c.args.leaf text c.as_slice.result.now (c.in-Line.ensures.scenario ∙ same)
+      next = stepped_in m.scenario m.world c.step.new.self.world c.report.new.self.world old c.args.leaf (doing.Line text) same
+          (ap (λ w. w.world) c.self.view_is) c.report.ensures.world c.in-Line.ensures.stepped;
+      reported = refl;
+      written = reported_in (Appends a b) c.step.new.self.scenario old c.args.leaf text c.as_slice.result.now (c.in-Line.ensures.scenario ∙ same)
           c.as_slice.ensures.value c.in-Ok.ensures.writes.written;
     }
 
@@ -59,19 +59,19 @@ returns-in-Err-clause-stops g c e =
     let m = c.self.inside.machine in
     let old = c.args.self.now in
     let a = g.W.Write.contents c.args.out.now.writer in
-    let b = g.W.Write.contents c.tell.new.out.writer in
+    let b = g.W.Write.contents c.report.new.out.writer in
     let text = c.step.new.line.items in
     let same : m.scenario ≡ old.scenario = ap (λ w. w.scenario) c.self.view_is in
-    let front = c.in-Err.ensures.writes.front in
+    let prefix = c.in-Err.ensures.writes.prefix in
     record {
       step = doing.Line text;
-      next = stepped_in m.scenario m.world c.step.new.self.world c.tell.new.self.world old c.args.leaf (doing.Line text) same
-          (ap (λ w. w.world) c.self.view_is) c.tell.ensures.world c.in-Line.ensures.stepped;
+      next = stepped_in m.scenario m.world c.step.new.self.world c.report.new.self.world old c.args.leaf (doing.Line text) same
+          (ap (λ w. w.world) c.self.view_is) c.report.ensures.world c.in-Line.ensures.stepped;
       stopped = c.in-Err.ensures.stopped;
       written = (
-        front.0,
-        told_in (λ l. Appends a b (take front.0 l)) c.step.new.self.scenario old c.args.leaf text c.as_slice.result.now
-            (c.in-Line.ensures.scenario ∙ same) c.as_slice.ensures.value front.1,
+        prefix.0,
+        reported_in (λ l. Appends a b (take prefix.0 l)) c.step.new.self.scenario old c.args.leaf text c.as_slice.result.now
+            (c.in-Line.ensures.scenario ∙ same) c.as_slice.ensures.value prefix.1,
       );
     }
 
@@ -87,7 +87,7 @@ returns-in_default-clause-turned g c =
       step = step;
       next = stepped_in m.scenario m.world c.step.new.self.world c.step.new.self.world old c.args.leaf step same (ap (λ w. w.world) c.self.view_is) refl
           c.step.ensures.stepped;
-      told = shown-event_of c.step.result text;
+      reported = shown-event_of c.step.result text;
       written = subst (Appends a a) (sym (silent c.step.result text (label_at (slice_get (components old.scenario) c.args.leaf)) c.in_default.not-Line))
           (appends_nothing a);
     }

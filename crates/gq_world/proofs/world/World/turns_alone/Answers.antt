@@ -1,6 +1,6 @@
 -- Turns that a leaf takes alone keep what stands.
 use Rattle.std.proofs.Common.{◌-◌, ap}
-use Rattle.gq_world.proofs.Turns.{alone_in, countable_turns, kept_alone}
+use Rattle.gq_world.proofs.World_turn_facts.{alone_in, countable_turns, kept_alone}
 use Rattle.gq_world.proofs.world.World.turns_alone.Goals as goal
 
 pub turns_alone-requires-clause-countable : goal.turns_alone-requires-clause-countable

@@ -1,5 +1,0 @@
-use Rattle.gq_heap.specs.Heap.{IsHeap}
-use Rattle.benchmark.proofs.heaps.pairs_in.Given as goal
-
-abbrev pub invariant-loop : goal.invariant-loop
-invariant-loop g l = IsHeap l.heap (g.S.ByteStore.state l.store)

@@ -1,6 +1,0 @@
-use Rattle.gq_pool.proofs.Callers.{pool_made}
-use Rattle.benchmark.proofs.pools.made.Goals as goal
-
-pub returns-clause-kept : goal.returns-clause-kept
-returns-clause-kept g c = pool_made c.in_ok-pool.pool c.args.heap.now (g.S.ByteStore.state c.args.store.now) (g.S.ByteStore.state c.new.new.store) 16 1024
-    c.requires c.in_ok-pool.ensures.ok

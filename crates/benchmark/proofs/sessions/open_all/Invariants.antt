@@ -1,6 +1,0 @@
-use Rattle.std.proofs.Common.{◌≤◌}
-use Rattle.benchmark.specs.Rounds.{HasRoom}
-use Rattle.benchmark.proofs.sessions.open_all.Given as goal
-
-abbrev pub invariant-loop : goal.invariant-loop
-invariant-loop l = HasRoom l.counter l.slots × (l.counter ≤ l.count)

@@ -1,7 +1,0 @@
-use Rattle.std.proofs.Common.{◌<◌}
-use Rattle.gq_trade.specs.Numbers.{free_number}
-use Rattle.benchmark.specs.Rounds.{IsCalm, sessions_of}
-use Rattle.benchmark.proofs.sessions.rounds.Given as goal
-
-abbrev pub invariant-loop : goal.invariant-loop
-invariant-loop l = IsCalm l.slots × (free_number (sessions_of l.slots) < 16384)

@@ -1,0 +1,151 @@
+// Bytes of a space, by its slot and by their addresses, and of a dataspace.
+ghost use Rattle.std.specs.Prelude.{◌≡◌, ◌≤◌, length};
+ghost use Rattle.gq_dataspace.specs.Dataspaces.{content_of};
+ghost use Rattle.gq_trade.specs.declared.session.SlotId.TheVariants.{InLeaf};
+ghost use Rattle.gq_contents.specs.Contents.{size_of};
+ghost use Rattle.gq_trade.specs.Trades.{IsLive};
+ghost use Rattle.gq_slots.specs.Slots.{IsPaidBy, IsSlotId, content_at};
+ghost use Rattle.benchmark.specs.Accesses.{IsNoLink};
+ghost use Rattle.benchmark.specs.Session_rounds.{HasRoom};
+
+use crate::measure_fault::Fault;
+use crate::session_timings::market;
+use crate::timing::report;
+use gq_contents::Content;
+use gq_dataspace::DsId;
+use gq_ram::Accounts;
+use gq_region::region_addresses;
+use gq_slots::{Addresses, Slots};
+use gq_trade::SlotId;
+use std::time::Instant;
+
+// The bytes of the space.
+const SIZE: u32 = 16384;
+
+/// Measures so many bytes that are read in sequence: of a dataspace, and of a space of as many bytes, each by the space's slot, and then each by its
+/// address. Gives what they are together.
+pub fn measured(rt: &HostRuntime, times: u32) -> Result<usize, Fault> {
+    let alone = in_accounts(rt, times)?;
+    let in_slots = in_market(rt, times)?;
+    Ok(alone ^ in_slots)
+}
+
+// Of a dataspace that the root account pays for.
+fn in_accounts(rt: &HostRuntime, times: u32) -> Result<usize, Fault> {
+    let mut accounts = Accounts::new(rt.alloc(), u64::from(SIZE), None)?;
+    let given = in_root(rt, &mut accounts, times);
+    drop(accounts);
+    given
+}
+
+fn in_root(rt: &HostRuntime, accounts: &mut Accounts, times: u32) -> Result<usize, Fault> {
+    let root = accounts.root();
+    match accounts.alloc(root, u64::from(SIZE)) {
+        Ok(ds) => in_dataspace(rt, accounts, ds, times),
+        Err(_) => Err(Fault::Account),
+    }
+}
+
+fn in_dataspace(rt: &HostRuntime, accounts: &Accounts, ds: DsId, times: u32) -> Result<usize, Fault>
+    requires { length (content_of accounts.now.spaces.spaces ds.0) ≡ 16384 }
+{
+    let start = Instant::now(rt);
+    let sum = by_dataspace(accounts, ds, times);
+    report(rt, "byte by dataspace", u64::from(times), start)?;
+    Ok(usize::from(sum))
+}
+
+fn by_dataspace(accounts: &Accounts, ds: DsId, times: u32) -> u8
+    requires { length (content_of accounts.now.spaces.spaces ds.0) ≡ 16384 }
+{
+    let mut sum = 0;
+    for index in 0..times {
+        sum ^= accounts.load(ds, index % SIZE);
+    }
+    sum
+}
+
+// Of a space, in the slots of a scenario.
+fn in_market(rt: &HostRuntime, times: u32) -> Result<usize, Fault> {
+    let mut slots = market(rt.alloc())?;
+    let addresses = Addresses::new(Vec::new(rt.alloc()));
+    let given = in_slots(rt, &mut slots, &addresses, times);
+    drop(addresses);
+    drop(slots);
+    given
+}
+
+// The same in slots in which no session is open.
+fn in_slots(
+    rt: &HostRuntime,
+    slots: &mut Slots,
+    addresses: &Addresses,
+    times: u32,
+) -> Result<usize, Fault>
+    requires { HasRoom 0 slots.old }
+{
+    slots.laws();
+    slots.pay_by(1);
+    let slot = SlotId::InLeaf(1, 0);
+    if !slots.content(slot).is_empty() {
+        return Err(Fault::Account);
+    }
+    slots.make_space(slot, SIZE)?;
+    both(rt, slots, addresses, times)
+}
+
+fn both(
+    rt: &HostRuntime,
+    slots: &mut Slots,
+    addresses: &Addresses,
+    times: u32,
+) -> Result<usize, Fault>
+    requires live { IsLive slots.old.trades 1 }
+    requires there { IsSlotId slots.old (InLeaf 1 0) }
+    requires paid { IsPaidBy slots.old 1 }
+{
+    match slots.content(SlotId::InLeaf(1, 0)) {
+        Content::Space(_, size) => {
+            if size < SIZE {
+                return Err(Fault::Account);
+            }
+        }
+        _ => return Err(Fault::Account),
+    }
+    let start = Instant::now(rt);
+    let one = by_slot(slots, times);
+    report(rt, "byte by slot", u64::from(times), start)?;
+    let start = Instant::now(rt);
+    let other = by_address(slots, addresses, times);
+    report(rt, "byte by address", u64::from(times), start)?;
+    match other {
+        Some(other) => Ok(usize::from(one ^ other)),
+        None => Err(Fault::Account),
+    }
+}
+
+// All bytes that are read, one after the other, as one.
+fn by_slot(slots: &Slots, times: u32) -> u8
+    requires there { IsSlotId slots.now (InLeaf 1 0) }
+    requires paid { IsPaidBy slots.now 1 }
+    requires size { 16384 ≤ size_of (content_at slots.now (InLeaf 1 0)) }
+{
+    let mut sum = 0;
+    for index in 0..times {
+        sum ^= slots.load(SlotId::InLeaf(1, 0), index % SIZE);
+    }
+    sum
+}
+
+// The same, each found by its address. `None` where one is not there.
+fn by_address(slots: &mut Slots, addresses: &Addresses, times: u32) -> Option<u8>
+    requires live { IsLive slots.old.trades 1 }
+    requires paid { IsPaidBy slots.old 1 }
+    requires plain { IsNoLink (content_at slots.old (InLeaf 1 0)) }
+{
+    let mut sum = 0;
+    for index in 0..times {
+        sum ^= addresses::load(addresses, slots, 1, index % SIZE)?;
+    }
+    Some(sum)
+}

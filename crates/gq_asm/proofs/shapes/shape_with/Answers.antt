@@ -1,5 +1,0 @@
-use Rattle.std.proofs.Common.{rules, tests}
-use Rattle.gq_asm.proofs.shapes.shape_with.Goals as goal
-
-pub returns-in-None : goal.returns-in-None
-returns-in-None c = search (tests, rules)

@@ -1,5 +1,0 @@
-use Rattle.std.proofs.Common.{rules, tests}
-use Rattle.gq_asm.proofs.slots.slot_or_object.Goals as goal
-
-pub returns-then-same_text : goal.returns-then-same_text
-returns-then-same_text c = search (tests, rules)

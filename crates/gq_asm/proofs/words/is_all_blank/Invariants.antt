@@ -1,7 +1,0 @@
-use Rattle.std.proofs.Common.{◌≡◌, drop}
-use Rattle.gq_model.specs.machine.Lists.{all_of}
-use Rattle.gq_model.specs.texts.Letters.{is_blank}
-use Rattle.gq_asm.proofs.words.is_all_blank.Given as goal
-
-abbrev pub invariant-loop-byte : goal.invariant-loop-byte
-invariant-loop-byte l = all_of is_blank (drop l.byte-index l.text) ≡ all_of is_blank l.text

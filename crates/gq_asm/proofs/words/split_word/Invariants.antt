@@ -1,7 +1,0 @@
-use Rattle.std.proofs.Common.{◌≡◌, ◌++◌, take, drop}
-use Rattle.gq_model.specs.texts.Letters.{past_word}
-use Rattle.gq_asm.specs.Pieces.{front_word}
-use Rattle.gq_asm.proofs.words.split_word.Given as goal
-
-abbrev pub invariant-loop-i : goal.invariant-loop-i
-invariant-loop-i l = (take l.i l.text ++ front_word (drop l.i l.text) ≡ front_word l.text) × (past_word (drop l.i l.text) ≡ past_word l.text)

@@ -1,5 +1,0 @@
-use Rattle.gq_rules.proofs.Programs.{each_section}
-use Rattle.gq_budget.proofs.leaf.Leaf.sections.Goals as goal
-
-pub returns-clause-each : goal.returns-clause-each
-returns-clause-each c = rw c.sections.ensures (each_section c.self.inside.program.now c.laws.ensures)

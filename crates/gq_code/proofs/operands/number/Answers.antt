@@ -1,7 +1,0 @@
-use Rattle.std.proofs.Common.{arith, length}
-use Rattle.gq_code.proofs.Decoding.{below_4}
-use Rattle.gq_code.proofs.operands.number.Goals as goal
-
-pub overflow_cast-result : goal.overflow_cast-result
-overflow_cast-result c =
-    below_4 c.spelled.result (length c.in_ok-number.number.now) c.spelled.ensures.small (omega (arith, c.in_ok-number.ensures.first, c.requires))

@@ -1,8 +1,0 @@
--- A leaf that provides nothing writes the same lines in all runs to rest, and where no shared leaf writes lines outside `main`, so does every leaf.
--- From what its thread shows, of which its lines are a part, and from what each leaf showed for the threads whose it was.
--- So what is seen of such leaves does not depend on the turns.
-pub mod Lines
-pub mod Written
--- all leaves
-pub mod Silent
-pub mod All_lines

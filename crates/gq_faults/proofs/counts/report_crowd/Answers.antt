@@ -1,0 +1,9 @@
+use Rattle.std.proofs.Common.{map}
+use Rattle.gq_scenario.specs.Top_table.{document_text}
+use Rattle.gq_faults.specs.Documents.{too_many}
+use Rattle.gq_faults.proofs.Reported_fault_prefixes.{memory_ends}
+use Rattle.gq_faults.proofs.counts.report_crowd.Goals as goal
+
+pub returns-in_err-way-in-Some : goal.returns-in_err-way-in-Some
+returns-in_err-way-in-Some g c =
+    memory_ends c.args.reporter.now.path.now (map document_text (too_many c.args.count)) _ _ c.from_residual.result c.from_residual.ensures.1

@@ -1,9 +1,0 @@
-use Rattle.std.proofs.Common.{map}
-use Rattle.gq_scenario.specs.Reading.{document_text}
-use Rattle.gq_faults.specs.Documents.{too_many}
-use Rattle.gq_faults.proofs.Telling.{memory_ends}
-use Rattle.gq_faults.proofs.counts.tell_crowd.Goals as goal
-
-pub returns-in_err-way-in-Some : goal.returns-in_err-way-in-Some
-returns-in_err-way-in-Some g c =
-    memory_ends c.args.teller.now.path.now (map document_text (too_many c.args.count)) _ _ c.from_residual.result c.from_residual.ensures.1

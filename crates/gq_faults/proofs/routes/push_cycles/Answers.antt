@@ -1,4 +1,0 @@
-use Rattle.gq_faults.proofs.routes.push_cycles.Goals as goal
-
-pub returns : goal.returns
-returns c = c.push_all_reached.ensures

@@ -1,8 +1,0 @@
-use Rattle.std.proofs.Common.{[], ◌∷◌}
-use Rattle.gq_faults.specs.Turn_faults.{turn_fault_line}
-use Rattle.gq_faults.proofs.Telling.{memory_ends}
-use Rattle.gq_faults.proofs.turns.put_turn_fault.Goals as goal
-
-pub returns-in_err-said : goal.returns-in_err-said
-returns-in_err-said g c =
-    memory_ends c.args.path.now (turn_fault_line (c.args.fault, c.args.line) ∷ []) _ _ c.from_residual.result c.from_residual.ensures.1

@@ -1,5 +1,0 @@
-use Rattle.std.proofs.Common.{rules}
-use Rattle.gq_faults.proofs.walk.tell_keys.Goals as goal
-
-pub returns-then-has : goal.returns-then-has
-returns-then-has g c = search rules

@@ -1,7 +1,0 @@
--- The end of `main` of a leaf that provides a service.
-use Rattle.gq_leaf.proofs.Ending as ending
-use Rattle.gq_leaf.proofs.laws.main_serves.Goals as goal
-
-pub returns : goal.returns
-returns c system f s x d l bs service g lawful st active end current provides e now =
-    ending.main_serves system f s x d l bs lawful st active end g service current provides e now

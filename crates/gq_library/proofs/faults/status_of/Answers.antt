@@ -1,9 +1,0 @@
--- A fault of the definition is no accepted scenario.
-use Rattle.std.proofs.Common.{subst}
-use Rattle.gq_load.specs.Load.{loaded}
-use Rattle.gq_world.specs.Outcomes.{GivesOf}
-use Rattle.gq_library.proofs.Refused.{not_loaded}
-use Rattle.gq_library.proofs.faults.status_of.Goals as goal
-
-pub returns-in-Load-clause-refused : goal.returns-in-Load-clause-refused
-returns-in-Load-clause-refused c = λ _. not_loaded _ (loaded c.args.text.now) (subst (λ f. GivesOf f c.args.text.now) c.in-Load.is c.requires)

@@ -1,0 +1,99 @@
+-- One turn of a leaf.
+use Rattle.std.proofs.Common.{◌≡◌, ◌∙◌, ap, sym, subst, arith}
+use Rattle.std.specs.Prelude.{slice_get}
+use Rattle.gq_model.specs.declared.phase.Phase.{Phase}
+use Rattle.gq_model.specs.declared.phase.Phase.TheVariants as phase
+use Rattle.gq_model.specs.machine.Scenario.{components, system}
+use Rattle.gq_model.proofs.Small_facts.{get_within}
+use Rattle.gq_bytecode.specs.Nexts.{Active}
+use Rattle.gq_trade.specs.declared.trade_node.Stage.TheVariants.{Live}
+use Rattle.gq_statements.specs.Systems.{stage_in}
+use Rattle.gq_leaf.specs.Coded.{Coded}
+use Rattle.gq_leaf.specs.Idle_phases.{Rests}
+use Rattle.gq_machine.specs.Machine_world.{frame_of}
+use Rattle.gq_machine.specs.internal.Machine_invariant.{Holds, OfLeaf}
+use Rattle.gq_machine.proofs.Resting_phases.{acts, at_rest}
+use Rattle.gq_machine.proofs.Machine_unchanged_world.{holds_same, from_err}
+use Rattle.gq_machine.proofs.Stepping_leaf_facts.{active_live, item_there, standing}
+use Rattle.gq_machine.proofs.machine_steps.turn.Goals as goal
+
+pub returns-in-Pending-clause-step : goal.returns-in-Pending-clause-step
+returns-in-Pending-clause-step c =
+    let f = c.args.fixed.now in
+    let m = c.args.state.now in
+    let h = c.requires.holds in
+    let x = c.args.number in
+    let less = c.requires.leaf in
+    let count = h.count in
+    let component = get_within (components f.table) x less in
+    let leaf = get_within m.leaves.items x (omega (arith, less, count)) in
+    let old = c.index.result.now in
+    let there = item_there m.leaves.items x leaf.0 old leaf.1 c.index.ensures in
+    c.rests.ensures (system f.table) (frame_of f.table m.leaves.items) m.slots x component.0 old f.services.buffers c.lawful.ensures
+    (standing f m h c.lawful.ensures x component.0 old component.1 there) (subst Rests c.phase.ensures (at_rest c.phase.result c.in-Pending.is))
+
+pub returns-in-Err-clause-holds : goal.returns-in-Err-clause-holds
+returns-in-Err-clause-holds c =
+    let f = c.args.fixed.now in
+    from_err c.accept.result (Holds f c.accept.new.state) _ _ c.accept.ensures.leaves.holds c.accept.ensures.leaves.leaves c.accept.ensures.leaves.slots (λ e g.
+    holds_same f c.pay.new.state c.accept.new.state e g c.pay.ensures.can.holds)
+
+pub pay-requires-clause-starts : goal.pay-requires-clause-starts
+pay-requires-clause-starts c =
+    let f = c.args.fixed.now in
+    let m = c.args.state.now in
+    let x = c.args.number in
+    let less = c.requires.leaf in
+    let count = c.requires.holds.count in
+    let leaf = get_within m.leaves.items x (omega (arith, less, count)) in
+    let there = item_there m.leaves.items x leaf.0 c.index.result.now leaf.1 c.index.ensures in
+    subst (OfLeaf (λ (l : Coded). stage_in l.state.phase ≡ Live)) (sym there)
+    (subst (λ (p : Phase). stage_in p ≡ Live) c.phase.ensures (ap stage_in c.in-Serving.is))
+
+pub pay-requires-in-Running-clause-starts : goal.pay-requires-in-Running-clause-starts
+pay-requires-in-Running-clause-starts c =
+    let f = c.args.fixed.now in
+    let m = c.args.state.now in
+    let x = c.args.number in
+    let less = c.requires.leaf in
+    let count = c.requires.holds.count in
+    let leaf = get_within m.leaves.items x (omega (arith, less, count)) in
+    let there = item_there m.leaves.items x leaf.0 c.index.result.now leaf.1 c.index.ensures in
+    subst (OfLeaf (λ (l : Coded). stage_in l.state.phase ≡ Live)) (sym there)
+    (subst (λ (p : Phase). stage_in p ≡ Live) c.phase.ensures (active_live c.phase.result (acts c.phase.result c.in-Running.is)))
+
+pub accept-requires : goal.accept-requires
+accept-requires c =
+    record {
+      serves = record {
+        can =
+            c.pay.ensures.can;
+        serves =
+            let f = c.args.fixed.now in
+            let m = c.args.state.now in
+            let x = c.args.number in
+            let less = c.requires.leaf in
+            let count = c.requires.holds.count in
+            let leaf = get_within m.leaves.items x (omega (arith, less, count)) in
+            let there = item_there m.leaves.items x leaf.0 c.index.result.now leaf.1 c.index.ensures in
+            subst (λ ls. OfLeaf (λ (l : Coded). l.state.phase ≡ phase.Serving) (slice_get ls x)) (sym c.pay.ensures.leaves)
+            (subst (OfLeaf (λ (l : Coded). l.state.phase ≡ phase.Serving)) (sym there) (sym c.phase.ensures ∙ c.in-Serving.is));
+      };
+    }
+
+pub act-requires-clause-acts : goal.act-requires-clause-acts
+act-requires-clause-acts c =
+    record {
+      can =
+          c.pay-in-Running.ensures.can;
+      active =
+          let f = c.args.fixed.now in
+          let m = c.args.state.now in
+          let x = c.args.number in
+          let less = c.requires.leaf in
+          let count = c.requires.holds.count in
+          let leaf = get_within m.leaves.items x (omega (arith, less, count)) in
+          let there = item_there m.leaves.items x leaf.0 c.index.result.now leaf.1 c.index.ensures in
+          subst (λ ls. OfLeaf (λ (l : Coded). Active l.state.phase) (slice_get ls x)) (sym c.pay-in-Running.ensures.leaves)
+          (subst (OfLeaf (λ (l : Coded). Active l.state.phase)) (sym there) (subst Active c.phase.ensures (acts c.phase.result c.in-Running.is)));
+    }

@@ -1,4 +1,0 @@
-pub mod Rows
-pub mod Followers
-pub mod Afters
-pub mod Endings

@@ -1,8 +1,0 @@
-use Rattle.gq_prepared.proofs.endings.Endings.{nodes_then, of_then}
-use Rattle.gq_prepared.proofs.endings.ended.Goals as goal
-
-pub returns-clause-of : goal.returns-clause-of
-returns-clause-of c = of_then
-
-pub returns-clause-nodes : goal.returns-clause-nodes
-returns-clause-nodes c = nodes_then

@@ -1,5 +1,0 @@
-use Rattle.std.proofs.Common.{◌+◌}
-use Rattle.gq_ram.proofs.tree.AccountTree.+carry.Given as goal
-
-abbrev pub decreases-carry : goal.decreases-carry
-decreases-carry l = l.from + l.to

@@ -1,7 +1,0 @@
-use Rattle.std.proofs.Common.{ap, ◌∙◌, option_map}
-use Rattle.toml.specs.View.{view}
-use Rattle.toml.proofs.Views.{view-lookup}
-use Rattle.gq_reader.proofs.tables.take_value.Goals as goal
-
-pub returns : goal.returns
-returns c = rw (← c.word.ensures) (ap (option_map view) c.remove.ensures.value ∙ view-lookup c.word.result.now c.args.table.entries)

@@ -1,6 +1,0 @@
-use Rattle.std.proofs.Common.{arith}
-use Rattle.std.proofs.lemmas.Grind.{common_steps}
-use Rattle.gq_resolve.proofs.table.interface_number.Goals as goal
-
-pub returns-then-same_bytes : goal.returns-then-same_bytes
-returns-then-same_bytes c = grind (arith, common_steps)

@@ -1,7 +1,0 @@
--- No rule so far has the code.
-use Rattle.std.proofs.Common.{◌≡◌, drop, find}
-use Rattle.gq_rule_texts.specs.Rules.{is_code}
-use Rattle.gq_rule_texts.proofs.table.first_of.Given as goal
-
-abbrev pub invariant-loop-rule : goal.invariant-loop-rule
-invariant-loop-rule l = find (is_code l.code) (drop l.rule-index l.rules) ≡ find (is_code l.code) l.fn.rules

@@ -1,0 +1,5 @@
+use Rattle.std.proofs.Common.{rules}
+use Rattle.gq_rules.proofs.known_state.AbstractState.join.Goals as goal
+
+pub returns : goal.returns
+returns c = search rules

@@ -1,8 +1,0 @@
-use Rattle.std.proofs.Common.{rules}
-use Rattle.gq_rules.proofs.state.State.choose.Goals as goal
-
-pub returns-clause-judged : goal.returns-clause-judged
-returns-clause-judged c = search rules
-
-pub returns-clause-none : goal.returns-clause-none
-returns-clause-none c = search rules

@@ -1,5 +1,0 @@
-use Rattle.std.proofs.Common.{rules}
-use Rattle.gq_rules.proofs.state.State.none_left_of_both.Goals as goal
-
-pub returns : goal.returns
-returns c = search rules

@@ -1,6 +1,0 @@
-use Rattle.std.proofs.Common.{arith}
-use Rattle.std.proofs.lemmas.Grind.{common_steps}
-use Rattle.gq_rules.proofs.state.State.pop.Goals as goal
-
-pub returns-clause-popped : goal.returns-clause-popped
-returns-clause-popped c = grind (arith, common_steps)

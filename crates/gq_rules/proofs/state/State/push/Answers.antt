@@ -1,6 +1,0 @@
-use Rattle.std.proofs.Common.{arith}
-use Rattle.std.proofs.lemmas.Grind.{common_steps}
-use Rattle.gq_rules.proofs.state.State.push.Goals as goal
-
-pub returns-else-len-lt-OPERANDS : goal.returns-else-len-lt-OPERANDS
-returns-else-len-lt-OPERANDS c = grind (arith, common_steps)

@@ -1,7 +1,0 @@
-use Rattle.std.proofs.Common.{ℕ, ◌≡◌, ◌<◌}
-use Rattle.std.specs.Prelude.{slice_index}
-use Rattle.gq_scenario.proofs.lines.near.Given as goal
-
--- no byte before is one
-abbrev pub invariant-loop-place : goal.invariant-loop-place
-invariant-loop-place l = (j : ℕ) → j < l.place → slice_index l.text j ≡ l.separator → ⊥

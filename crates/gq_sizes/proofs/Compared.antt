@@ -1,9 +1,0 @@
--- Texts that were compared.
-use Rattle.std.proofs.Common.{◌≡◌, ◌∙◌, ℕ, Bool, List, sym}
-use Rattle.std.specs.Prelude.{IsTrue}
-use Rattle.gq_model.specs.machine.Program.{text_eq}
-use Rattle.gq_model.proofs.Small.{text_is}
-
--- texts that were found the same are one, by what they were read from
-pub same_is : (same : Bool) (a b x y : List ℕ) → same ≡ text_eq a b → a ≡ x → b ≡ y → IsTrue same → x ≡ y
-same_is same a b x y is left right h = sym left ∙ (text_is a b (sym is ∙ h) ∙ right)

@@ -1,0 +1,87 @@
+// Where the bytes of a slot stand: in the slot itself, or, behind a link, in the buffer of its session. A statement names a slot and an index, so the machine
+// goes there at once; bytes by their addresses are a matter of gq_region.
+ghost use Rattle.std.specs.Prelude.{◌≡◌, ℕ, get_or, IfSome};
+ghost use Rattle.gq_model.specs.machine.Scenario.{System};
+ghost use Rattle.gq_model.specs.machine.Memory.{bytes_slot_id};
+ghost use Rattle.gq_model.specs.machine.World.{slot_at};
+ghost use Rattle.gq_trade.specs.Numbers.{IsTaken};
+ghost use Rattle.gq_trade.specs.Seen_sessions.{slot_id_seen};
+ghost use Rattle.gq_slots.specs.Slots.{Frame, IsSlotId, world_seen};
+ghost use Rattle.gq_slots.specs.Slot_addresses.{AreBuffers, IsLinked, buffer_slot_id, place_of, place_seen};
+
+use crate::slots::Slots;
+use gq_contents::Content;
+use gq_trade::SlotId;
+use std::marker::Model;
+
+/// The bytes of the buffer of each service, by its number, 0 where it shares none.
+///
+/// Behind a link stand the bytes of the first slot of its session, where the session's service shares a buffer; in any other slot stand its own.
+#[derive(Drop)]
+pub struct Addresses {
+    buffers: Vec<u32>,
+}
+
+impl Model for Addresses {
+    ghost use Rattle.std.specs.Prelude.{List, ℕ};
+
+    ghost Value = { List ℕ };
+
+    ghost view = { λ a. a.buffers.items };
+}
+
+impl Addresses {
+    /// Addresses where the buffers of the services have so many bytes.
+    pub fn new(buffers: Vec<u32>) -> Addresses
+        ensures { result ≡ buffers.items }
+    {
+        Addresses { buffers }
+    }
+
+    /// Where the bytes of a slot stand: in the slot itself, or, where it is a link, in the first slot of its session. `None` where the session's service
+    /// shares no buffer.
+    pub fn bytes_slot_id(&self, slots: &Slots, slot_id: SlotId) -> Option<SlotId>
+        requires there { IsSlotId slots.now slot_id }
+        requires linked { IsLinked slots.now slot_id }
+        ensures is { result ≡ place_of self.now slots.now slot_id }
+        ensures there { IfSome result (λ p. IsSlotId slots.now p) }
+        ensures world { (f : Frame) (system : System) → AreBuffers system f slots.now self.now
+            → place_seen result ≡ bytes_slot_id system (world_seen f slots.now) (slot_at (world_seen f slots.now) (slot_id_seen slot_id))
+            (slot_id_seen slot_id) }
+    {
+        slots.trades().laws();
+        match slots.content(slot_id) {
+            Content::Link(session) => self.buffer_slot_id(slots, session as usize),
+            Content::Empty
+            | Content::Block(_, _)
+            | Content::Slice(_, _)
+            | Content::Space(_, _)
+            | Content::Pool(_)
+            | Content::Waiting(_) => Some(slot_id),
+        }
+    }
+
+    // The first slot of a session, if its service shares a buffer.
+    fn buffer_slot_id(&self, slots: &Slots, session: usize) -> Option<SlotId>
+        requires { IsTaken slots.now.trades.trading.sessions session }
+        ensures is { result ≡ buffer_slot_id self.now slots.now session }
+        ensures there { IfSome result (λ p. IsSlotId slots.now p) }
+    {
+        let service = slots.trades().session(session).service;
+        if self.buffer(service) == 0 {
+            None
+        } else {
+            Some(SlotId::InSession(session, 0))
+        }
+    }
+
+    /// The bytes of the buffer of a service, 0 where it shares none.
+    pub fn buffer(&self, service: usize) -> u32
+        ensures { result ≡ get_or self.now service 0 }
+    {
+        match self.buffers.get(service) {
+            None => 0,
+            Some(&size) => size,
+        }
+    }
+}

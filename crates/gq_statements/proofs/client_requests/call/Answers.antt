@@ -1,0 +1,21 @@
+use Rattle.gq_trade.specs.declared.requests.Ask.TheVariants as ask
+use Rattle.gq_slots.specs.Slots.{Slots}
+use Rattle.gq_statements.proofs.Requested_machine_worlds.{call_none, call_some}
+use Rattle.gq_statements.proofs.Asking_keeps_sessions.{its_session, paid_then, session_found, stays_ask, stays_then}
+use Rattle.gq_statements.proofs.client_requests.call.Goals as goal
+
+pub returns-in_default-clause-step : goal.returns-in_default-clause-step
+returns-in_default-clause-step c before after d rest h o b e =
+    call_none d c.args.place c.args.value rest e (c.in_default.ensures.found before d h b.world_before)
+
+pub returns-clause-step : goal.returns-clause-step
+returns-clause-step c before after d rest h o b e =
+    let s : Slots = c.args.slots.now in
+    let u : Slots = c.ask_call.new.slots in
+    let t : Slots = c.mark.new.self in
+    let p = c.in-Some.slot_id in
+    let k = c.in-Some.session in
+    let stays = stays_then s u t (stays_ask s u k (ask.Call c.args.value) c.ask_call.ensures.asked) c.mark.ensures.rest in
+    call_some d c.args.place p k (c.in-Some.ensures.found before d h b.world_before) before after s u t (its_session before s k)
+    (session_found before s k c.in-Some.ensures.is.taken) c.mark.ensures (paid_then d.system after s t c.lawful.ensures c.lawful-2.ensures stays o)
+    c.args.value rest e b (c.ask_call.ensures.world after)

@@ -1,7 +1,0 @@
-use Rattle.std.proofs.Common.{true}
-use Rattle.gq_traces.proofs.Nodes_told.{Nodes_so_far}
-use Rattle.gq_traces.proofs.state.write_nodes.Given as goal
-
--- the nodes so far were told
-abbrev pub invariant-loop-number : goal.invariant-loop-number
-invariant-loop-number g l = Nodes_so_far g.W.Write.contents l.world l.followed l.fn.out l.out true l.going l.number

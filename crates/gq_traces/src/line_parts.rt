@@ -1,0 +1,86 @@
+// Words and numbers that are put at the end of a line.
+ghost use Rattle.std.specs.Prelude.{◌≡◌, ◌≤◌, ◌+◌, ◌++◌, length, codes, decimal};
+ghost use Rattle.gq_model.specs.texts.Fault_texts.{section_word};
+ghost use Rattle.gq_scenario.specs.Component_trees.{version_number};
+ghost use Rattle.gq_traces.specs.Trace.{amount_text};
+
+use arrayvec::ArrayVec;
+use gq_model::program::Section;
+use gq_scenario::scenario::Version;
+use gq_tariff::Amount;
+use itoa::Buffer;
+
+/// The greatest number of bytes of a line, its line feed included.
+pub(crate) const GREATEST_LINE: usize = 400;
+
+/// A line of text, with room for the longest.
+pub(crate) type Line = ArrayVec<u8, GREATEST_LINE>;
+
+/// Puts bytes at the end of a line.
+pub(crate) fn extend(line: &mut Line, bytes: &[u8])
+    requires { length line.old.items + length bytes.now ≤ GREATEST_LINE }
+    ensures bytes { line.new.items ≡ line.old.items ++ bytes.now }
+    ensures long { length line.new.items ≡ length line.old.items + length bytes.now }
+{
+    match line.try_extend_from_slice(bytes) {
+        Ok(()) => (),
+        Err(_) => unreachable!(),
+    }
+}
+
+/// Puts a number in decimal at the end of a line.
+pub(crate) fn extend_number(line: &mut Line, number: u64)
+    requires { length line.old.items + 20 ≤ GREATEST_LINE }
+    ensures bytes { line.new.items ≡ line.old.items ++ decimal number }
+    ensures long { length line.new.items ≤ length line.old.items + 20 }
+{
+    extend(line, Buffer::new().format(number).as_bytes());
+}
+
+/// Puts a word and a number behind it at the end of a line.
+pub(crate) fn extend_entry(line: &mut Line, word: &[u8], number: u64)
+    requires { length line.old.items + length word.now + 21 ≤ GREATEST_LINE }
+    ensures bytes { line.new.items ≡ line.old.items ++ word.now ++ codes " " ++ decimal number }
+    ensures long { length line.new.items ≤ length line.old.items + length word.now + 21 }
+{
+    extend(line, word);
+    extend(line, b" ");
+    extend_number(line, number);
+}
+
+/// Puts a word and an amount at the end of a line: bytes, and capabilities where the version counts them.
+pub(crate) fn extend_amount(line: &mut Line, version: Version, word: &[u8], amount: Amount)
+    requires { length line.old.items + length word.now + 47 ≤ GREATEST_LINE }
+    ensures bytes { line.new.items ≡ line.old.items ++ amount_text (version_number version) word.now amount }
+    ensures long { length line.new.items ≤ length line.old.items + length word.now + 47 }
+{
+    extend_entry(line, word, amount.ram);
+    if version.counts_caps() {
+        extend_entry(line, b" caps", amount.caps);
+    }
+}
+
+/// Puts the heading of a section at the end of a line.
+pub(crate) fn extend_section(line: &mut Line, section: Section)
+    requires { length line.old.items + 26 ≤ GREATEST_LINE }
+    ensures bytes { line.new.items ≡ line.old.items ++ section_word section }
+    ensures long { length line.new.items ≤ length line.old.items + 26 }
+{
+    match section {
+        Section::Main => extend(line, b"main"),
+        Section::Opening => extend(line, b"open"),
+        Section::Upgrading(level) => extend_entry(line, b"up", u64::from(level)),
+        Section::Calling(level) => extend_entry(line, b"call", u64::from(level)),
+        Section::Closing(level) => extend_entry(line, b"close", u64::from(level)),
+    }
+}
+
+/// Puts a section and the number of a statement in it at the end of a line.
+pub(crate) fn extend_place(line: &mut Line, section: Section, number: u64)
+    requires { length line.old.items + 50 ≤ GREATEST_LINE }
+    ensures bytes { line.new.items ≡ line.old.items ++ section_word section ++ codes " at " ++ decimal number }
+    ensures long { length line.new.items ≤ length line.old.items + 50 }
+{
+    extend_section(line, section);
+    extend_entry(line, b" at", number);
+}

@@ -1,7 +1,0 @@
--- What the fields of `Trades` stand for.
-use Rattle.gq_trade.specs.declared.trades.Trades.TheInside.{Inside}
-use Rattle.gq_trade.specs.internal.Fields.{trades_of}
-use Rattle.gq_trade.specs.Trades.{Trades}
-
-abbrev pub here : Inside → Trades
-here i = trades_of i.memory i.tree i.leaves.items i.objects.items i.sessions i.requests i.nodes.items

@@ -1,5 +1,0 @@
-use Rattle.std.proofs.Common.{rules}
-use Rattle.gq_trade.proofs.node.Node.handed.Goals as goal
-
-pub returns-in-Pending : goal.returns-in-Pending
-returns-in-Pending c = search rules

@@ -1,5 +1,0 @@
-use Rattle.std.proofs.Common.{rules}
-use Rattle.gq_verify.proofs.sections.is_wanted.Goals as goal
-
-pub returns-in-Some-Opening : goal.returns-in-Some-Opening
-returns-in-Some-Opening c = search rules
