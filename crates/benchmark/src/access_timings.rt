@@ -8,7 +8,7 @@ ghost use Rattle.gq_slots.specs.Slots.{IsPaidBy, IsSlotId, content_at};
 ghost use Rattle.benchmark.specs.Accesses.{IsNoLink};
 ghost use Rattle.benchmark.specs.Session_rounds.{HasRoom};
 
-use crate::measure_fault::Fault;
+use crate::measure_fault::MeasureFault;
 use crate::session_timings::market;
 use crate::timing::report;
 use gq_contents::Content;
@@ -24,29 +24,34 @@ const SIZE: u32 = 16384;
 
 /// Measures so many bytes that are read in sequence: of a dataspace, and of a space of as many bytes, each by the space's slot, and then each by its
 /// address. Gives what they are together.
-pub fn measured(rt: &HostRuntime, times: u32) -> Result<usize, Fault> {
+pub fn measured(rt: &HostRuntime, times: u32) -> Result<usize, MeasureFault> {
     let alone = in_accounts(rt, times)?;
     let in_slots = in_market(rt, times)?;
     Ok(alone ^ in_slots)
 }
 
 // Of a dataspace that the root account pays for.
-fn in_accounts(rt: &HostRuntime, times: u32) -> Result<usize, Fault> {
+fn in_accounts(rt: &HostRuntime, times: u32) -> Result<usize, MeasureFault> {
     let mut accounts = Accounts::new(rt.alloc(), u64::from(SIZE), None)?;
     let given = in_root(rt, &mut accounts, times);
     drop(accounts);
     given
 }
 
-fn in_root(rt: &HostRuntime, accounts: &mut Accounts, times: u32) -> Result<usize, Fault> {
+fn in_root(rt: &HostRuntime, accounts: &mut Accounts, times: u32) -> Result<usize, MeasureFault> {
     let root = accounts.root();
     match accounts.alloc(root, u64::from(SIZE)) {
         Ok(ds) => in_dataspace(rt, accounts, ds, times),
-        Err(_) => Err(Fault::Account),
+        Err(_) => Err(MeasureFault::Account),
     }
 }
 
-fn in_dataspace(rt: &HostRuntime, accounts: &Accounts, ds: DsId, times: u32) -> Result<usize, Fault>
+fn in_dataspace(
+    rt: &HostRuntime,
+    accounts: &Accounts,
+    ds: DsId,
+    times: u32,
+) -> Result<usize, MeasureFault>
     requires { length (content_of accounts.now.spaces.spaces ds.0) ≡ 16384 }
 {
     let start = Instant::now(rt);
@@ -66,7 +71,7 @@ fn by_dataspace(accounts: &Accounts, ds: DsId, times: u32) -> u8
 }
 
 // Of a space, in the slots of a scenario.
-fn in_market(rt: &HostRuntime, times: u32) -> Result<usize, Fault> {
+fn in_market(rt: &HostRuntime, times: u32) -> Result<usize, MeasureFault> {
     let mut slots = market(rt.alloc())?;
     let addresses = Addresses::new(Vec::new(rt.alloc()));
     let given = in_slots(rt, &mut slots, &addresses, times);
@@ -81,14 +86,14 @@ fn in_slots(
     slots: &mut Slots,
     addresses: &Addresses,
     times: u32,
-) -> Result<usize, Fault>
+) -> Result<usize, MeasureFault>
     requires { HasRoom 0 slots.old }
 {
     slots.laws();
     slots.pay_by(1);
     let slot = SlotId::InLeaf(1, 0);
     if !slots.content(slot).is_empty() {
-        return Err(Fault::Account);
+        return Err(MeasureFault::Account);
     }
     slots.make_space(slot, SIZE)?;
     both(rt, slots, addresses, times)
@@ -99,7 +104,7 @@ fn both(
     slots: &mut Slots,
     addresses: &Addresses,
     times: u32,
-) -> Result<usize, Fault>
+) -> Result<usize, MeasureFault>
     requires live { IsLive slots.old.trades 1 }
     requires there { IsSlotId slots.old (InLeaf 1 0) }
     requires paid { IsPaidBy slots.old 1 }
@@ -107,10 +112,10 @@ fn both(
     match slots.content(SlotId::InLeaf(1, 0)) {
         Content::Space(_, size) => {
             if size < SIZE {
-                return Err(Fault::Account);
+                return Err(MeasureFault::Account);
             }
         }
-        _ => return Err(Fault::Account),
+        _ => return Err(MeasureFault::Account),
     }
     let start = Instant::now(rt);
     let one = by_slot(slots, times);
@@ -120,7 +125,7 @@ fn both(
     report(rt, "byte by address", u64::from(times), start)?;
     match other {
         Some(other) => Ok(usize::from(one ^ other)),
-        None => Err(Fault::Account),
+        None => Err(MeasureFault::Account),
     }
 }
 
@@ -145,7 +150,7 @@ fn by_address(slots: &mut Slots, addresses: &Addresses, times: u32) -> Option<u8
 {
     let mut sum = 0;
     for index in 0..times {
-        sum ^= addresses::load(addresses, slots, 1, index % SIZE)?;
+        sum ^= region_addresses::load(addresses, slots, 1, index % SIZE)?;
     }
     Some(sum)
 }

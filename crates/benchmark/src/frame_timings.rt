@@ -1,7 +1,7 @@
 // Frames that are taken and given back, and what is made for 64 MiB.
 ghost use Rattle.std.specs.Prelude.{◌≡◌, length};
 
-use crate::measure_fault::Fault;
+use crate::measure_fault::MeasureFault;
 use crate::timing::{report, report_all, since};
 use crate::word_timings::zeros;
 use gq_pages::Pages;
@@ -22,7 +22,7 @@ const PAIRS: u32 = 65536;
 
 /// Measures frames that are taken for the first time, frames that are taken and given back, and what is made for 64 MiB, so many times over. Gives the
 /// number of a frame.
-pub fn measured(rt: &HostRuntime, times: u32) -> Result<usize, Fault> {
+pub fn measured(rt: &HostRuntime, times: u32) -> Result<usize, MeasureFault> {
     let fresh = first_takes(rt, times)?;
     let taken = pairs(rt, times)?;
     let last = vecs(rt, times, taken)?;
@@ -31,14 +31,14 @@ pub fn measured(rt: &HostRuntime, times: u32) -> Result<usize, Fault> {
 }
 
 // A frame is taken and given back.
-fn pairs(rt: &HostRuntime, times: u32) -> Result<u32, Fault> {
+fn pairs(rt: &HostRuntime, times: u32) -> Result<u32, MeasureFault> {
     let mut pages = Pages::new(rt.alloc(), 2)?;
     let given = pairs_of(rt, &mut pages, times);
     drop(pages);
     given
 }
 
-fn pairs_of(rt: &HostRuntime, pages: &mut Pages, times: u32) -> Result<u32, Fault> {
+fn pairs_of(rt: &HostRuntime, pages: &mut Pages, times: u32) -> Result<u32, MeasureFault> {
     let start = Instant::now(rt);
     let mut last = 0;
     for _ in 0..times {
@@ -50,7 +50,7 @@ fn pairs_of(rt: &HostRuntime, pages: &mut Pages, times: u32) -> Result<u32, Faul
 }
 
 // A `Vec` of a frame's bytes is made and dropped.
-fn vecs(rt: &HostRuntime, times: u32, before: u32) -> Result<u32, Fault> {
+fn vecs(rt: &HostRuntime, times: u32, before: u32) -> Result<u32, MeasureFault> {
     let start = Instant::now(rt)?;
     let mut last = before;
     for _ in 0..times {
@@ -62,7 +62,7 @@ fn vecs(rt: &HostRuntime, times: u32, before: u32) -> Result<u32, Fault> {
 }
 
 // All frames of 64 MiB are taken for the first time.
-fn first_takes(rt: &HostRuntime, times: u32) -> Result<u32, Fault> {
+fn first_takes(rt: &HostRuntime, times: u32) -> Result<u32, MeasureFault> {
     let mut nanoseconds = 0;
     let mut last = 0;
     for _ in 0..times {
@@ -80,14 +80,14 @@ fn first_takes(rt: &HostRuntime, times: u32) -> Result<u32, Fault> {
 }
 
 // The number of the last frame, and the nanoseconds that all of them take.
-fn first_take(rt: &HostRuntime) -> Result<(u32, u128), Fault> {
+fn first_take(rt: &HostRuntime) -> Result<(u32, u128), MeasureFault> {
     let mut pages = Pages::new(rt.alloc(), FRAMES)?;
     let given = first_take_of(rt, &mut pages);
     drop(pages);
     given
 }
 
-fn first_take_of(rt: &HostRuntime, pages: &mut Pages) -> Result<(u32, u128), Fault> {
+fn first_take_of(rt: &HostRuntime, pages: &mut Pages) -> Result<(u32, u128), MeasureFault> {
     let start = Instant::now(rt);
     let last = take_all(pages);
     Ok((last, since(rt, start)?))
@@ -136,13 +136,13 @@ fn touched(bytes: &mut Vec<u8>, pair: u32) -> u32
 }
 
 // What is made for 64 MiB, and dropped.
-fn new_for_all(rt: &HostRuntime, times: u32) -> Result<(), Fault> {
+fn new_for_all(rt: &HostRuntime, times: u32) -> Result<(), MeasureFault> {
     new_pages(rt, times)?;
     new_accounts(rt, times)?;
     new_vecs(rt, times)
 }
 
-fn new_pages(rt: &HostRuntime, times: u32) -> Result<(), Fault> {
+fn new_pages(rt: &HostRuntime, times: u32) -> Result<(), MeasureFault> {
     let start = Instant::now(rt)?;
     for _ in 0..times {
         drop(Pages::new(rt.alloc(), FRAMES)?);
@@ -150,7 +150,7 @@ fn new_pages(rt: &HostRuntime, times: u32) -> Result<(), Fault> {
     report(rt, "Pages::new of 64 MiB", u64::from(times), Ok(start))
 }
 
-fn new_accounts(rt: &HostRuntime, times: u32) -> Result<(), Fault> {
+fn new_accounts(rt: &HostRuntime, times: u32) -> Result<(), MeasureFault> {
     let start = Instant::now(rt)?;
     for _ in 0..times {
         drop(Accounts::new(rt.alloc(), WHOLE, None)?);
@@ -158,7 +158,7 @@ fn new_accounts(rt: &HostRuntime, times: u32) -> Result<(), Fault> {
     report(rt, "Accounts::new of 64 MiB", u64::from(times), Ok(start))
 }
 
-fn new_vecs(rt: &HostRuntime, times: u32) -> Result<(), Fault> {
+fn new_vecs(rt: &HostRuntime, times: u32) -> Result<(), MeasureFault> {
     let start = Instant::now(rt)?;
     for _ in 0..times {
         drop(zeros(rt.alloc(), WHOLE as usize)?);

@@ -2,7 +2,7 @@
 ghost use Rattle.std.specs.Prelude.{◌≡◌, ◌≤◌, [], ◌∷◌, ◌++◌, OnOk};
 ghost use Rattle.gq_heap.specs.Heap.{IsHeap, AreInUse};
 
-use crate::measure_fault::Fault;
+use crate::measure_fault::MeasureFault;
 use crate::timing::{report_all, since};
 use gq_heap::{Heap, Place};
 use gq_list_store::ListStore;
@@ -21,9 +21,9 @@ const PAIRS: u32 = 65536;
 /// Measures blocks of `size` bytes, 1 to 2048, so many times over. First come as many as the store has room for, but for one, and then the same freed, last to
 /// first. All of this is done once more. Then one block is made and freed beside all of these, over and over, and one of 2048 bytes, whose place is cleared
 /// each time. Gives how many blocks there were in a round.
-pub fn measured(rt: &HostRuntime, times: u32, size: u32) -> Result<usize, Fault> {
+pub fn measured(rt: &HostRuntime, times: u32, size: u32) -> Result<usize, MeasureFault> {
     if size == 0 || size > 2048 {
-        return Err(Fault::Usage);
+        return Err(MeasureFault::Usage);
     }
     let count = BYTES / size - 1;
     rounds(rt, times, size, count)?;
@@ -40,7 +40,7 @@ pub fn measured(rt: &HostRuntime, times: u32, size: u32) -> Result<usize, Fault>
 }
 
 // As many blocks as the store has room for, but for one, and reports of them.
-fn rounds(rt: &HostRuntime, times: u32, size: u32, count: u32) -> Result<(), Fault>
+fn rounds(rt: &HostRuntime, times: u32, size: u32, count: u32) -> Result<(), MeasureFault>
     requires { (1 ≤ size) × (size ≤ 2048) }
 {
     let mut first = 0;
@@ -59,7 +59,7 @@ fn rounds(rt: &HostRuntime, times: u32, size: u32, count: u32) -> Result<(), Fau
 }
 
 // A round over a fresh store and heap.
-fn round(rt: &HostRuntime, size: u32, count: u32) -> Result<[u128; 3], Fault>
+fn round(rt: &HostRuntime, size: u32, count: u32) -> Result<[u128; 3], MeasureFault>
     requires { (1 ≤ size) × (size ≤ 2048) }
 {
     let mut places = Vec::with_capacity(rt.alloc(), count as usize)?;
@@ -80,7 +80,7 @@ fn measured_in<S: ByteStore>(
     places: &mut Vec<Place>,
     size: u32,
     count: u32,
-) -> Result<[u128; 3], Fault>
+) -> Result<[u128; 3], MeasureFault>
     requires size { (1 ≤ size) × (size ≤ 2048) }
     requires kept { AreInUse heap.old (S.state store.old) places.old.items }
 {
@@ -100,7 +100,7 @@ fn timed_allocs<S: ByteStore>(
     places: &mut Vec<Place>,
     size: u32,
     count: u32,
-) -> Result<u128, Fault>
+) -> Result<u128, MeasureFault>
     requires size { (1 ≤ size) × (size ≤ 2048) }
     requires kept { AreInUse heap.old (S.state store.old) places.old.items }
     ensures { OnOk result (AreInUse heap.new (S.state store.new) places.new.items) }
@@ -117,7 +117,7 @@ fn alloc_all<S: ByteStore>(
     places: &mut Vec<Place>,
     size: u32,
     count: u32,
-) -> Result<(), Fault>
+) -> Result<(), MeasureFault>
     requires size { (1 ≤ size) × (size ≤ 2048) }
     requires kept { AreInUse heap.old (S.state store.old) places.old.items }
     ensures { OnOk result (AreInUse heap.new (S.state store.new) places.new.items) }
@@ -159,7 +159,13 @@ fn free_last<S: ByteStore>(heap: &mut Heap, store: &mut S, places: &mut Vec<Plac
 }
 
 // Beside so many blocks, one is made and freed over and over.
-fn pairs(rt: &HostRuntime, size: u32, count: u32, times: u32, name: &str) -> Result<(), Fault>
+fn pairs(
+    rt: &HostRuntime,
+    size: u32,
+    count: u32,
+    times: u32,
+    name: &str,
+) -> Result<(), MeasureFault>
     requires { (1 ≤ size) × (size ≤ 2048) }
 {
     let mut places = Vec::with_capacity(rt.alloc(), count as usize)?;
@@ -181,7 +187,7 @@ fn pairs_in<S: ByteStore>(
     size: u32,
     count: u32,
     times: u32,
-) -> Result<u128, Fault>
+) -> Result<u128, MeasureFault>
     requires size { (1 ≤ size) × (size ≤ 2048) }
     requires kept { AreInUse heap.old (S.state store.old) places.old.items }
 {
@@ -193,7 +199,11 @@ fn pairs_in<S: ByteStore>(
     since(rt, Ok(start))
 }
 
-fn alloc_and_free<S: ByteStore>(heap: &mut Heap, store: &mut S, size: u32) -> Result<(), Fault>
+fn alloc_and_free<S: ByteStore>(
+    heap: &mut Heap,
+    store: &mut S,
+    size: u32,
+) -> Result<(), MeasureFault>
     requires size { (1 ≤ size) × (size ≤ 2048) }
     requires kept { IsHeap heap.old (S.state store.old) }
     ensures { OnOk result (IsHeap heap.new (S.state store.new)) }

@@ -1,5 +1,5 @@
 // Blocks of the kit's heap, whose free parts are a list in the order of their addresses.
-use crate::measure_fault::Fault;
+use crate::measure_fault::MeasureFault;
 use crate::timing::{report_all, since};
 use linked_list_allocator::LocalHeap;
 use std::alloc::AllocError;
@@ -12,9 +12,9 @@ const ROOM: usize = 524288;
 
 /// Measures blocks of `size` bytes, 1 to 2048, so many times over: some are made, freed last to first, and made once more. Gives how many blocks there were
 /// in a round.
-pub fn measured(rt: &HostRuntime, times: u32, size: u32) -> Result<usize, Fault> {
+pub fn measured(rt: &HostRuntime, times: u32, size: u32) -> Result<usize, MeasureFault> {
     if size == 0 || size > 2048 {
-        return Err(Fault::Usage);
+        return Err(MeasureFault::Usage);
     }
     let count = BYTES / size - 1;
     let mut first = 0;
@@ -34,7 +34,7 @@ pub fn measured(rt: &HostRuntime, times: u32, size: u32) -> Result<usize, Fault>
 }
 
 // The nanoseconds of so many blocks: made for the first time, freed, and made again.
-fn round(rt: &HostRuntime, size: u32, count: u32) -> Result<[u128; 3], Fault> {
+fn round(rt: &HostRuntime, size: u32, count: u32) -> Result<[u128; 3], MeasureFault> {
     let heap = LocalHeap::new(rt.alloc(), ROOM)?;
     let mut blocks = Vec::with_capacity(rt.alloc(), count as usize)?;
     let given = measured_in(rt, &heap, &mut blocks, size, count);
@@ -49,7 +49,7 @@ fn measured_in<'a>(
     blocks: &mut Vec<Vec<u8, &'a LocalHeap>>,
     size: u32,
     count: u32,
-) -> Result<[u128; 3], Fault> {
+) -> Result<[u128; 3], MeasureFault> {
     let first = timed_allocs(rt, heap, blocks, size, count)?;
     let start = Instant::now(rt);
     free_all(blocks);
@@ -65,7 +65,7 @@ fn timed_allocs<'a>(
     blocks: &mut Vec<Vec<u8, &'a LocalHeap>>,
     size: u32,
     count: u32,
-) -> Result<u128, Fault> {
+) -> Result<u128, MeasureFault> {
     let start = Instant::now(rt)?;
     alloc_all(heap, blocks, size, count)?;
     since(rt, Ok(start))

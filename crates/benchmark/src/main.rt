@@ -26,7 +26,7 @@ mod session_timings;
 mod timing;
 mod word_timings;
 
-use measure_fault::Fault;
+use measure_fault::MeasureFault;
 use std::env;
 use std::io::Write;
 use std::process::ExitCode;
@@ -90,7 +90,7 @@ fn main(rt: HostRuntime) -> ExitCode {
 }
 
 /// Measures what the words of the command line ask for.
-fn measured(rt: &HostRuntime) -> Result<(), Fault> {
+fn measured(rt: &HostRuntime) -> Result<(), MeasureFault> {
     let Request { work, times, size } = asked(rt)?;
     let given = match work {
         Work::Assemble => program_timings::assembled(rt, times),
@@ -112,13 +112,13 @@ fn measured(rt: &HostRuntime) -> Result<(), Fault> {
 }
 
 /// The words of the command line. Without a third one the size is 16.
-fn asked(rt: &HostRuntime) -> Result<Request, Fault> {
+fn asked(rt: &HostRuntime) -> Result<Request, MeasureFault> {
     let mut words = env::args(rt)?.skip(1);
     let Some(work) = words.next() else {
-        return Err(Fault::Usage);
+        return Err(MeasureFault::Usage);
     };
     let Some(times) = words.next() else {
-        return Err(Fault::Usage);
+        return Err(MeasureFault::Usage);
     };
     let size = match words.next() {
         Some(size) => size.as_str().parse::<u32>(),
@@ -130,6 +130,6 @@ fn asked(rt: &HostRuntime) -> Result<Request, Fault> {
         size,
     ) {
         (Some(work), Ok(times), Ok(size)) => Ok(Request { work, times, size }),
-        _ => Err(Fault::Usage),
+        _ => Err(MeasureFault::Usage),
     }
 }

@@ -3,14 +3,14 @@ use gq_asm::AssembleError;
 use gq_code::decode::DecodeError;
 use gq_scenario::scenario_fault::ScenarioError;
 use gq_store::GrowFault;
-use gq_verify::Fault as Broken;
+use gq_verify::BrokenRule;
 use std::alloc::AllocError;
 use std::io;
 use thiserror::Error;
 
 /// Why nothing was measured.
 #[derive(Debug, Drop, Error)]
-pub enum Fault {
+pub enum MeasureFault {
     #[error("the words are WORK and TIMES, and for some works SIZE")]
     Usage,
     #[error("host memory refused")]
@@ -22,7 +22,7 @@ pub enum Fault {
     #[error("no program: {0}")]
     Code(DecodeError),
     #[error("refused: {0}")]
-    Refused(Broken),
+    Refused(BrokenRule),
     #[error("no interfaces")]
     Interfaces,
     #[error("no scenario: {0}")]
@@ -33,20 +33,20 @@ pub enum Fault {
     Grow(GrowFault),
 }
 
-impl From<AllocError> for Fault {
-    fn from(refused: AllocError) -> Fault {
-        Fault::Memory(refused)
+impl From<AllocError> for MeasureFault {
+    fn from(refused: AllocError) -> MeasureFault {
+        MeasureFault::Memory(refused)
     }
 }
 
-impl From<io::Error> for Fault {
-    fn from(error: io::Error) -> Fault {
-        Fault::Io(error)
+impl From<io::Error> for MeasureFault {
+    fn from(error: io::Error) -> MeasureFault {
+        MeasureFault::Io(error)
     }
 }
 
-impl From<GrowFault> for Fault {
-    fn from(refused: GrowFault) -> Fault {
-        Fault::Grow(refused)
+impl From<GrowFault> for MeasureFault {
+    fn from(refused: GrowFault) -> MeasureFault {
+        MeasureFault::Grow(refused)
     }
 }

@@ -3,7 +3,7 @@ ghost use Rattle.std.specs.Prelude.{◌≡◌, ◌≤◌, IfOk, OnOk};
 ghost use Rattle.gq_heap.specs.Heap.{IsHeap};
 ghost use Rattle.gq_pool.specs.Pools.{IsPool, count_of};
 
-use crate::measure_fault::Fault;
+use crate::measure_fault::MeasureFault;
 use crate::timing::{report, report_all, since};
 use gq_heap::Heap;
 use gq_list_store::ListStore;
@@ -24,9 +24,9 @@ const ENTRIES: u32 = 1024;
 const ENTRY: u32 = 16;
 
 /// Measures slices of `size` bytes that are made and freed, so many times over. Gives the bytes that one costs.
-pub fn slices(rt: &HostRuntime, times: u32, size: u32) -> Result<usize, Fault> {
+pub fn slices(rt: &HostRuntime, times: u32, size: u32) -> Result<usize, MeasureFault> {
     if size > 65536 {
-        return Err(Fault::Usage);
+        return Err(MeasureFault::Usage);
     }
     let mut store = ListStore::new(rt.alloc(), PAGES, None)?;
     let given = slices_in(rt, &mut store, times, size);
@@ -39,7 +39,7 @@ fn slices_in<S: ByteStore>(
     store: &mut S,
     times: u32,
     size: u32,
-) -> Result<usize, Fault>
+) -> Result<usize, MeasureFault>
     requires { size ≤ 65536 }
 {
     let start = Instant::now(rt)?;
@@ -51,7 +51,7 @@ fn slices_in<S: ByteStore>(
     Ok((u64::from(size) + Sliced::overhead(u64::from(size))) as usize)
 }
 
-fn alloc_and_free<S: ByteStore>(store: &mut S, size: u32) -> Result<(), Fault>
+fn alloc_and_free<S: ByteStore>(store: &mut S, size: u32) -> Result<(), MeasureFault>
     requires { size ≤ 65536 }
 {
     let sliced = Sliced::new();
@@ -63,7 +63,7 @@ fn alloc_and_free<S: ByteStore>(store: &mut S, size: u32) -> Result<(), Fault>
 }
 
 /// Measures the entries of a pool, so many times over: all are added, added once more in vain, and removed. Gives how many there are.
-pub fn entries(rt: &HostRuntime, times: u32) -> Result<usize, Fault> {
+pub fn entries(rt: &HostRuntime, times: u32) -> Result<usize, MeasureFault> {
     let mut first = 0;
     let mut again = 0;
     let mut removed = 0;
@@ -81,7 +81,7 @@ pub fn entries(rt: &HostRuntime, times: u32) -> Result<usize, Fault> {
 }
 
 // The nanoseconds of all entries: added for the first time, added again after they were removed, and removed.
-fn round(rt: &HostRuntime) -> Result<[u128; 3], Fault> {
+fn round(rt: &HostRuntime) -> Result<[u128; 3], MeasureFault> {
     let mut store = ListStore::new(rt.alloc(), PAGES, None)?;
     let mut heap = Heap::new();
     let given = measured_in(rt, &mut store, &mut heap);
@@ -94,7 +94,7 @@ fn measured_in<S: ByteStore>(
     rt: &HostRuntime,
     store: &mut S,
     heap: &mut Heap,
-) -> Result<[u128; 3], Fault>
+) -> Result<[u128; 3], MeasureFault>
     requires { IsHeap heap.old (S.state store.old) }
 {
     let pool = made(store, heap)?;
@@ -112,7 +112,7 @@ fn timed_takes<S: ByteStore>(
     pool: &Pool,
     store: &mut S,
     heap: &mut Heap,
-) -> Result<u128, Fault>
+) -> Result<u128, MeasureFault>
     requires kept { IsPool pool.now heap.old (S.state store.old) }
     requires count { count_of pool.now ≡ 1024 }
     ensures { OnOk result (IsPool pool.now heap.new (S.state store.new)) }
@@ -122,7 +122,7 @@ fn timed_takes<S: ByteStore>(
     since(rt, Ok(start))
 }
 
-fn made<S: ByteStore>(store: &mut S, heap: &Heap) -> Result<Pool, Fault>
+fn made<S: ByteStore>(store: &mut S, heap: &Heap) -> Result<Pool, MeasureFault>
     requires { IsHeap heap.now (S.state store.old) }
     ensures kept { IfOk result (λ pool. IsPool pool heap.now (S.state store.new)) }
     ensures count { IfOk result (λ pool. count_of pool ≡ 1024) }
@@ -131,7 +131,7 @@ fn made<S: ByteStore>(store: &mut S, heap: &Heap) -> Result<Pool, Fault>
     Ok(pool)
 }
 
-fn take_all<S: ByteStore>(pool: &Pool, store: &mut S, heap: &mut Heap) -> Result<(), Fault>
+fn take_all<S: ByteStore>(pool: &Pool, store: &mut S, heap: &mut Heap) -> Result<(), MeasureFault>
     requires kept { IsPool pool.now heap.old (S.state store.old) }
     requires count { count_of pool.now ≡ 1024 }
     ensures { OnOk result (IsPool pool.now heap.new (S.state store.new)) }

@@ -1,5 +1,5 @@
 // Programs and scenarios: text and code that is read and written.
-use crate::measure_fault::Fault;
+use crate::measure_fault::MeasureFault;
 use crate::timing::report;
 use gq_asm::assemble;
 use gq_code::decode::decode;
@@ -13,27 +13,27 @@ use std::io::Read;
 use std::time::Instant;
 
 /// Standard input, whole.
-fn input(rt: &HostRuntime) -> Result<Vec<u8>, Fault> {
+fn input(rt: &HostRuntime) -> Result<Vec<u8>, MeasureFault> {
     let mut input = Vec::new(rt.alloc());
     rt.stdin().read_to_end(&mut input)?;
     Ok(input)
 }
 
 /// Assembles a text so often, and gives the number of its sections.
-pub fn assembled(rt: &HostRuntime, times: u32) -> Result<usize, Fault> {
+pub fn assembled(rt: &HostRuntime, times: u32) -> Result<usize, MeasureFault> {
     let text = input(rt)?;
     let given = assembled_from(rt, text.as_slice(), times);
     drop(text);
     given
 }
 
-fn assembled_from(rt: &HostRuntime, text: &[u8], times: u32) -> Result<usize, Fault> {
+fn assembled_from(rt: &HostRuntime, text: &[u8], times: u32) -> Result<usize, MeasureFault> {
     let start = Instant::now(rt)?;
     let mut given = 0;
     for _ in 0..times {
         match assemble(rt.alloc(), text) {
             Ok(program) => given = program.sections().len(),
-            Err(error) => return Err(Fault::Text(error)),
+            Err(error) => return Err(MeasureFault::Text(error)),
         }
     }
     report(rt, "assemble", u64::from(times), Ok(start))?;
@@ -41,20 +41,20 @@ fn assembled_from(rt: &HostRuntime, text: &[u8], times: u32) -> Result<usize, Fa
 }
 
 /// Decodes a code so often, and gives the number of its sections.
-pub fn decoded(rt: &HostRuntime, times: u32) -> Result<usize, Fault> {
+pub fn decoded(rt: &HostRuntime, times: u32) -> Result<usize, MeasureFault> {
     let code = input(rt)?;
     let given = decoded_from(rt, code.as_slice(), times);
     drop(code);
     given
 }
 
-fn decoded_from(rt: &HostRuntime, code: &[u8], times: u32) -> Result<usize, Fault> {
+fn decoded_from(rt: &HostRuntime, code: &[u8], times: u32) -> Result<usize, MeasureFault> {
     let start = Instant::now(rt)?;
     let mut given = 0;
     for _ in 0..times {
         match decode(rt.alloc(), code) {
             Ok(program) => given = program.sections().len(),
-            Err(error) => return Err(Fault::Code(error)),
+            Err(error) => return Err(MeasureFault::Code(error)),
         }
     }
     report(rt, "decode", u64::from(times), Ok(start))?;
@@ -62,23 +62,23 @@ fn decoded_from(rt: &HostRuntime, code: &[u8], times: u32) -> Result<usize, Faul
 }
 
 /// The program of a text from standard input.
-fn program(rt: &HostRuntime) -> Result<Program, Fault> {
+fn program(rt: &HostRuntime) -> Result<Program, MeasureFault> {
     let text = input(rt)?;
     match assemble(rt.alloc(), text.as_slice()) {
         Ok(program) => Ok(program),
-        Err(error) => Err(Fault::Text(error)),
+        Err(error) => Err(MeasureFault::Text(error)),
     }
 }
 
 /// Encodes the program of a text so often, and gives the length of its code.
-pub fn encoded(rt: &HostRuntime, times: u32) -> Result<usize, Fault> {
+pub fn encoded(rt: &HostRuntime, times: u32) -> Result<usize, MeasureFault> {
     let program = program(rt)?;
     let given = encoded_from(rt, &program, times);
     drop(program);
     given
 }
 
-fn encoded_from(rt: &HostRuntime, program: &Program, times: u32) -> Result<usize, Fault> {
+fn encoded_from(rt: &HostRuntime, program: &Program, times: u32) -> Result<usize, MeasureFault> {
     let start = Instant::now(rt)?;
     let mut given = 0;
     for _ in 0..times {
@@ -89,22 +89,22 @@ fn encoded_from(rt: &HostRuntime, program: &Program, times: u32) -> Result<usize
 }
 
 /// As many interfaces as there may be, of services `s00` to `s77`, with a need of 8192 bytes.
-fn interfaces(rt: &HostRuntime) -> Result<Interfaces, Fault> {
+fn interfaces(rt: &HostRuntime) -> Result<Interfaces, MeasureFault> {
     let mut entries = Vec::new(rt.alloc());
     for number in 0..64u8 {
         let Some(service) = Name::new(&[b's', b'0' + number / 8, b'0' + number % 8]) else {
-            return Err(Fault::Interfaces);
+            return Err(MeasureFault::Interfaces);
         };
         let interface = Interface::new(1000, 2000, 8192, None);
         if entries.push((service, interface)).is_err() {
-            return Err(Fault::Memory(AllocError));
+            return Err(MeasureFault::Memory(AllocError));
         }
     }
-    Interfaces::new(entries).ok_or(Fault::Interfaces)
+    Interfaces::new(entries).ok_or(MeasureFault::Interfaces)
 }
 
 /// Verifies the program of a text so often, with 64 interfaces, and gives the bytes of its own that it uses at most.
-pub fn verified(rt: &HostRuntime, times: u32) -> Result<usize, Fault> {
+pub fn verified(rt: &HostRuntime, times: u32) -> Result<usize, MeasureFault> {
     let interfaces = interfaces(rt)?;
     let program = program(rt)?;
     let given = verified_from(rt, &program, &interfaces, times);
@@ -118,13 +118,13 @@ fn verified_from(
     program: &Program,
     interfaces: &Interfaces,
     times: u32,
-) -> Result<usize, Fault> {
+) -> Result<usize, MeasureFault> {
     let start = Instant::now(rt)?;
     let mut given = 0;
     for _ in 0..times {
         match verify(program, None, interfaces, &[]) {
             Ok(verified) => given = verified.own(),
-            Err(fault) => return Err(Fault::Refused(fault)),
+            Err(fault) => return Err(MeasureFault::Refused(fault)),
         }
     }
     report(rt, "verify", u64::from(times), Ok(start))?;
@@ -132,20 +132,20 @@ fn verified_from(
 }
 
 /// Reads a scenario so often, and gives the number of its leaves.
-pub fn read(rt: &HostRuntime, times: u32) -> Result<usize, Fault> {
+pub fn read(rt: &HostRuntime, times: u32) -> Result<usize, MeasureFault> {
     let text = input(rt)?;
     let given = read_from(rt, text.as_slice(), times);
     drop(text);
     given
 }
 
-fn read_from(rt: &HostRuntime, text: &[u8], times: u32) -> Result<usize, Fault> {
+fn read_from(rt: &HostRuntime, text: &[u8], times: u32) -> Result<usize, MeasureFault> {
     let start = Instant::now(rt)?;
     let mut given = 0;
     for _ in 0..times {
         match read_scenario(rt.alloc(), text) {
             Ok(scenario) => given = scenario.leaf_count(),
-            Err(error) => return Err(Fault::Scenario(error)),
+            Err(error) => return Err(MeasureFault::Scenario(error)),
         }
     }
     report(rt, "read", u64::from(times), Ok(start))?;

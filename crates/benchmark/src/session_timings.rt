@@ -5,7 +5,7 @@ ghost use Rattle.gq_trade.specs.declared.session.SlotId.TheVariants.{InLeaf};
 ghost use Rattle.gq_slots.specs.Slots.{IsMark, IsSlotId};
 ghost use Rattle.benchmark.specs.Session_rounds.{Calls, CanClose, Closes, HasRoom, IsCalm, Opens, Passes, live_node, sessions_of};
 
-use crate::measure_fault::Fault;
+use crate::measure_fault::MeasureFault;
 use crate::timing::report;
 use gq_contents::Content;
 use gq_slots::{Slots, sessions};
@@ -19,9 +19,9 @@ const DONATION: Amount = Amount { ram: 4096, caps: 0 };
 
 /// Measures sessions from the ask to the close, so many one after the other, while `open` others are open: at most 10,000. Then as many replies to an
 /// open and to a close, of which each sets the client's slot. Gives how many sessions there were.
-pub fn measured(rt: &HostRuntime, times: u32, open: u32) -> Result<usize, Fault> {
+pub fn measured(rt: &HostRuntime, times: u32, open: u32) -> Result<usize, MeasureFault> {
     if open > 10000 {
-        return Err(Fault::Usage);
+        return Err(MeasureFault::Usage);
     }
     let mut slots = market(rt.alloc())?;
     let given = in_slots(rt, &mut slots, times, open);
@@ -30,21 +30,26 @@ pub fn measured(rt: &HostRuntime, times: u32, open: u32) -> Result<usize, Fault>
 }
 
 // The same in slots in which no session is open, while so many others are.
-fn in_slots(rt: &HostRuntime, slots: &mut Slots, times: u32, others: u32) -> Result<usize, Fault>
+fn in_slots(
+    rt: &HostRuntime,
+    slots: &mut Slots,
+    times: u32,
+    others: u32,
+) -> Result<usize, MeasureFault>
     requires room { HasRoom 0 slots.old }
     requires others { others ≤ 10000 }
 {
     if !open_all(slots, others) {
-        return Err(Fault::Account);
+        return Err(MeasureFault::Account);
     }
     let start = Instant::now(rt)?;
     if !rounds(slots, times) {
-        return Err(Fault::Account);
+        return Err(MeasureFault::Account);
     }
     report(rt, "session", u64::from(times), Ok(start))?;
     let start = Instant::now(rt)?;
     if !replies(slots, times) {
-        return Err(Fault::Account);
+        return Err(MeasureFault::Account);
     }
     report(rt, "two replies", u64::from(times), Ok(start))?;
     Ok(times as usize)

@@ -3,7 +3,7 @@ ghost use Rattle.std.specs.Prelude.{◌≡◌, ◌+◌, ◌<◌, ◌≤◌, IfOk
 ghost use Rattle.gq_dataspace.specs.Dataspaces.{content_of};
 ghost use Rattle.gq_ram.specs.Account_table.{IsOpen};
 
-use crate::measure_fault::Fault;
+use crate::measure_fault::MeasureFault;
 use crate::timing::{report, report_all, since};
 use gq_dataspace::DsId;
 use gq_ram::{AccountNo, Accounts};
@@ -23,7 +23,7 @@ const BLOCKS: u32 = 512;
 
 /// Measures numbers that are written and read, each as often as there are numbers, and blocks of bytes that are cleared, so many times over. They lie in a
 /// dataspace whose frames follow one another, in one where none follows the one before, and in a `Vec`. Gives a sum of what was read.
-pub fn measured(rt: &HostRuntime, times: u32) -> Result<usize, Fault> {
+pub fn measured(rt: &HostRuntime, times: u32) -> Result<usize, MeasureFault> {
     let in_row = in_row(rt, times)?;
     let scattered = scattered(rt, times)?;
     let in_vec = in_a_vec(rt, times)?;
@@ -31,7 +31,7 @@ pub fn measured(rt: &HostRuntime, times: u32) -> Result<usize, Fault> {
 }
 
 // In a dataspace whose frames follow one another.
-fn in_row(rt: &HostRuntime, times: u32) -> Result<u32, Fault> {
+fn in_row(rt: &HostRuntime, times: u32) -> Result<u32, MeasureFault> {
     let mut accounts = Accounts::new(rt.alloc(), 2 * SIZE, None)?;
     let given = in_new(rt, &mut accounts, times, "dataspace");
     drop(accounts);
@@ -39,7 +39,7 @@ fn in_row(rt: &HostRuntime, times: u32) -> Result<u32, Fault> {
 }
 
 // In a dataspace in which no frame follows the one before.
-fn scattered(rt: &HostRuntime, times: u32) -> Result<u32, Fault> {
+fn scattered(rt: &HostRuntime, times: u32) -> Result<u32, MeasureFault> {
     let mut accounts = Accounts::new(rt.alloc(), SIZE, None)?;
     let given = in_scattered(rt, &mut accounts, times);
     drop(accounts);
@@ -47,7 +47,11 @@ fn scattered(rt: &HostRuntime, times: u32) -> Result<u32, Fault> {
 }
 
 // The same once another account had each frame and gave it back: the last of them first.
-fn in_scattered(rt: &HostRuntime, accounts: &mut Accounts, times: u32) -> Result<u32, Fault> {
+fn in_scattered(
+    rt: &HostRuntime,
+    accounts: &mut Accounts,
+    times: u32,
+) -> Result<u32, MeasureFault> {
     let root = accounts.root();
     let member = accounts.add(root)?;
     open_and_close(accounts, member);
@@ -60,11 +64,11 @@ fn in_new(
     accounts: &mut Accounts,
     times: u32,
     frames: &str,
-) -> Result<u32, Fault> {
+) -> Result<u32, MeasureFault> {
     let root = accounts.root();
     match accounts.alloc(root, SIZE) {
         Ok(ds) => in_a_dataspace(rt, accounts, ds, times, frames),
-        Err(_) => Err(Fault::Account),
+        Err(_) => Err(MeasureFault::Account),
     }
 }
 
@@ -75,7 +79,7 @@ fn in_a_dataspace(
     ds: DsId,
     times: u32,
     frames: &str,
-) -> Result<u32, Fault>
+) -> Result<u32, MeasureFault>
     requires { length (content_of accounts.old.spaces.spaces ds.0) ≡ 1048576 }
 {
     let sum = in_sequence(rt, accounts, ds, times, frames)?;
@@ -96,7 +100,7 @@ fn in_sequence(
     ds: DsId,
     times: u32,
     frames: &str,
-) -> Result<u32, Fault>
+) -> Result<u32, MeasureFault>
     requires { length (content_of accounts.old.spaces.spaces ds.0) ≡ 1048576 }
     ensures { length (content_of accounts.new.spaces.spaces ds.0) ≡ 1048576 }
 {
@@ -123,7 +127,7 @@ fn at_random(
     times: u32,
     frames: &str,
     sum: u32,
-) -> Result<u32, Fault>
+) -> Result<u32, MeasureFault>
     requires { length (content_of accounts.old.spaces.spaces ds.0) ≡ 1048576 }
     ensures { length (content_of accounts.new.spaces.spaces ds.0) ≡ 1048576 }
 {
@@ -150,7 +154,7 @@ fn report_of(
     what: &str,
     times: u64,
     start: io::Result<Instant>,
-) -> Result<(), Fault> {
+) -> Result<(), MeasureFault> {
     let nanoseconds = since(rt, start)?;
     let name = format!(in rt.alloc(); "{frames} {what}")?;
     report_all(rt, name.as_str(), times, nanoseconds)
@@ -261,14 +265,14 @@ pub fn zeros(alloc: Global, n: usize) -> Result<Vec<u8>, AllocError>
 }
 
 // The same in a `Vec`.
-fn in_a_vec(rt: &HostRuntime, times: u32) -> Result<u32, Fault> {
+fn in_a_vec(rt: &HostRuntime, times: u32) -> Result<u32, MeasureFault> {
     let mut bytes = zeros(rt.alloc(), SIZE as usize)?;
     let given = in_bytes(rt, &mut bytes, times);
     drop(bytes);
     given
 }
 
-fn in_bytes(rt: &HostRuntime, bytes: &mut Vec<u8>, times: u32) -> Result<u32, Fault>
+fn in_bytes(rt: &HostRuntime, bytes: &mut Vec<u8>, times: u32) -> Result<u32, MeasureFault>
     requires { length bytes.old.items ≡ 1048576 }
 {
     let operations = u64::from(times) * u64::from(WORDS);

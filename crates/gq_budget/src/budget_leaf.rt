@@ -6,7 +6,7 @@ ghost use Rattle.gq_budget.specs.internal.Counted.{AreRequests, costs_of};
 
 use crate::number_sums::Numbers;
 use gq_program::{Body, Name, Program, Section};
-use gq_verify::{Requests, Verified, section_cost};
+use gq_verify::{RequestCounts, Verified, section_cost};
 use smallvec::SmallVec;
 use std::alloc::{AllocError, Global};
 use std::marker::Model;
@@ -81,7 +81,7 @@ impl<'a> BudgetLeaf<'a> {
     }
 
     /// How often each of its sections asks for the sections of services.
-    pub(crate) fn requests(&self, alloc: Global) -> Result<Vec<Requests>, AllocError>
+    pub(crate) fn requests(&self, alloc: Global) -> Result<Vec<RequestCounts>, AllocError>
         ensures { IfOk result (λ n. AreRequests self.now.subject self.now.subject.program.sections n.items) }
     {
         let verified = self.verified;

@@ -8,7 +8,7 @@ ghost use Rattle.gq_budget.specs.internal.Run_rounds.{askers_in};
 use crate::budget_leaf::BudgetLeaf;
 use crate::number_sums::Numbers;
 use gq_program::{Name, Section};
-use gq_verify::{Asker, Requests, Service};
+use gq_verify::{Asker, RequestCounts, Service};
 use std::alloc::{AllocError, Global};
 use std::marker::Model;
 
@@ -18,7 +18,7 @@ use std::marker::Model;
 pub struct CountedLeaf {
     sections: Vec<Section>,
     provides: Option<Name>,
-    requests: Vec<Requests>,
+    requests: Vec<RequestCounts>,
     costs: Numbers,
 }
 

@@ -1,8 +1,8 @@
 -- Inputs that were read, and what is asked of them.
 use Rattle.std.proofs.Common.{◌≡◌, ◌≢◌, Bool, true, false, List, ℕ, Option, Result, Ok, Err, OnOk, Global, Some, None, option_map, refl, subst}
 use Rattle.std.specs.Prelude.{String, string_bytes}
-use Rattle.gq_cli.specs.declared.execute.Fault.{Fault}
-use Rattle.gq_cli.specs.declared.execute.Fault.TheVariants.{Refused, Write}
+use Rattle.gq_cli.specs.declared.execute.CommandFault.{CommandFault}
+use Rattle.gq_cli.specs.declared.execute.CommandFault.TheVariants.{Refused, Write}
 use Rattle.gq_cli.specs.Early_command_ends.{Ended, EndedFaults, IsKnown}
 use Rattle.gq_command.specs.declared.command.Command.{Command}
 use Rattle.gq_command.specs.declared.command.Command.TheVariants.{OfScenario, OfLeaf, OfTurns, Fit, Faults, Rule, Version, Stored, Help}
@@ -27,7 +27,7 @@ module _ (scenario scenario_left turns turns_left : Option (List ℕ)) (asked : 
   }
 
 -- after a failed write a prefix of the text was written
-pub cut_short : (A : Type 0) (E : (Asked → Type 0) → Type 0) (f : Fault) (before after : Option (List ℕ)) → f ≡ Write
+pub cut_short : (A : Type 0) (E : (Asked → Type 0) → Type 0) (f : CommandFault) (before after : Option (List ℕ)) → f ≡ Write
     → (IsKnown {A = A} (Err f) → E (Ended {A = A} (Err f) before after)) → E (λ asked. WritesCut asked before after)
 cut_short A E f before after e h = subst (λ x. IsKnown {A = A} (Err x) → E (Ended {A = A} (Err x) before after)) e h (tt {0})
 
@@ -65,7 +65,7 @@ executes_by table (Help text) scenario scenario_left turns turns_left P Q so h =
 
 -- where the texts are refused, the line that says why was reported
 pub refused_reported : (A : Type 0) {E : Type 0} (contents : E → Option (List ℕ)) (old new : Counted E) (table : Table) (command : Command)
-    (scenario scenario_left turns turns_left : Option (List ℕ)) (f : Fault) (line : String Global) (before after : Option (List ℕ)) → f ≡ Refused line
+    (scenario scenario_left turns turns_left : Option (List ℕ)) (f : CommandFault) (line : String Global) (before after : Option (List ℕ)) → f ≡ Refused line
     → (IsKnown {A = A} (Err f) → Executes table command scenario scenario_left turns turns_left (Ended {A = A} (Err f) before after))
     → IsReported contents old new (string_bytes line)
     → Executes table command scenario scenario_left turns turns_left (λ asked. IsRefusal contents asked old new)
@@ -84,7 +84,7 @@ not_run TraceAll scenario turns before after ne = tt {0}
 not_run (State first) scenario turns before after ne = tt {0}
 not_run Peaks scenario turns before after ne = tt {0}
 
-pub upheld_otherwise : (scenario scenario_left turns turns_left : Option (List ℕ)) (command : TurnsCommand) (result : Result (Unit {0}) Fault)
+pub upheld_otherwise : (scenario scenario_left turns turns_left : Option (List ℕ)) (command : TurnsCommand) (result : Result (Unit {0}) CommandFault)
     (before after : Option (List ℕ)) → command ≢ Run
     → (IsKnown result → ReadsBoth scenario scenario_left turns turns_left (Of_both command) (Ended result before after))
     → OnOk result (ReadsBoth scenario scenario_left turns turns_left (Of_both command) (λ asked. IsUpheldBy asked before after))
@@ -109,7 +109,7 @@ module _ (table : Table) (command : Command) (scenario scenario_left turns turns
   done_either true e h g = g e
   done_either false e h g = h e
 
-  module _ {E : Type 0} (contents : E → Option (List ℕ)) (old new : Counted E) (f : Fault) (line : String Global) (is : f ≡ Refused line)
+  module _ {E : Type 0} (contents : E → Option (List ℕ)) (old new : Counted E) (f : CommandFault) (line : String Global) (is : f ≡ Refused line)
       (reported : IsReported contents old new (string_bytes line)) where
     pub refused_either : (b : Bool) → writes_refusals command ≡ b
         → (writes_refusals command ≡ false → IsKnown {A = Unit {0}} (Err f) → Come (Ended {A = Unit {0}} (Err f) before after))
@@ -123,7 +123,7 @@ module _ (table : Table) (command : Command) (scenario scenario_left turns turns
         (subst (λ x. IsKnown {A = Unit {0}} (Err x) → Come (EndedFaults {A = Unit {0}} (Err x) before after m n)) is (g e) (tt {0}))
 
   -- all that is wrong was reported
-  pub all_reported : (f : Fault) (line : String Global) → f ≡ Refused line
+  pub all_reported : (f : CommandFault) (line : String Global) → f ≡ Refused line
       → (IsKnown {A = Unit {0}} (Err f) → Come (EndedFaults {A = Unit {0}} (Err f) before after m n)) → Come (λ asked. ReportsAll asked before after)
   all_reported f line is h =
       executes_by table command scenario scenario_left turns turns_left (EndedFaults {A = Unit {0}} (Err (Refused line)) before after m n)
@@ -131,6 +131,6 @@ module _ (table : Table) (command : Command) (scenario scenario_left turns turns
       (subst (λ x. IsKnown {A = Unit {0}} (Err x) → Come (EndedFaults {A = Unit {0}} (Err x) before after m n)) is h (tt {0}))
 
   -- not all of it was written
-  pub part_reported : (f : Fault) → f ≡ Write → (IsKnown {A = Unit {0}} (Err f) → Come (EndedFaults {A = Unit {0}} (Err f) before after m n))
+  pub part_reported : (f : CommandFault) → f ≡ Write → (IsKnown {A = Unit {0}} (Err f) → Come (EndedFaults {A = Unit {0}} (Err f) before after m n))
       → Come (λ asked. ReportsPart asked before after m n)
   part_reported f is h = subst (λ x. IsKnown {A = Unit {0}} (Err x) → Come (EndedFaults {A = Unit {0}} (Err x) before after m n)) is h (tt {0})

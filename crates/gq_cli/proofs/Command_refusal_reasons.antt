@@ -15,8 +15,8 @@ use Rattle.gq_cli.specs.Executed.{Asked, IsRefusedBy, ReadsText, WritesCut, both
 use Rattle.gq_command.specs.declared.command.LeafCommand.{LeafCommand}
 use Rattle.gq_command.specs.declared.command.ScenarioCommand.{ScenarioCommand}
 use Rattle.gq_command.specs.declared.command.TurnsCommand.{TurnsCommand}
-use Rattle.gq_cli.specs.declared.execute.Fault.{Fault}
-use Rattle.gq_cli.specs.declared.execute.Fault.TheVariants.{Refused, Memory, Read, Write}
+use Rattle.gq_cli.specs.declared.execute.CommandFault.{CommandFault}
+use Rattle.gq_cli.specs.declared.execute.CommandFault.TheVariants.{Refused, Memory, Read, Write}
 use Rattle.gq_cli.specs.internal.Running.{ReadsTurns, RefusesAs}
 use Rattle.gq_cli.proofs.Read_turn_run.{reads_by, refused_by, turns_refused}
 
@@ -33,7 +33,7 @@ pub record IsGivenBy (asked : Asked) (w : Written) : Type 0 where
   pub refused : (line : List ℕ) → w ≡ Err line → IsRefusedBy asked line
   pub cut : (before after : Option (List ℕ)) → IsCutShort w before after → WritesCut asked before after
 
-ends : (asked : Asked) (w : Written) → IsGivenBy asked w → (before after : Option (List ℕ)) (f : RunFault) (r : Fault) → IsReportedAs f r → IsFaultOf f w
+ends : (asked : Asked) (w : Written) → IsGivenBy asked w → (before after : Option (List ℕ)) (f : RunFault) (r : CommandFault) → IsReportedAs f r → IsFaultOf f w
     → (f ≡ faults.Write → IsCutShort w before after) → IsKnown {A = Unit {0}} (Err r) → Ended {A = Unit {0}} (Err r) before after asked
 ends asked w by before after f (Refused line) reported h cut known =
     by.refused (string_bytes line) (refused_line w f (string_bytes line) h reported.0 reported.1 reported.2)
@@ -41,7 +41,7 @@ ends asked w by before after f Memory reported h cut known = absurd known
 ends asked w by before after f Read reported h cut known = absurd known
 ends asked w by before after f Write reported h cut known = by.cut before after (cut reported)
 
-same_fault : (a b : Fault) → ◌≡◌ {A = Result (Unit {0}) Fault} (Err a) (Err b) → a ≡ b
+same_fault : (a b : CommandFault) → ◌≡◌ {A = Result (Unit {0}) CommandFault} (Err a) (Err b) → a ≡ b
 same_fault a b e = cc
 
 before : (f : RunFault) → f ≢ faults.Write → IsBefore f
@@ -51,13 +51,13 @@ before (faults.Turns f k) u = tt {0}
 before faults.Memory u = tt {0}
 before faults.Write u = absurd (u refl)
 
-reported_silent : (f : RunFault) (r : Fault) → IsReportedAs f r → IsSilent r → IsBefore f
+reported_silent : (f : RunFault) (r : CommandFault) → IsReportedAs f r → IsSilent r → IsBefore f
 reported_silent f (Refused line) reported silent = before f reported.1
 reported_silent f Memory reported silent = before f reported
 reported_silent f Read reported silent = absurd reported
 reported_silent f Write reported silent = absurd silent
 
-reported_written : (f : RunFault) (r : Fault) → IsReportedAs f r → r ≡ Write → f ≡ faults.Write
+reported_written : (f : RunFault) (r : CommandFault) → IsReportedAs f r → r ≡ Write → f ≡ faults.Write
 reported_written f r reported e = subst (IsReportedAs f) e reported
 
 pub by_scenario : (command : ScenarioCommand) (scenario : List ℕ) → IsGivenBy (Of_scenario command scenario) (scenario_written command scenario)
@@ -72,7 +72,7 @@ by_both command scenario turns = record { refused = λ line e. e; cut = λ befor
 -- what is called was not done
 
 module _ {W : Type 0} (contents : W → Option (List ℕ)) (asked : Asked) (w : Written) (by : IsGivenBy asked w) (old new : Counted W) (f : RunFault)
-    (r : Fault) (reported : IsReportedAs f r) (h : WritesAs {A = Unit {0}} contents w old new (Err f)) where
+    (r : CommandFault) (reported : IsReportedAs f r) (h : WritesAs {A = Unit {0}} contents w old new (Err f)) where
   pub reported_ends : IsKnown {A = Unit {0}} (Err r) → Ended {A = Unit {0}} (Err r) (written_to contents old) (written_to contents new) asked
   reported_ends = ends asked w by (written_to contents old) (written_to contents new) f r reported h.refused (λ e. h.cut (ap Err e))
 
@@ -89,26 +89,27 @@ module _ {W : Type 0} (contents : W → Option (List ℕ)) (asked : Asked) (w : 
 gives_before : (f : RunFault) (scenario : List ℕ) → GivesOf f scenario → f ≢ faults.Write
 gives_before f scenario gives e = subst (λ x. GivesOf x scenario) e gives
 
-pub reported_refuses : (f : RunFault) (scenario text : List ℕ) (r : Fault) → GivesOf f scenario → IsReportedAs f r → RefusesAs (run_written scenario text) r
+pub reported_refuses : (f : RunFault) (scenario text : List ℕ) (r : CommandFault) → GivesOf f scenario → IsReportedAs f r → RefusesAs
+    (run_written scenario text) r
 reported_refuses f scenario text (Refused line) gives reported = refused_by f scenario text (string_bytes line) gives reported.0 reported.2
 reported_refuses f scenario text Memory gives reported = tt {0}
 reported_refuses f scenario text Read gives reported = tt {0}
 reported_refuses f scenario text Write gives reported = gives_before f scenario gives reported
 
-pub refusal_silent : (f : RunFault) (scenario : List ℕ) (r : Fault) → GivesOf f scenario → IsReportedAs f r → IsSilent r
+pub refusal_silent : (f : RunFault) (scenario : List ℕ) (r : CommandFault) → GivesOf f scenario → IsReportedAs f r → IsSilent r
 refusal_silent f scenario (Refused line) gives reported = tt {0}
 refusal_silent f scenario Memory gives reported = tt {0}
 refusal_silent f scenario Read gives reported = tt {0}
 refusal_silent f scenario Write gives reported = gives_before f scenario gives reported
 
-pub reported_turns : (s : Scenario) (old new : Option (List ℕ)) (fault : TurnFault) (k : ℕ) (r : Fault) → IsReportedAs (faults.Turns fault k) r
+pub reported_turns : (s : Scenario) (old new : Option (List ℕ)) (fault : TurnFault) (k : ℕ) (r : CommandFault) → IsReportedAs (faults.Turns fault k) r
     → ReadsText old new (λ text. turned s text ≡ Err (fault, k)) → ReadsTurns s old new (Err r)
 reported_turns s old new fault k (Refused line) reported h = reads_by old new (λ text e. turns_refused s text (string_bytes line) fault k e reported.2) h
 reported_turns s old new fault k Memory reported h = tt {0}
 reported_turns s old new fault k Read reported h = tt {0}
 reported_turns s old new fault k Write reported h = tt {0}
 
-pub turns_silent : (fault : TurnFault) (k : ℕ) (r : Fault) → IsReportedAs (faults.Turns fault k) r → IsSilent r
+pub turns_silent : (fault : TurnFault) (k : ℕ) (r : CommandFault) → IsReportedAs (faults.Turns fault k) r → IsSilent r
 turns_silent fault k (Refused line) reported = tt {0}
 turns_silent fault k Memory reported = tt {0}
 turns_silent fault k Read reported = tt {0}

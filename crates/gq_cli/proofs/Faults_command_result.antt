@@ -5,7 +5,7 @@ use Rattle.std.proofs.Math.Seq.{take-length}
 use Rattle.std.specs.Io.KnownBytes.{Appends, Keeps}
 use Rattle.gq_init.proofs.Written_byte_facts.{appends_kept, appends_nothing}
 use Rattle.gq_load.specs.Load_faults.{Prints, load_fault_text}
-use Rattle.gq_load.specs.Load.{Fault, loaded}
+use Rattle.gq_load.specs.Load.{LoadRefusal, loaded}
 use Rattle.gq_load.specs.declared.load_fault.LoadFault.{LoadFault}
 use Rattle.gq_model.proofs.Small_facts.{none_some, some_same}
 use Rattle.gq_model.specs.declared.fault.TurnFault.{TurnFault}
@@ -24,8 +24,8 @@ use Rattle.gq_cli.specs.Early_command_ends.{EndedFaults, IsKnown, IsReportedAs, 
 use Rattle.gq_faults.specs.declared.report_error.ReportError.{ReportError}
 use Rattle.gq_faults.specs.declared.report_error.ReportError.TheVariants as errors
 use Rattle.gq_cli.specs.Executed.{Asked, Of_faults, ReportsPrefix, faults_written, none_written}
-use Rattle.gq_cli.specs.declared.execute.Fault as unreported
-use Rattle.gq_cli.specs.declared.execute.Fault.TheVariants.{Refused, Memory, Read, Write}
+use Rattle.gq_cli.specs.declared.execute.CommandFault as unreported
+use Rattle.gq_cli.specs.declared.execute.CommandFault.TheVariants.{Refused, Memory, Read, Write}
 
 nothing : (before after : Option (List ℕ)) → after ≡ before → Appends before after []
 nothing before after e = subst (λ o. Appends before o []) (sym e) (appends_nothing before)
@@ -37,7 +37,7 @@ module _ (path text : List ℕ) (before after : Option (List ℕ)) where
       → faults_written text None ≡ Err line
   refused_line f line h e = by (loaded text) h
     where
-      by : (r : Result Scenario Fault) → Prints f (refusal_of r) → with_scenario r (λ s. Ok []) ≡ Err line
+      by : (r : Result Scenario LoadRefusal) → Prints f (refusal_of r) → with_scenario r (λ s. Ok []) ≡ Err line
       by (Ok s) h = absurd h
       by (Err fault) h = ap Err (ap refused_with (sym h) ∙ sym e)
 
@@ -53,7 +53,7 @@ module _ (path text : List ℕ) (before after : Option (List ℕ)) where
   pub none_ends : IsOk (loaded text) → after ≡ before → IsWhole (faults_written text None) before after
   none_ends h e = by (loaded text) h
     where
-      by : (r : Result Scenario Fault) → IsOk r → IsWhole (with_scenario r (λ s. Ok [])) before after
+      by : (r : Result Scenario LoadRefusal) → IsOk r → IsWhole (with_scenario r (λ s. Ok [])) before after
       by (Ok s) h = record { text = []; given = refl; written = nothing before after e }
       by (Err fault) h = absurd cc
 
@@ -69,7 +69,7 @@ module _ (path other text turns : List ℕ) (before after : Option (List ℕ)) w
       → faults_written text (Some turns) ≡ Err line
   both_line w line h e = by (loaded text) w h e
     where
-      by : (r : Result Scenario Fault) (w : why.Refused) → Answers (Some w) r turns → line ≡ refused_with (run_fault_text (refusal_fault w))
+      by : (r : Result Scenario LoadRefusal) (w : why.Refused) → Answers (Some w) r turns → line ≡ refused_with (run_fault_text (refusal_fault w))
           → with_scenario r (λ s. none_written (turned s turns)) ≡ Err line
       by (Err fault) (answers.Scenario f) h e = ap Err (ap refused_with (sym h) ∙ sym e)
       by (Err fault) (answers.Turns f k) h e = absurd h
@@ -100,7 +100,7 @@ module _ (path other text turns : List ℕ) (before after : Option (List ℕ)) w
       → WritesFaults (reported_of (loaded text) path other) (lines_of_both text turns) before after → IsWhole (faults_written text (Some turns)) before after
   both_none law h f = by (loaded text) h f
     where
-      by : (r : Result Scenario Fault) → Answers None r turns → WritesFaults (reported_of r path other) (lines_from r text turns) before after
+      by : (r : Result Scenario LoadRefusal) → Answers None r turns → WritesFaults (reported_of r path other) (lines_from r text turns) before after
           → IsWhole (with_scenario r (λ s. none_written (turned s turns))) before after
       by (Err fault) h f = absurd h
       by (Ok s) h f = record {

@@ -10,7 +10,7 @@ use Rattle.gq_fit.specs.declared.fit_fault.FitFault.TheVariants as faults
 use Rattle.gq_init.specs.declared.counted.Counted.{Counted}
 use Rattle.gq_init.specs.Writer_failures.{written_to}
 use Rattle.gq_load.specs.Load_faults.{Refuses, load_fault_text}
-use Rattle.gq_load.specs.Load.{Fault as LoadRule}
+use Rattle.gq_load.specs.Load.{LoadRefusal as LoadRule}
 use Rattle.gq_load.specs.declared.load_fault.LoadFault.{LoadFault}
 use Rattle.gq_load.specs.declared.load_fault.LoadError.TheVariants as error
 use Rattle.gq_model.specs.machine.Scenario.{Scenario}
@@ -18,8 +18,8 @@ use Rattle.gq_sizes.specs.Judged_scenario.{judged_without}
 use Rattle.gq_world.specs.Whole.{refused_with}
 use Rattle.gq_cli.specs.Early_command_ends.{Ended, IsKnown, IsSilent, LeavesWriter}
 use Rattle.gq_cli.specs.Executed.{IsUnfit, Of_fit, fits, reasons}
-use Rattle.gq_cli.specs.declared.execute.Fault.{Fault}
-use Rattle.gq_cli.specs.declared.execute.Fault.TheVariants.{Refused, Memory, Read, Write}
+use Rattle.gq_cli.specs.declared.execute.CommandFault.{CommandFault}
+use Rattle.gq_cli.specs.declared.execute.CommandFault.TheVariants.{Refused, Memory, Read, Write}
 use Rattle.gq_cli.specs.internal.Fit_write_ends.{IsReportedFit}
 
 -- THE LINE
@@ -60,23 +60,23 @@ before (faults.NoFit reason) u = tt {0}
 before faults.Memory u = tt {0}
 before faults.Write u = absurd (u refl)
 
-fit_silent : (f : FitFault) (r : Fault) → IsReportedFit f r → IsSilent r → IsBefore f
+fit_silent : (f : FitFault) (r : CommandFault) → IsReportedFit f r → IsSilent r → IsBefore f
 fit_silent f (Refused line) reported silent = before f reported.1
 fit_silent f Memory reported silent = before f reported
 fit_silent f Read reported silent = absurd reported
 fit_silent f Write reported silent = absurd silent
 
-fit_failed : (f : FitFault) (r : Fault) → IsReportedFit f r → r ≡ Write → f ≡ faults.Write
+fit_failed : (f : FitFault) (r : CommandFault) → IsReportedFit f r → r ≡ Write → f ≡ faults.Write
 fit_failed f r reported e = subst (IsReportedFit f) e reported
 
-same_fault : (a b : Fault) → ◌≡◌ {A = Result (Unit {0}) Fault} (Err a) (Err b) → a ≡ b
+same_fault : (a b : CommandFault) → ◌≡◌ {A = Result (Unit {0}) CommandFault} (Err a) (Err b) → a ≡ b
 same_fault a b e = cc
 
 -- WHAT IS CALLED WAS NOT DONE
 
-module _ {W : Type 0} (contents : W → Option (List ℕ)) (fitting : Fitting) (scenario : List ℕ) (old new : Counted W) (f : FitFault) (r : Fault)
+module _ {W : Type 0} (contents : W → Option (List ℕ)) (fitting : Fitting) (scenario : List ℕ) (old new : Counted W) (f : FitFault) (r : CommandFault)
     (reported : IsReportedFit f r) (h : WritesFit {A = Unit {0}} contents (fits fitting scenario) (reasons fitting) scenario old new (Err f)) where
-  ends : (r : Fault) → IsReportedFit f r → IsKnown {A = Unit {0}} (Err r)
+  ends : (r : CommandFault) → IsReportedFit f r → IsKnown {A = Unit {0}} (Err r)
       → Ended {A = Unit {0}} (Err r) (written_to contents old) (written_to contents new) (Of_fit fitting scenario)
   ends (Refused line) reported known = unfit_line fitting f scenario (string_bytes line) h.refused reported.0 reported.1 reported.2
   ends Memory reported known = absurd known

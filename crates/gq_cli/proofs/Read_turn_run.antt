@@ -21,8 +21,8 @@ use Rattle.gq_world.proofs.Run_text.{load_is, promised}
 use Rattle.gq_cli.specs.Early_command_ends.{Ended, IsKnown, IsUnread}
 use Rattle.gq_cli.specs.Executed.{ReadsText, Of_both}
 use Rattle.gq_command.specs.declared.command.TurnsCommand.TheVariants.{Run}
-use Rattle.gq_cli.specs.declared.execute.Fault.{Fault}
-use Rattle.gq_cli.specs.declared.execute.Fault.TheVariants.{Refused, Memory, Read, Write}
+use Rattle.gq_cli.specs.declared.execute.CommandFault.{CommandFault}
+use Rattle.gq_cli.specs.declared.execute.CommandFault.TheVariants.{Refused, Memory, Read, Write}
 use Rattle.gq_cli.specs.internal.Running.{EndsAs, HasCome, ReadsTurns}
 
 -- what was read to its end
@@ -72,7 +72,7 @@ at_most_both n m cs old between new first mid h starts size g =
 
 -- REFUSALS
 
-pub unread_is : (s : Scenario) (old new : Option (List ℕ)) (f : Fault) → IsUnread f → ReadsTurns s old new (Err f)
+pub unread_is : (s : Scenario) (old new : Option (List ℕ)) (f : CommandFault) → IsUnread f → ReadsTurns s old new (Err f)
 unread_is s old new (Refused line) h = absurd h
 unread_is s old new Memory h = tt {0}
 unread_is s old new Read h = tt {0}
@@ -96,7 +96,7 @@ module _ (scenario : List ℕ) (s : Scenario) (load : loaded scenario ≡ Ok s) 
   runs : (text : List ℕ) → run_written scenario text ≡ turns_written s text
   runs text = ap (λ l. with_scenario l (λ r. written_turns r (turned r text))) load
 
-  pub ended_as : {A : Type 0} (text : List ℕ) (r : Result A Fault) (before after : Option (List ℕ)) → EndsAs s text r before after
+  pub ended_as : {A : Type 0} (text : List ℕ) (r : Result A CommandFault) (before after : Option (List ℕ)) → EndsAs s text r before after
       → Ended r before after (Of_both Run scenario text)
   ended_as text (Ok u) before after h = record { text = h.text; given = runs text ∙ h.given; written = h.written }
   ended_as text (Err (Refused line)) before after h = runs text ∙ h
@@ -104,7 +104,7 @@ module _ (scenario : List ℕ) (s : Scenario) (load : loaded scenario ≡ Ok s) 
   ended_as text (Err Read) before after h = absurd h
   ended_as text (Err Write) before after h = record { text = h.text; given = runs text ∙ h.given; written = h.written }
 
-  pub promised_as : {A : Type 0} (r : Result A Fault) (old new before after : Option (List ℕ)) → IsAccepted s → Upholding s
+  pub promised_as : {A : Type 0} (r : Result A CommandFault) (old new before after : Option (List ℕ)) → IsAccepted s → Upholding s
       → (IsKnown r → ReadsText old new (λ text. EndsAs s text r before after)) → OnOk r (ReadsText old new (λ text. WritesPromised scenario text before after))
   promised_as (Ok u) old new before after accepted upheld h =
       reads_by old new (λ text w. promised scenario text s before after load accepted upheld w) (h (tt {0}))

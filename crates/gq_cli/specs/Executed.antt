@@ -5,7 +5,7 @@ use Rattle.std.specs.Io.KnownBytes.{Appends, Consumes, IsAtEnd}
 use Rattle.gq_init.specs.declared.counted.Counted.{Counted}
 use Rattle.gq_init.specs.Writer_failures.{written_to, failures_of}
 use Rattle.gq_init.specs.Writes.{IsPrefix, IsRaised}
-use Rattle.gq_load.specs.Load.{Fault, fault_text, loaded}
+use Rattle.gq_load.specs.Load.{LoadRefusal, fault_text, loaded}
 use Rattle.gq_model.specs.machine.Scenario.{Scenario}
 use Rattle.gq_model.specs.texts.Turns.{Turned, turned}
 use Rattle.gq_world.specs.Whole.{Written, refused_with, with_scenario, turn_fault_text, run_written, check_written, asm_written}
@@ -153,7 +153,7 @@ pub record HasNoFit (fitting : Fitting) (scenario line : List ℕ) : Type 0 wher
   pub begins : line ≡ no_fit ++ why ++ 10 ∷ []
 
 -- a scenario that breaks a rule which no quantity decides is refused by its line; any other one has no fit
-abbrev pub IsUnfit : Fitting → List ℕ → Result Scenario Fault → List ℕ → Type 0
+abbrev pub IsUnfit : Fitting → List ℕ → Result Scenario LoadRefusal → List ℕ → Type 0
 IsUnfit fitting scenario (Ok s) line = HasNoFit fitting scenario line
 IsUnfit fitting scenario (Err fault) line = line ≡ refused_with (fault_text fault)
 

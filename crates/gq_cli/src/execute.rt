@@ -13,7 +13,7 @@ ghost use Rattle.gq_cli.specs.Executed.{Executes, IsRefusal, IsReported, IsUphel
 ghost use Rattle.gq_cli.specs.Executed.{Of_both, Of_faults, Of_leaf, Of_nothing, Of_scenario, ReportsAll, ReportsPart, ReportsPrefix};
 ghost use Rattle.gq_cli.specs.Executed.{both_written, is_never_refused, leaf_written, reads_scenario, reads_turns, rules_written};
 ghost use Rattle.gq_cli.specs.Executed.{WritesCut, WritesWhole, scenario_written, status_line, version_written, writes_refusals};
-ghost use Rattle.gq_cli.specs.declared.execute.Fault.TheVariants as fault;
+ghost use Rattle.gq_cli.specs.declared.execute.CommandFault.TheVariants as fault;
 ghost use Rattle.gq_command.specs.declared.command.TurnsCommand.TheVariants.{Run};
 
 use crate::fit_command::of_fit;
@@ -50,7 +50,7 @@ use std::io::{Read, Write};
 
 // Why a command was not done.
 #[derive(Drop)]
-pub(crate) enum Fault {
+pub(crate) enum CommandFault {
     // The texts are refused, or a word, by this line.
     Refused(String),
     // Host memory was refused.
@@ -61,25 +61,25 @@ pub(crate) enum Fault {
     Write,
 }
 
-impl From<AllocError> for Fault {
-    ghost use Rattle.gq_cli.specs.declared.execute.Fault.TheVariants.{Memory};
+impl From<AllocError> for CommandFault {
+    ghost use Rattle.gq_cli.specs.declared.execute.CommandFault.TheVariants.{Memory};
 
     ghost from_gives = { λ _ fault. fault ≡ Memory };
 
-    fn from(_refused: AllocError) -> Fault {
-        Fault::Memory
+    fn from(_refused: AllocError) -> CommandFault {
+        CommandFault::Memory
     }
 }
 
-impl From<InputError> for Fault {
+impl From<InputError> for CommandFault {
     ghost use Rattle.gq_cli.specs.Early_command_ends.{IsUnread};
 
     ghost from_gives = { λ _ fault. IsUnread fault };
 
-    fn from(unread: InputError) -> Fault {
+    fn from(unread: InputError) -> CommandFault {
         match unread {
-            InputError::Memory(_) => Fault::Memory,
-            InputError::Fault => Fault::Read,
+            InputError::Memory(_) => CommandFault::Memory,
+            InputError::Fault => CommandFault::Read,
         }
     }
 }
@@ -153,13 +153,13 @@ pub fn execute<R: Read, T: Read, W: Write, E: Write>(
 {
     match perform(alloc, rules, command, scenario, turns, out) {
         Ok(()) => Status::Done,
-        Err(Fault::Refused(line)) => {
+        Err(CommandFault::Refused(line)) => {
             report_line(err, line.as_bytes());
             Status::Refused
         }
-        Err(Fault::Memory) => report(err, Status::HostMemory),
-        Err(Fault::Read) => report(err, Status::FileFault),
-        Err(Fault::Write) => report(err, Status::FileFault),
+        Err(CommandFault::Memory) => report(err, Status::HostMemory),
+        Err(CommandFault::Read) => report(err, Status::FileFault),
+        Err(CommandFault::Write) => report(err, Status::FileFault),
     }
 }
 
@@ -203,7 +203,7 @@ fn perform<R: Read, T: Read, W: Write>(
     scenario: &mut R,
     turns: &mut T,
     out: &mut Counted<W>,
-) -> Result<(), Fault>
+) -> Result<(), CommandFault>
     ensures ended { writes_refusals command.now ≡ false → IsKnown result → Executes rules.now command.now (R.remaining scenario.old)
         (R.remaining scenario.new) (T.remaining turns.old) (T.remaining turns.new)
         (Ended result (written_to W.contents out.old) (written_to W.contents out.new)) }
@@ -251,7 +251,7 @@ fn of_turns<R: Read, T: Read, W: Write>(
     scenario: &mut R,
     turns: &mut T,
     out: &mut Counted<W>,
-) -> Result<(), Fault>
+) -> Result<(), CommandFault>
     ensures ended { IsKnown result → ReadsBoth (R.remaining scenario.old) (R.remaining scenario.new) (T.remaining turns.old) (T.remaining turns.new)
         (Of_both command) (Ended result (written_to W.contents out.old) (written_to W.contents out.new)) }
     ensures upheld { OnOk result (ReadsBoth (R.remaining scenario.old) (R.remaining scenario.new) (T.remaining turns.old) (T.remaining turns.new)
@@ -273,7 +273,7 @@ fn of_both<R: Read, T: Read, W: Write>(
     scenario: &mut R,
     turns: &mut T,
     out: &mut Counted<W>,
-) -> Result<(), Fault>
+) -> Result<(), CommandFault>
     requires { command ≢ Run }
     ensures ended { IsKnown result → ReadsBoth (R.remaining scenario.old) (R.remaining scenario.new) (T.remaining turns.old) (T.remaining turns.new)
         (Of_both command) (Ended result (written_to W.contents out.old) (written_to W.contents out.new)) }
@@ -295,7 +295,7 @@ fn of_both_texts<W: Write>(
     scenario: &[u8],
     turns: &[u8],
     out: &mut Counted<W>,
-) -> Result<(), Fault>
+) -> Result<(), CommandFault>
     ensures ended { IsKnown result → Ended result (written_to W.contents out.old) (written_to W.contents out.new)
         (Of_both command scenario.now turns.now) }
     ensures leaves { LeavesWriter out.old out.new result }
@@ -331,7 +331,7 @@ fn run_files<R: Read, T: Read, W: Write>(
     scenario: &mut R,
     turns: &mut T,
     out: &mut Counted<W>,
-) -> Result<(), Fault>
+) -> Result<(), CommandFault>
     ensures ended { IsKnown result → ReadsBoth (R.remaining scenario.old) (R.remaining scenario.new) (T.remaining turns.old) (T.remaining turns.new)
         (Of_both Run) (Ended result (written_to W.contents out.old) (written_to W.contents out.new)) }
     ensures upheld { OnOk result (ReadsBoth (R.remaining scenario.old) (R.remaining scenario.new) (T.remaining turns.old) (T.remaining turns.new)
@@ -350,7 +350,7 @@ fn run_reader<T: Read, W: Write>(
     scenario: &[u8],
     turns: &mut T,
     out: &mut Counted<W>,
-) -> Result<(), Fault>
+) -> Result<(), CommandFault>
     ensures ended { IsKnown result → ReadsText (T.remaining turns.old) (T.remaining turns.new) (λ text.
         Ended result (written_to W.contents out.old) (written_to W.contents out.new) (Of_both Run scenario.now text)) }
     ensures upheld { OnOk result (ReadsText (T.remaining turns.old) (T.remaining turns.new) (λ text.
@@ -369,7 +369,7 @@ fn run_reader<T: Read, W: Write>(
 }
 
 // Why a scenario is not run. The turns are read to their end first, since a read that fails is reported before it.
-fn refusal<T: Read>(alloc: Global, scenario: &[u8], fault: RunFault, turns: &mut T) -> Fault
+fn refusal<T: Read>(alloc: Global, scenario: &[u8], fault: RunFault, turns: &mut T) -> CommandFault
     requires { GivesOf fault scenario.now }
     ensures refused { IsKnown {A = Unit {0}} (Err result) → ReadsText (T.remaining turns.old) (T.remaining turns.new) (λ text.
         RefusesAs (run_written scenario.now text) result) }
@@ -378,22 +378,22 @@ fn refusal<T: Read>(alloc: Global, scenario: &[u8], fault: RunFault, turns: &mut
 {
     match read_input(alloc, turns) {
         Ok(_) => {}
-        Err(InputError::Memory(_)) => return Fault::Memory,
-        Err(InputError::Fault) => return Fault::Read,
+        Err(InputError::Memory(_)) => return CommandFault::Memory,
+        Err(InputError::Fault) => return CommandFault::Read,
     }
     reported(alloc, fault)
 }
 
 // Why a command was not done, by why what it calls was not: the line of a refusal is made.
-pub(crate) fn reported(alloc: Global, fault: RunFault<'_>) -> Fault
+pub(crate) fn reported(alloc: Global, fault: RunFault<'_>) -> CommandFault
     ensures { IsReportedAs fault.entry result }
 {
     match fault {
-        RunFault::Memory => Fault::Memory,
-        RunFault::Write => Fault::Write,
+        RunFault::Memory => CommandFault::Memory,
+        RunFault::Write => CommandFault::Write,
         refused => match format!(in alloc; "trade: {refused}\n") {
-            Ok(line) => Fault::Refused(line),
-            Err(_) => Fault::Memory,
+            Ok(line) => CommandFault::Refused(line),
+            Err(_) => CommandFault::Memory,
         },
     }
 }
@@ -403,7 +403,7 @@ fn run_stored<R: Read, W: Write>(
     alloc: Global,
     stored: &mut R,
     out: &mut Counted<W>,
-) -> Result<(), Fault>
+) -> Result<(), CommandFault>
     ensures ended { IsKnown result → RunsStored (R.remaining stored.old) (R.remaining stored.new)
         (Ended result (written_to W.contents out.old) (written_to W.contents out.new)) }
     ensures upheld { OnOk result (RunsStored (R.remaining stored.old) (R.remaining stored.new)
@@ -422,7 +422,7 @@ fn run_texts<W: Write>(
     scenario: &[u8],
     turns: &[u8],
     out: &mut Counted<W>,
-) -> Result<(), Fault>
+) -> Result<(), CommandFault>
     ensures ended { IsKnown result → Ended result (written_to W.contents out.old) (written_to W.contents out.new) (Of_both Run scenario.now turns.now) }
     ensures upheld { OnOk result (WritesPromised scenario.now turns.now (written_to W.contents out.old) (written_to W.contents out.new)) }
     ensures leaves { LeavesWriter out.old out.new result }
@@ -439,7 +439,7 @@ fn of_scenario<R: Read, W: Write>(
     command: ScenarioCommand,
     scenario: &mut R,
     out: &mut Counted<W>,
-) -> Result<(), Fault>
+) -> Result<(), CommandFault>
     ensures ended { IsKnown result → ReadsScenario (R.remaining scenario.old) (R.remaining scenario.new) (Of_scenario command)
         (Ended result (written_to W.contents out.old) (written_to W.contents out.new)) }
     ensures upheld { OnOk result (ReadsScenario (R.remaining scenario.old) (R.remaining scenario.new) (Of_scenario command)
@@ -457,7 +457,7 @@ fn of_scenario_text<W: Write>(
     command: ScenarioCommand,
     scenario: &[u8],
     out: &mut Counted<W>,
-) -> Result<(), Fault>
+) -> Result<(), CommandFault>
     ensures ended { IsKnown result → Ended result (written_to W.contents out.old) (written_to W.contents out.new) (Of_scenario command scenario.now) }
     ensures upheld { OnOk result (IsUpheldBy (Of_scenario command scenario.now) (written_to W.contents out.old) (written_to W.contents out.new)) }
     ensures leaves { LeavesWriter out.old out.new result }
@@ -494,7 +494,7 @@ fn of_faults<R: Read, W: Write>(
     path: &str,
     scenario: &mut R,
     out: &mut Counted<W>,
-) -> Result<(), Fault>
+) -> Result<(), CommandFault>
     ensures ended { IsKnown result → ReadsScenario (R.remaining scenario.old) (R.remaining scenario.new) (λ text. Of_faults path.now text None)
         (EndedFaults result (written_to W.contents out.old) (written_to W.contents out.new) (failures_of out.old) (failures_of out.new)) }
     ensures stopped { result ≡ Err fault.Memory → (out.new ≡ out.old)
@@ -514,7 +514,7 @@ fn of_faults_text<W: Write>(
     path: &str,
     scenario: &[u8],
     out: &mut Counted<W>,
-) -> Result<(), Fault>
+) -> Result<(), CommandFault>
     ensures ended { IsKnown result → EndedFaults result (written_to W.contents out.old) (written_to W.contents out.new)
         (failures_of out.old) (failures_of out.new) (Of_faults path.now scenario.now None) }
     ensures stopped { result ≡ Err fault.Memory
@@ -534,24 +534,28 @@ fn of_faults_text<W: Write>(
 }
 
 // Why texts are refused, once all that is wrong with them has left the writer: the line of the refusal is made.
-fn refused_after<W: Write>(alloc: Global, refused: RunFault<'_>, out: &mut Counted<W>) -> Fault
+fn refused_after<W: Write>(
+    alloc: Global,
+    refused: RunFault<'_>,
+    out: &mut Counted<W>,
+) -> CommandFault
     ensures bytes { Keeps (written_to W.contents out.old) (written_to W.contents out.new) }
     ensures failures { failures_of out.new ≡ failures_of out.old }
     ensures reported { (result ≡ fault.Write) ⊎ IsReportedAs refused.entry result }
 {
     match out.flush() {
         Ok(()) => reported(alloc, refused),
-        Err(_) => Fault::Write,
+        Err(_) => CommandFault::Write,
     }
 }
 
 // Why not all that is wrong was reported.
-fn unreported(error: ReportError) -> Fault
+fn unreported(error: ReportError) -> CommandFault
     ensures { IsUntold error result }
 {
     match error {
-        ReportError::Memory => Fault::Memory,
-        ReportError::Write => Fault::Write,
+        ReportError::Memory => CommandFault::Memory,
+        ReportError::Write => CommandFault::Write,
     }
 }
 
@@ -563,7 +567,7 @@ fn of_both_faults<R: Read, T: Read, W: Write>(
     scenario: &mut R,
     turns: &mut T,
     out: &mut Counted<W>,
-) -> Result<(), Fault>
+) -> Result<(), CommandFault>
     ensures ended { IsKnown result → ReadsBoth (R.remaining scenario.old) (R.remaining scenario.new) (T.remaining turns.old) (T.remaining turns.new)
         (λ text other. Of_faults path.now text (Some (turns_path.now, other)))
         (EndedFaults result (written_to W.contents out.old) (written_to W.contents out.new) (failures_of out.old) (failures_of out.new)) }
@@ -595,7 +599,7 @@ fn of_both_files<W: Write>(
     scenario: File<'_>,
     turns: File<'_>,
     out: &mut Counted<W>,
-) -> Result<(), Fault>
+) -> Result<(), CommandFault>
     ensures ended { IsKnown result → EndedFaults result (written_to W.contents out.old) (written_to W.contents out.new)
         (failures_of out.old) (failures_of out.new)
         (Of_faults scenario.entry.path.now scenario.entry.text.now (Some (turns.entry.path.now, turns.entry.text.now))) }
@@ -630,7 +634,7 @@ fn of_leaf<R: Read, W: Write>(
     scenario: &mut R,
     leaf: &str,
     out: &mut Counted<W>,
-) -> Result<(), Fault>
+) -> Result<(), CommandFault>
     ensures ended { IsKnown result → ReadsScenario (R.remaining scenario.old) (R.remaining scenario.new) (λ text. Of_leaf command text leaf.now)
         (Ended result (written_to W.contents out.old) (written_to W.contents out.new)) }
     ensures leaves { LeavesWriter out.old out.new result }
@@ -647,7 +651,7 @@ fn of_leaf_text<W: Write>(
     scenario: &[u8],
     leaf: &str,
     out: &mut Counted<W>,
-) -> Result<(), Fault>
+) -> Result<(), CommandFault>
     ensures ended { IsKnown result → Ended result (written_to W.contents out.old) (written_to W.contents out.new) (Of_leaf command scenario.now leaf.now) }
     ensures leaves { LeavesWriter out.old out.new result }
 {
@@ -681,7 +685,7 @@ fn of_code<W: Write>(
     rules: &[&[RuleText]],
     code: &str,
     out: &mut Counted<W>,
-) -> Result<(), Fault>
+) -> Result<(), CommandFault>
     ensures ended { IsKnown result → Ended result (written_to W.contents out.old) (written_to W.contents out.new)
         (Of_nothing (rules_written rules.now (Some code.now))) }
     ensures unread { IfErr result (λ f. f ≢ fault.Read) }
@@ -694,37 +698,37 @@ fn of_code<W: Write>(
 }
 
 // Why nothing is reported of a word: no rule has such a code. The line of a refusal is made.
-fn no_rule(alloc: Global, code: &str) -> Fault
+fn no_rule(alloc: Global, code: &str) -> CommandFault
     ensures refused { RefusesAs (Err (refused_with (codes "no rule " ++ code.now))) result }
     ensures silent { IsSilent result }
     ensures unread { result ≢ fault.Read }
 {
     match format!(in alloc; "trade: no rule {code}\n") {
-        Ok(line) => Fault::Refused(line),
-        Err(_) => Fault::Memory,
+        Ok(line) => CommandFault::Refused(line),
+        Err(_) => CommandFault::Memory,
     }
 }
 
 // Writes the line of each rule.
-fn of_all_codes<W: Write>(rules: &[&[RuleText]], out: &mut Counted<W>) -> Result<(), Fault>
+fn of_all_codes<W: Write>(rules: &[&[RuleText]], out: &mut Counted<W>) -> Result<(), CommandFault>
     ensures ended { Ended result (written_to W.contents out.old) (written_to W.contents out.new) (Of_nothing (rules_written rules.now None)) }
     ensures fault { IfErr result (λ f. f ≡ fault.Write) }
     ensures leaves { LeavesWriter out.old out.new result }
 {
     match write_rules(rules, out) {
         Ok(()) => Ok(()),
-        Err(_) => Err(Fault::Write),
+        Err(_) => Err(CommandFault::Write),
     }
 }
 
 // Writes a text whole.
-fn show<W: Write>(text: &str, out: &mut Counted<W>) -> Result<(), Fault>
+fn show<W: Write>(text: &str, out: &mut Counted<W>) -> Result<(), CommandFault>
     ensures ended { Ended result (written_to W.contents out.old) (written_to W.contents out.new) (Of_nothing (Ok text.now)) }
     ensures fault { IfErr result (λ f. f ≡ fault.Write) }
     ensures leaves { LeavesWriter out.old out.new result }
 {
     match put(out, text.as_bytes()) {
         Ok(()) => Ok(()),
-        Err(_) => Err(Fault::Write),
+        Err(_) => Err(CommandFault::Write),
     }
 }

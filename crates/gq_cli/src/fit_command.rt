@@ -6,7 +6,7 @@ ghost use Rattle.gq_cli.specs.Early_command_ends.{Ended, IsKnown, LeavesWriter};
 ghost use Rattle.gq_cli.specs.Executed.{Of_fit, ReadsScenario, fits, reasons};
 ghost use Rattle.gq_cli.specs.internal.Fit_write_ends.{IsReportedFit};
 
-use crate::execute::Fault;
+use crate::execute::CommandFault;
 use gq_command::command::Fitting;
 use gq_command::input::read_input;
 use gq_fit::fit::{fit, fit_donations};
@@ -21,7 +21,7 @@ pub(crate) fn of_fit<R: Read, W: Write>(
     fitting: Fitting,
     scenario: &mut R,
     out: &mut Counted<W>,
-) -> Result<(), Fault>
+) -> Result<(), CommandFault>
     ensures ended { IsKnown result → ReadsScenario (R.remaining scenario.old) (R.remaining scenario.new) (Of_fit fitting)
         (Ended result (written_to W.contents out.old) (written_to W.contents out.new)) }
     ensures leaves { LeavesWriter out.old out.new result }
@@ -37,7 +37,7 @@ fn of_fit_text<W: Write>(
     fitting: Fitting,
     scenario: &[u8],
     out: &mut Counted<W>,
-) -> Result<(), Fault>
+) -> Result<(), CommandFault>
     ensures ended { IsKnown result → Ended result (written_to W.contents out.old) (written_to W.contents out.new) (Of_fit fitting scenario.now) }
     ensures leaves { LeavesWriter out.old out.new result }
 {
@@ -63,15 +63,15 @@ fn write_fit<W: Write>(
 }
 
 // Why a text was not written to its end, as a fault of the command: the line of a refusal is made.
-fn reported(alloc: Global, fault: FitFault) -> Fault
+fn reported(alloc: Global, fault: FitFault) -> CommandFault
     ensures { IsReportedFit fault result }
 {
     match fault {
-        FitFault::Memory => Fault::Memory,
-        FitFault::Write => Fault::Write,
+        FitFault::Memory => CommandFault::Memory,
+        FitFault::Write => CommandFault::Write,
         refused => match format!(in alloc; "trade: {refused}\n") {
-            Ok(line) => Fault::Refused(line),
-            Err(_) => Fault::Memory,
+            Ok(line) => CommandFault::Refused(line),
+            Err(_) => CommandFault::Memory,
         },
     }
 }

@@ -10,7 +10,7 @@ ghost use Rattle.gq_cli.specs.Executed.{ReadsText};
 ghost use Rattle.gq_cli.specs.Early_command_ends.{IsKnown, IsSilent, IsUnread, LeavesWriter};
 ghost use Rattle.gq_cli.specs.internal.Running.{EndsAs, HasCome, ReadsTurns};
 
-use crate::execute::{Fault, reported};
+use crate::execute::{CommandFault, reported};
 use gq_command::input::{CHUNK, read_once};
 use gq_init::counted::Counted;
 use gq_init::turns::TurnsError;
@@ -28,7 +28,7 @@ pub(crate) fn run_loaded<T: Read, W: Write>(
     world: &mut World,
     turns: &mut T,
     out: &mut Counted<W>,
-) -> Result<(), Fault>
+) -> Result<(), CommandFault>
     requires start { world.old.world ≡ start (system world.old.scenario) }
     requires running { world.old.stopped ≡ false }
     ensures ended { IsKnown result → ReadsText (T.remaining turns.old) (T.remaining turns.new) (λ text.
@@ -39,7 +39,7 @@ pub(crate) fn run_loaded<T: Read, W: Write>(
     let items = read_turns(alloc, turns, world.table())?;
     match run_world(world, items.as_slice(), out) {
         Ok(()) => Ok(()),
-        Err(_) => Err(Fault::Write),
+        Err(_) => Err(CommandFault::Write),
     }
 }
 
@@ -48,7 +48,7 @@ fn read_turns<R: Read>(
     alloc: Global,
     reader: &mut R,
     table: &NodeTable,
-) -> Result<Vec<TurnItem>, Fault>
+) -> Result<Vec<TurnItem>, CommandFault>
     ensures turns { ReadsTurns table.now (R.remaining reader.old) (R.remaining reader.new) result }
     ensures silent { IfErr result (λ f. IsSilent f) }
     ensures most { GivesAtMost 18874369 (R.remaining reader.old) (R.remaining reader.new) }
@@ -59,7 +59,7 @@ fn read_turns<R: Read>(
     }
     match turns.finish(table) {
         Ok(items) => Ok(items),
-        Err(TurnsError::Memory(_)) => Err(Fault::Memory),
+        Err(TurnsError::Memory(_)) => Err(CommandFault::Memory),
         Err(TurnsError::Fault { fault, line }) => {
             let refused = RunFault::Turns { fault, line };
             Err(reported(alloc, refused))
@@ -72,7 +72,7 @@ fn read_pieces<R: Read>(
     reader: &mut R,
     turns: &mut TurnReader,
     table: &NodeTable,
-) -> Result<(), Fault>
+) -> Result<(), CommandFault>
     requires start { turns.old.size ≡ 0 }
     ensures text { OnOk result (ReadsText (R.remaining reader.old) (R.remaining reader.new) (λ text. (rest : List ℕ) →
         answer table.now turns.new rest ≡ answer table.now turns.old (text ++ rest))) }
@@ -87,7 +87,7 @@ fn read_pieces<R: Read>(
             return Ok(());
         }
     }
-    Err(Fault::Read)
+    Err(CommandFault::Read)
 }
 
 // Reads a piece that a reader has, and returns how long it is. It is empty at the end alone, where there is room.
@@ -96,7 +96,7 @@ fn read_piece<R: Read>(
     room: &mut [u8],
     turns: &mut TurnReader,
     table: &NodeTable,
-) -> Result<usize, Fault>
+) -> Result<usize, CommandFault>
     requires size { turns.old.size + length room.old < 2 ^ 60 }
     ensures come { OnOk result (HasCome table.now (R.remaining reader.old) (R.remaining reader.new) turns.old turns.new) }
     ensures taken { IfOk result (λ n. turns.new.size ≡ turns.old.size + n) }

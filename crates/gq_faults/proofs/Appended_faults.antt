@@ -8,7 +8,7 @@ use Rattle.gq_init.proofs.Written_byte_facts.{on_ok}
 use Rattle.gq_model.specs.machine.Scenario.{Component}
 use Rattle.gq_model.specs.rules.Resolve.{Unresolved, Bad_after, is_bad_after, with_name}
 use Rattle.gq_model.proofs.Small_facts.{or_first_none, some_same}
-use Rattle.gq_load.specs.Load.{Fault, fault_text, source_fault, sources_fault}
+use Rattle.gq_load.specs.Load.{LoadRefusal, fault_text, source_fault, sources_fault}
 use Rattle.gq_load.specs.Load_faults.{Prints, load_fault_text}
 use Rattle.gq_load.specs.declared.load_fault.LoadFault.{LoadFault}
 use Rattle.gq_resolve.specs.internal.Afters.{named_by}
@@ -37,7 +37,7 @@ pub then_two : {A B E F : Type 0} (t : B → A) (old mid new : List A) (x y : Li
 then_two t old mid new x y r e h = on_ok (new ≡ mid ++ map t y) (new ≡ old ++ map t (x ++ y)) r (two_more t old mid new x y e) h
 
 -- a fault that prints the line of the definition's
-pub printed : (f : LoadFault) (o : Option Fault) → Prints f o → load_fault_text f ∷ [] ≡ map fault_text (listed_if o)
+pub printed : (f : LoadFault) (o : Option LoadRefusal) → Prints f o → load_fault_text f ∷ [] ≡ map fault_text (listed_if o)
 printed f None h = absurd h
 printed f (Some fault) h = ap (λ l. l ∷ []) h
 
@@ -70,17 +70,18 @@ pub sources_next : (cs : List Component) (i : ℕ) (c : Component) → i < lengt
 sources_next cs i c less is none =
     or_first_none (source_fault c.node.name c.node.source) (sources_fault (drop (i + 1) cs)) (sym (rw (drop_more cs i c less, ← is) refl) ∙ none)
 
-same_line : (f : LoadFault) (o : Option Fault) → Some (load_fault_text f) ≡ option_map fault_text o → load_fault_text f ∷ [] ≡ map fault_text (listed_if o)
+same_line : (f : LoadFault) (o : Option LoadRefusal) → Some (load_fault_text f) ≡ option_map fault_text o → load_fault_text f ∷ [] ≡ map fault_text
+    (listed_if o)
 same_line f None e = absurd cc
 same_line f (Some fault) e = ap (λ l. l ∷ []) (some_same e)
 
-pub one_printed : {E F : Type 0} (old new : List (List ℕ)) (f : LoadFault) (o : Option Fault) (r : Result E F)
+pub one_printed : {E F : Type 0} (old new : List (List ℕ)) (f : LoadFault) (o : Option LoadRefusal) (r : Result E F)
     → Some (load_fault_text f) ≡ option_map fault_text o
     → OnOk r (new ≡ old ++ load_fault_text f ∷ []) → OnOk r (new ≡ old ++ map fault_text (listed_if o))
 one_printed old new f o r e h =
     on_ok (new ≡ old ++ load_fault_text f ∷ []) (new ≡ old ++ map fault_text (listed_if o)) r (λ g. g ∙ ap (λ l. old ++ l) (same_line f o e)) h
 
-pub none_printed : (old : List (List ℕ)) (o : Option Fault) → None ≡ option_map fault_text o → old ≡ old ++ map fault_text (listed_if o)
+pub none_printed : (old : List (List ℕ)) (o : Option LoadRefusal) → None ≡ option_map fault_text o → old ≡ old ++ map fault_text (listed_if o)
 none_printed old None e = sym (append-nil old)
 none_printed old (Some fault) e = absurd cc
 

@@ -4,7 +4,7 @@ use Rattle.gq_model.specs.machine.Scenario.{Scenario, Component, Interfaces, com
 use Rattle.gq_model.specs.rules.Accept.{Refusal, Not_resolved}
 use Rattle.gq_model.specs.rules.Resolve.{Unresolved, unresolved}
 use Rattle.gq_model.specs.texts.Fault_texts.{refusal_text, unresolved_text}
-use Rattle.gq_load.specs.Load.{Fault, Refused_for, fault_text, sources_fault}
+use Rattle.gq_load.specs.Load.{LoadRefusal, Refused_for, fault_text, sources_fault}
 use Rattle.gq_load.specs.internal.Judged_programs.{leaf_refusal, first_refusal}
 use Rattle.gq_load.proofs.First_refusal_reason.{first_same}
 use Rattle.gq_faults.specs.Found_lists.{all_found, listed_if, or_else, first}
@@ -56,7 +56,7 @@ pub resolved : (s : Scenario) → unresolved_all s ≡ [] → unresolved s ≡ N
 resolved s e = sym (first_of_unresolved s) ∙ ap first e
 
 -- texts and codes that are no programs
-pub some_sources : (items : List FoundFault) (l others : List Fault) → lines_found items ≡ map fault_text l → (length items ≡ 0 → ⊥)
+pub some_sources : (items : List FoundFault) (l others : List LoadRefusal) → lines_found items ≡ map fault_text l → (length items ≡ 0 → ⊥)
     → lines_found items ≡ map fault_text (or_else l others)
 some_sources items l others e h = some_of fault_text items l others e h
 
@@ -64,13 +64,14 @@ pub programs : (cs : List Component) → sources_faults cs ≡ [] → sources_fa
 programs cs e = sym (first_of_sources cs) ∙ ap first e
 
 -- programs that break rules
-pub some_rules : (items : List FoundFault) (l m others : List Refusal) (sources : List Fault) → sources ≡ [] → lines_found items ≡ map refusal_text l → l ≡ m
+pub some_rules : (items : List FoundFault) (l m others : List Refusal) (sources : List LoadRefusal) → sources ≡ [] → lines_found items ≡ map refusal_text l →
+    l ≡ m
     → (length items ≡ 0 → ⊥) → lines_found items ≡ map fault_text (or_else sources (map Refused_for (or_else m others)))
 some_rules items l m others sources none e same h =
     some_of refusal_text items m others (e ∙ ap (map refusal_text) same) h
     ∙ (sym (refused_lines (or_else m others)) ∙ ap (λ s. map fault_text (or_else s (map Refused_for (or_else m others)))) (sym none))
 
-pub no_rules : (lines : List (List ℕ)) (m others : List Refusal) (sources : List Fault) → sources ≡ [] → m ≡ [] → lines ≡ map refusal_text others
+pub no_rules : (lines : List (List ℕ)) (m others : List Refusal) (sources : List LoadRefusal) → sources ≡ [] → m ≡ [] → lines ≡ map refusal_text others
     → lines ≡ map fault_text (or_else sources (map Refused_for (or_else m others)))
 no_rules lines m others sources none e h =
     h ∙ (sym (refused_lines others)

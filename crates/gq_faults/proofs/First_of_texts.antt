@@ -7,7 +7,7 @@ use Rattle.gq_model.specs.machine.Scenario.{Scenario}
 use Rattle.gq_scenario.specs.Document.{described, document_fault}
 use Rattle.gq_scenario.specs.Table_keys.{DocumentFault}
 use Rattle.gq_scenario.specs.Top_table.{ReadFault, Bad_document, document_in, described_or, read_from}
-use Rattle.gq_load.specs.Load.{Fault, Unread, scenario_fault, loaded_or, loaded_from, loaded}
+use Rattle.gq_load.specs.Load.{LoadRefusal, Unread, scenario_fault, loaded_or, loaded_from, loaded}
 use Rattle.gq_faults.specs.Found_lists.{first}
 use Rattle.gq_faults.proofs.First_fault_found.{first_else, first_map, first_none}
 use Rattle.gq_faults.specs.Scenario_faults.{scenario_faults}
@@ -16,10 +16,10 @@ use Rattle.gq_faults.specs.Documents.{document_faults}
 use Rattle.gq_faults.specs.First_stage_faults.{faults_from, faults_of, refusal_of}
 use Rattle.gq_faults.proofs.First_of_counts.{first_of_document}
 
-abbrev bad : DocumentFault → Fault
+abbrev bad : DocumentFault → LoadRefusal
 bad fault = Unread (Bad_document fault)
 
-by_scenario : (s : Scenario) (o : Option Fault) → o ≡ refusal_of (loaded_or s o)
+by_scenario : (s : Scenario) (o : Option LoadRefusal) → o ≡ refusal_of (loaded_or s o)
 by_scenario s None = refl
 by_scenario s (Some fault) = refl
 

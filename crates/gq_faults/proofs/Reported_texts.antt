@@ -11,7 +11,7 @@ use Rattle.gq_scenario.specs.Fault_words.{IsRead, scenario_fault_text}
 use Rattle.gq_scenario.specs.declared.scenario_fault.ScenarioFault.{ScenarioFault}
 use Rattle.gq_scenario.specs.declared.scenario_fault.ScenarioError.TheVariants as errors
 use Rattle.gq_load.specs.Load_faults.{Prints}
-use Rattle.gq_load.specs.Load.{Fault, fault_text, loaded, loaded_from, loaded_or, scenario_fault}
+use Rattle.gq_load.specs.Load.{LoadRefusal, fault_text, loaded, loaded_from, loaded_or, scenario_fault}
 use Rattle.gq_load.specs.declared.load_fault.LoadFault.{LoadFault}
 use Rattle.gq_load.specs.declared.load_fault.LoadFault.TheVariants as load
 use Rattle.gq_faults.specs.Answered.{ReportsText}
@@ -43,7 +43,7 @@ refused_as_read text f h = by (scenario_in text) h
     by (Ok s) h = absurd h
     by (Err why) h = h
 
-refusal_is : (s : Scenario) (o : Option Fault) → refusal_of (loaded_or s o) ≡ o
+refusal_is : (s : Scenario) (o : Option LoadRefusal) → refusal_of (loaded_or s o) ≡ o
 refusal_is s None = refl
 refusal_is s (Some fault) = refl
 

@@ -2,7 +2,7 @@
 use Rattle.std.proofs.Common.{◌≡◌, ℕ, List, [], map, Option, Some, None, Result, Ok, Err, ap, refl, sym, subst, ◌∙◌}
 use Rattle.gq_model.specs.machine.Scenario.{Scenario}
 use Rattle.gq_model.specs.declared.fault.TurnFault.{TurnFault}
-use Rattle.gq_load.specs.Load.{Fault, fault_text, loaded}
+use Rattle.gq_load.specs.Load.{LoadRefusal, fault_text, loaded}
 use Rattle.gq_faults.specs.First_stage_faults.{fault_lines}
 use Rattle.gq_faults.specs.Found_lists.{first}
 use Rattle.gq_init.specs.Writer_failures.{failures_of, written_to}
@@ -17,7 +17,7 @@ use Rattle.gq_faults.proofs.First_of_texts.{none_of_accepted}
 use Rattle.gq_faults.proofs.Reported_fault_prefixes.{prefix_of_none, reports_memory}
 use Rattle.gq_faults.proofs.Turn_lines.{first_of_turns}
 
-module _ (r : Result Scenario Fault) (s : Scenario) (turns : List ℕ) (accepted : r ≡ Ok s) where
+module _ (r : Result Scenario LoadRefusal) (s : Scenario) (turns : List ℕ) (accepted : r ≡ Ok s) where
   pub answers_none : None ≡ first (turn_faults s turns) → Answers None r turns
   answers_none h = subst (λ o. Answers None o turns) (sym accepted) (sym (h ∙ first_of_turns s turns))
 
@@ -40,7 +40,7 @@ pub both_early : {A B : Type 0} (path other text turns : List ℕ) (before after
     → Reporting {A = B} (reported_of (loaded text) path other) (lines_of_both text turns) before after m n (Err e)
 both_early {B = B} path other text turns before after m n e h = by (loaded text) refl
   where
-    by : (r : Result Scenario Fault) → loaded text ≡ r → Reporting {A = B} (reported_of r path other) (lines_from r text turns) before after m n (Err e)
+    by : (r : Result Scenario LoadRefusal) → loaded text ≡ r → Reporting {A = B} (reported_of r path other) (lines_from r text turns) before after m n (Err e)
     by (Err fault) is = record { reported = tt; counted = tt; cut = h.cut; ended = h.ended }
     by (Ok s) is =
         let none : fault_lines text ≡ [] = ap (map fault_text) (none_of_accepted text s is) in

@@ -10,7 +10,7 @@ use Rattle.gq_scenario.specs.Fault_words.{IsRead, SameFault, scenario_fault_text
 use Rattle.gq_scenario.specs.declared.scenario_fault.ScenarioFault.{ScenarioFault}
 use Rattle.gq_scenario.specs.declared.scenario_fault.ScenarioError.TheVariants as errors
 use Rattle.std.specs.Prelude.{MatchResult}
-use Rattle.gq_load.specs.Load.{Fault, Unread, fault_text}
+use Rattle.gq_load.specs.Load.{LoadRefusal, Unread, fault_text}
 use Rattle.gq_reader.proofs.Faulty_document_result.{fault_read}
 use Rattle.gq_faults.specs.Documents.{document_faults}
 use Rattle.gq_faults.specs.Scenario_faults.{scenario_faults}
@@ -19,7 +19,7 @@ use Rattle.gq_faults.specs.Found_lists.{or_else, first}
 use Rattle.gq_faults.proofs.First_fault_found.{first_none}
 use Rattle.gq_faults.proofs.First_of_counts.{first_of_document}
 
-abbrev bad : DocumentFault → Fault
+abbrev bad : DocumentFault → LoadRefusal
 bad fault = Unread (Bad_document fault)
 
 same_lines : (l : List DocumentFault) → map fault_text (map bad l) ≡ map document_text l

@@ -8,13 +8,13 @@ use Rattle.gq_model.specs.rules.Resolve.{Unresolved, Bad_offer, Bad_after, Cycle
 use Rattle.gq_model.specs.rules.Use.{services, reaches, subject}
 use Rattle.gq_model.specs.rules.Verdict.{program_fault, greatest_cost}
 use Rattle.gq_resolve.specs.Served.{once}
-use Rattle.gq_load.specs.Load.{Fault, Refused_for, source_fault}
+use Rattle.gq_load.specs.Load.{LoadRefusal, Refused_for, source_fault}
 use Rattle.gq_faults.specs.Found_lists.{listed_if, when, all_found, or_else}
 
 -- PROGRAMS
 
 -- the first fault of each text and code
-abbrev pub sources_faults : List Component → List Fault
+abbrev pub sources_faults : List Component → List LoadRefusal
 sources_faults = all_found (λ c. listed_if (source_fault c.node.name c.node.source))
 
 -- the rule that each program breaks first
@@ -96,5 +96,5 @@ abbrev pub rest_faults : Scenario → List Refusal
 rest_faults s = or_else (map Not_resolved (unresolved_all s)) (over_budgets (components s) (budgets s))
 
 -- the faults of a scenario that was read
-abbrev pub scenario_faults : Scenario → List Fault
+abbrev pub scenario_faults : Scenario → List LoadRefusal
 scenario_faults s = or_else (sources_faults (components s)) (map Refused_for (or_else (rules_faults (system s) (components s)) (rest_faults s)))

@@ -10,7 +10,7 @@ use Rattle.gq_model.specs.declared.fault.TurnFault.{TurnFault}
 use Rattle.gq_model.specs.declared.fault.TurnFault.TheVariants.{BadLine, NoSuchComponent, TooMany, NoInput, InputTooLarge}
 use Rattle.gq_scenario.specs.Text_pieces.{lines_left}
 use Rattle.gq_init.specs.TurnLines.{given_in}
-use Rattle.gq_load.specs.Load.{Fault, fault_text, loaded}
+use Rattle.gq_load.specs.Load.{LoadRefusal, fault_text, loaded}
 use Rattle.gq_load.specs.Load_faults.{load_fault_text}
 use Rattle.gq_faults.specs.First_stage_faults.{fault_lines}
 use Rattle.gq_faults.specs.declared.turn_faults.Refused.{Refused}
@@ -57,12 +57,12 @@ fault_of_turns (Err fault) = Some fault
 -- BOTH
 
 -- what is reported of a scenario that is refused, or else of turns
-abbrev pub reported_of : {A : Type 0} → Result Scenario Fault → A → A → A
+abbrev pub reported_of : {A : Type 0} → Result Scenario LoadRefusal → A → A → A
 reported_of (Err fault) scenario turns = scenario
 reported_of (Ok s) scenario turns = turns
 
 -- the faults of a scenario's text, or else those of a text of turns
-abbrev pub lines_from : Result Scenario Fault → List ℕ → List ℕ → List (List ℕ)
+abbrev pub lines_from : Result Scenario LoadRefusal → List ℕ → List ℕ → List (List ℕ)
 lines_from (Err fault) scenario turns = fault_lines scenario
 lines_from (Ok s) scenario turns = map turn_fault_line (turn_faults s turns)
 
@@ -70,7 +70,7 @@ abbrev pub lines_of_both : List ℕ → List ℕ → List (List ℕ)
 lines_of_both scenario turns = lines_from (loaded scenario) scenario turns
 
 -- the answer is the fault of the scenario
-abbrev pub AnswersFault : Option Refused → Fault → Type 0
+abbrev pub AnswersFault : Option Refused → LoadRefusal → Type 0
 AnswersFault None fault = ⊥
 AnswersFault (Some (refused.Scenario f)) fault = load_fault_text f ≡ fault_text fault
 AnswersFault (Some (refused.Turns fault line)) other = ⊥
@@ -82,7 +82,7 @@ AnswersTurns (Some (refused.Scenario f)) first = ⊥
 AnswersTurns (Some (refused.Turns fault line)) first = first ≡ Some (fault, line)
 
 -- the answer says why a run of the scenario by the turns is refused, if it is
-abbrev pub Answers : Option Refused → Result Scenario Fault → List ℕ → Type 0
+abbrev pub Answers : Option Refused → Result Scenario LoadRefusal → List ℕ → Type 0
 Answers answer (Err fault) turns = AnswersFault answer fault
 Answers answer (Ok s) turns = AnswersTurns answer (fault_of_turns (turned s turns))
 

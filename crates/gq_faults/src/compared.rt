@@ -12,7 +12,7 @@ use gq_model::fault::Rule;
 use gq_model::program::OperandSlot;
 use gq_program::{Body, Section, Statement};
 use gq_rules::{AbstractState, Context, Subject};
-use gq_verify::{Fault, Starts, section_cost};
+use gq_verify::{BrokenRule, Starts, section_cost};
 use std::alloc::{AllocError, Global};
 
 // No more loops are open at a place.
@@ -35,7 +35,7 @@ struct Search {
 pub fn compared(
     alloc: Global,
     subject: &Subject<'_>,
-    fault: &Fault,
+    fault: &BrokenRule,
 ) -> Result<Compared, AllocError> {
     match fault.rule {
         Rule::MissingSection => Ok(Compared::Section(fault.section, !subject.has(fault.section))),
@@ -64,7 +64,11 @@ fn is_section(section: Section) -> bool
 }
 
 // What a rule compared at a place of a section.
-fn in_section(alloc: Global, subject: &Subject<'_>, fault: &Fault) -> Result<Compared, AllocError> {
+fn in_section(
+    alloc: Global,
+    subject: &Subject<'_>,
+    fault: &BrokenRule,
+) -> Result<Compared, AllocError> {
     if !is_section(fault.section) {
         return Ok(Compared::Nothing);
     }
@@ -119,7 +123,7 @@ fn at_start(
 fn at_end(
     subject: &Subject<'_>,
     start: &AbstractState,
-    fault: &Fault,
+    fault: &BrokenRule,
     state: &mut AbstractState,
 ) -> Compared {
     match (fault.rule, fault.section) {

@@ -275,7 +275,7 @@ pub enum OfferCause {
 
 /// Whose routes are followed at one init.
 #[derive(Drop)]
-pub struct Owner {
+pub struct RouteOwner {
     /// The leaf or init whose service it is.
     pub child: Name,
     /// The init above it.
@@ -288,9 +288,9 @@ pub struct Owner {
 #[derive(Drop)]
 pub enum Hop {
     /// No entry of the list fits, of so many; some are for services with names like that of the one that is asked for.
-    NoEntry(Owner, usize, Vec<Name>),
+    NoEntry(RouteOwner, usize, Vec<Name>),
     /// The entry of this number, from 1, decided, for this service or for any.
-    Entry(Owner, usize, bool, Where),
+    Entry(RouteOwner, usize, bool, Where),
     /// The question went beyond the root.
     BeyondRoot,
 }

@@ -1,6 +1,6 @@
 // How a service that is refused is led, an init after the other.
 // No contract: its results are details alone. Tests show them.
-use crate::fault_value::{Hop, Owner, Where};
+use crate::fault_value::{Hop, RouteOwner, Where};
 use crate::meant::Nearest;
 use crate::program_lines::nth_word;
 use crate::start_after_faults::is_same;
@@ -166,7 +166,7 @@ fn name_in(label: &[u8], number: usize) -> Option<Name> {
 }
 
 // Whose routes are followed at the level of this number of a component.
-fn owner(component: &Component<'_>, number: usize, level: &Level<'_>) -> Option<Owner> {
+fn owner(component: &Component<'_>, number: usize, level: &Level<'_>) -> Option<RouteOwner> {
     let depth = component.levels().len().saturating_sub(number);
     let child_name = name_in(component.label(), depth)?;
     let init = name_in(component.label(), depth.saturating_sub(1))?;
@@ -174,7 +174,7 @@ fn owner(component: &Component<'_>, number: usize, level: &Level<'_>) -> Option<
         Some(node) => has_routes(node),
         None => false,
     };
-    Some(Owner {
+    Some(RouteOwner {
         child: child_name,
         init,
         is_own,

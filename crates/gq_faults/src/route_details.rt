@@ -1,6 +1,6 @@
 // The details of services that lead nowhere, and of leaves that reach themselves.
 // No contract: its results are details alone. Tests show them.
-use crate::fault_value::{Hop, OfferCause, Owner, Where};
+use crate::fault_value::{Hop, OfferCause, RouteOwner, Where};
 use crate::value_words::Details;
 use gq_model::program::Name;
 use std::alloc::AllocError;
@@ -22,7 +22,7 @@ pub(crate) fn push_hops(reported: &mut Details, hops: &[Hop]) -> Result<(), Allo
 }
 
 // What one route is called, and what several are: default ones have a key of their own.
-fn route_words(owner: &Owner) -> (&'static str, &'static str) {
+fn route_words(owner: &RouteOwner) -> (&'static str, &'static str) {
     if owner.is_own {
         ("route", "routes")
     } else {
@@ -31,7 +31,7 @@ fn route_words(owner: &Owner) -> (&'static str, &'static str) {
 }
 
 // Whose routes they are.
-fn of_owner(reported: &mut Details, owner: &Owner) -> Result<(), AllocError> {
+fn of_owner(reported: &mut Details, owner: &RouteOwner) -> Result<(), AllocError> {
     reported.text(" of ")?;
     reported.name(if owner.is_own {
         &owner.child
@@ -41,7 +41,7 @@ fn of_owner(reported: &mut Details, owner: &Owner) -> Result<(), AllocError> {
 }
 
 // There is no route.
-fn no_routes(reported: &mut Details, owner: &Owner) -> Result<(), AllocError> {
+fn no_routes(reported: &mut Details, owner: &RouteOwner) -> Result<(), AllocError> {
     reported.name(&owner.child)?;
     if owner.is_own {
         return reported.text(" has an empty list of routes");
@@ -54,7 +54,7 @@ fn no_routes(reported: &mut Details, owner: &Owner) -> Result<(), AllocError> {
 // None of so many routes is for a service, but some are for services with names like it.
 fn no_entry(
     reported: &mut Details,
-    owner: &Owner,
+    owner: &RouteOwner,
     count: usize,
     near: &[Name],
 ) -> Result<(), AllocError> {
@@ -73,7 +73,7 @@ fn no_entry(
 // The route of this number, and where it led.
 fn entry(
     reported: &mut Details,
-    owner: &Owner,
+    owner: &RouteOwner,
     number: usize,
     is_named: bool,
     target: &Where,

@@ -27,7 +27,7 @@ use gq_scenario::key::Key;
 use gq_scenario::scenario::Leaf;
 use gq_scenario::source::Source;
 use gq_toml_places::Step;
-use gq_verify::{Fault, verify};
+use gq_verify::{BrokenRule, verify};
 use std::alloc::{AllocError, Global};
 
 // The key at which a leaf has its program.
@@ -58,7 +58,7 @@ fn text_fault(
 // - of a service without an interface its name
 // - of an input that is not there its number
 // - else the word of the statement itself
-fn word_of(fault: &Fault) -> usize {
+fn word_of(fault: &BrokenRule) -> usize {
     match fault.rule {
         Rule::UnknownService => 2,
         Rule::NoInput => 1,
@@ -78,7 +78,7 @@ fn word_at(text: &[u8], line: usize, word: usize) -> usize {
 }
 
 // Where a rule is broken.
-fn rule_part(leaf: &Leaf, fault: &Fault) -> FaultPart {
+fn rule_part(leaf: &Leaf, fault: &BrokenRule) -> FaultPart {
     match leaf.source() {
         Source::Text(text) => match line_of(text.as_slice(), fault.section, fault.place) {
             Some(line) => FaultPart::Word(line, word_at(text.as_slice(), line, word_of(fault))),
@@ -208,7 +208,7 @@ fn detail_of(
     leaf: &Leaf,
     program: &Program,
     interfaces: &Interfaces,
-    fault: &Fault,
+    fault: &BrokenRule,
 ) -> Result<Compared, AllocError> {
     let provided = match leaf.provides() {
         Some(service) => interfaces.named(service.as_bytes()),
@@ -238,7 +238,11 @@ fn read(alloc: Global, leaf: &Leaf) -> Result<Program, AllocError>
 }
 
 // The rule that a program breaks first, if it breaks one.
-fn broken(component: &Component<'_>, program: &Program, interfaces: &Interfaces) -> Option<Fault>
+fn broken(
+    component: &Component<'_>,
+    program: &Program,
+    interfaces: &Interfaces,
+) -> Option<BrokenRule>
     requires { program.now ≡ component.now.node.program }
     ensures { option_map known_fault result ≡ program_fault (judged_by interfaces.now component.now) }
 {

@@ -4,7 +4,7 @@ use Rattle.std.specs.Prelude.{IsOkAnd}
 use Rattle.gq_model.specs.machine.Scenario.{Scenario}
 use Rattle.gq_scenario.specs.Top_table.{scenario_in}
 use Rattle.gq_load.specs.Load_faults.{Prints, PrintsFault, Refuses}
-use Rattle.gq_load.specs.Load.{Fault, loaded, loaded_from, loaded_or, scenario_fault}
+use Rattle.gq_load.specs.Load.{LoadRefusal, loaded, loaded_from, loaded_or, scenario_fault}
 use Rattle.gq_load.specs.declared.load_fault.LoadError.{LoadError}
 use Rattle.gq_load.specs.declared.load_fault.LoadError.TheVariants as error
 use Rattle.gq_load.specs.declared.load_fault.LoadFault.{LoadFault}
@@ -25,7 +25,7 @@ pub judged_is : (text : List ℕ) (s : Scenario) → scenario_in text ≡ Ok s �
 judged_is text s read none = ap judged_without_from read ∙ ap (loaded_or s) none
 
 -- a fault of a scenario that was read refuses its text
-refuses_or : (f : LoadFault) (s : Scenario) (fault : Option Fault) → Prints f fault → Refuses (error.Fault f) (loaded_or s fault)
+refuses_or : (f : LoadFault) (s : Scenario) (fault : Option LoadRefusal) → Prints f fault → Refuses (error.Fault f) (loaded_or s fault)
 refuses_or f s None h = absurd h
 refuses_or f s (Some fault) h = h
 
@@ -93,7 +93,7 @@ short_before (faults.NoFit reason) shorts h = tt {0}
 short_before faults.Memory shorts h = tt {0}
 short_before faults.Write shorts h = h
 
-pub first_before : (f : FitFault) (judged : Result Scenario Fault) → IsRefusedBy f judged → IsBefore f
+pub first_before : (f : FitFault) (judged : Result Scenario LoadRefusal) → IsRefusedBy f judged → IsBefore f
 first_before (faults.Load fault) judged h = tt {0}
 first_before (faults.Short lines) judged h = tt {0}
 first_before (faults.NoFit reason) judged h = tt {0}

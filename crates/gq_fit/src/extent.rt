@@ -1,6 +1,6 @@
 // Where values of a TOML text end.
 // No contract: what is made of them is read again (`made`). Tests show them.
-use crate::quantity_text::{Form, form_of};
+use crate::quantity_text::{QuantityForm, form_of};
 use std::alloc::{AllocError, Global};
 use toml_parser::text::{first, skip, skip_blank};
 use toml_parser::{ParseError, quoted, starts_string, unquoted};
@@ -8,7 +8,7 @@ use toml_parser::{ParseError, quoted, starts_string, unquoted};
 /// A value that stands in a text: how its numbers are written, of a list those of its elements in order, and how many bytes it has.
 #[derive(Drop)]
 pub(crate) struct Value {
-    pub forms: Vec<Form>,
+    pub forms: Vec<QuantityForm>,
     pub length: usize,
 }
 
@@ -24,7 +24,7 @@ fn after_scalar(alloc: Global, rest: &str) -> Result<&str, ParseError> {
 /// The text after a list whose opening bracket is read, with the forms of its elements.
 fn after_list<'t>(
     alloc: Global,
-    forms: &mut Vec<Form>,
+    forms: &mut Vec<QuantityForm>,
     text: &'t str,
 ) -> Result<Option<&'t str>, ParseError> {
     let mut rest = text;

@@ -5,7 +5,7 @@ use std::alloc::AllocError;
 
 /// How a quantity is written.
 #[derive(Clone, Copy)]
-pub(crate) enum Form {
+pub(crate) enum QuantityForm {
     /// As a whole number.
     Whole,
     /// As a text between these quotes.
@@ -16,17 +16,17 @@ pub(crate) enum Form {
 const SUFFIXES: [(&[u8], u32); 3] = [(b"G", 30), (b"M", 20), (b"K", 10)];
 
 /// The form of the value that begins here.
-pub(crate) fn form_of(rest: &[u8]) -> Form {
+pub(crate) fn form_of(rest: &[u8]) -> QuantityForm {
     if rest.starts_with(b"\"\"\"") {
-        Form::Text(b"\"\"\"")
+        QuantityForm::Text(b"\"\"\"")
     } else if rest.starts_with(b"'''") {
-        Form::Text(b"'''")
+        QuantityForm::Text(b"'''")
     } else if rest.starts_with(b"\"") {
-        Form::Text(b"\"")
+        QuantityForm::Text(b"\"")
     } else if rest.starts_with(b"'") {
-        Form::Text(b"'")
+        QuantityForm::Text(b"'")
     } else {
-        Form::Whole
+        QuantityForm::Whole
     }
 }
 
@@ -42,10 +42,14 @@ fn push_scaled(text: &mut Vec<u8>, number: u64) -> Result<(), AllocError> {
 }
 
 /// Puts a quantity in a form at the end of a text.
-pub(crate) fn push_quantity(text: &mut Vec<u8>, form: Form, number: u64) -> Result<(), AllocError> {
+pub(crate) fn push_quantity(
+    text: &mut Vec<u8>,
+    form: QuantityForm,
+    number: u64,
+) -> Result<(), AllocError> {
     match form {
-        Form::Whole => push_number(text, number),
-        Form::Text(quotes) => {
+        QuantityForm::Whole => push_number(text, number),
+        QuantityForm::Text(quotes) => {
             text.extend_from_slice(quotes)?;
             push_scaled(text, number)?;
             text.extend_from_slice(quotes)

@@ -4,14 +4,14 @@ ghost use Rattle.gq_model.specs.machine.Accounts.{entry, used_entry, leaf_entrie
 ghost use Rattle.gq_scenario.specs.Component_trees.{version_number};
 ghost use Rattle.gq_init.specs.Account_values.{with_label};
 
-use crate::account_report::{Account, LeafAccount};
+use crate::account_report::{AccountReport, LeafAccount};
 use crate::line::{Line, extend, extend_entry, extend_number, phase_word};
 use arrayvec::ArrayVec;
 use gq_model::limits::GREATEST_LABEL;
 use gq_scenario::scenario::Version;
 
 /// The line of an account with this label, of a scenario of this version.
-pub fn account_line(version: Version, label: &[u8], account: &Account) -> Line
+pub fn account_line(version: Version, label: &[u8], account: &AccountReport) -> Line
     requires { length label.now ≤ GREATEST_LABEL }
     ensures { result.items ≡ account_line (version_number version) (with_label label.now account.now) }
 {
@@ -43,7 +43,7 @@ fn start(label: &[u8], quota: u64) -> Line
 }
 
 // Puts the capabilities of a node, and those that a leaf holds, at the end of a line.
-fn extend_caps(line: &mut Line, account: &Account)
+fn extend_caps(line: &mut Line, account: &AccountReport)
     requires { length line.old.items ≤ 160 }
     ensures bytes { line.new.items ≡ line.old.items ++ (entry (codes "caps") account.now.quota.caps
         ++ used_entry (codes "taken") (λ u. u.caps) account.now.leaf) }

@@ -75,12 +75,12 @@ impl LeafAccount {
 
 /// The account of a node.
 #[derive(Clone, Copy, Debug, PartialEq, Eq)]
-pub struct Account {
+pub struct AccountReport {
     quota: Amount,
     leaf: Option<LeafAccount>,
 }
 
-impl Model for Account {
+impl Model for AccountReport {
     ghost use Rattle.gq_init.specs.Account_values.{AccountValues};
 
     ghost Value = { AccountValues };
@@ -90,12 +90,12 @@ impl Model for Account {
     ghost inverse = { λ a. record { quota = a.quota; leaf = a.leaf } };
 }
 
-impl Account {
+impl AccountReport {
     /// An account with this quota, of a leaf or of a node with children.
-    pub fn new(quota: Amount, leaf: Option<LeafAccount>) -> Account
+    pub fn new(quota: Amount, leaf: Option<LeafAccount>) -> AccountReport
         ensures { result ≡ record { quota = quota; leaf = leaf } }
     {
-        Account { quota, leaf }
+        AccountReport { quota, leaf }
     }
 
     /// The node's quota, in bytes.

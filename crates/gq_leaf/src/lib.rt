@@ -17,8 +17,8 @@
 //! use gq_leaf::on_memory::{load, store};
 //!
 //! // `store4 o0` and `load4 o0`, with their operands on those of the leaf.
-//! store(&mut registers, actor, &addresses, &mut slots, Width::Word, Place::Own(0))?;
-//! load(&mut registers, actor, &addresses, &mut slots, Width::Word, Place::Own(0))?;
+//! store(&mut registers, actor, &addresses, &mut slots, Width::Word, OperandSlot::Own(0))?;
+//! load(&mut registers, actor, &addresses, &mut slots, Width::Word, OperandSlot::Own(0))?;
 //! ```
 #![tactic(auto)]
 

@@ -22,7 +22,7 @@ use Rattle.std.proofs.GlobalToken.{dealloc_token-Testable}
 use Rattle.gq_world.specs.World_between_turns.{World}
 use Rattle.gq_world.specs.contracts.world.World.{the_row as world_row}
 use Rattle.gq_library.specs.Held_world.{boxed, held_owns}
-use Rattle.gq_library.specs.contracts.held.Held as held
+use Rattle.gq_library.specs.contracts.held.WorldHandle as held
 
 abbrev pub one : Val → Val
 one v = vstruct (vcons v vnil)

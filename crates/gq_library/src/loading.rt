@@ -4,7 +4,7 @@ ghost use Rattle.gq_load.specs.Load.{loaded, fault_text};
 ghost use Rattle.gq_library.specs.Loads.{Holds, IsRefused, Starts};
 ghost use Rattle.gq_library.specs.Texts.{IsPut};
 
-use crate::held::Held;
+use crate::held::WorldHandle;
 use crate::refusal_line::{put_fault, status_of};
 use crate::result_codes::{LOADED, MEMORY, REFUSED};
 use gq_world::RunFault;
@@ -18,7 +18,7 @@ use std::mem::replace;
 /// - `REFUSED`: the text is no accepted scenario; `trade_fault` has the reason.
 /// - `MEMORY`: the host refused memory.
 #[unsafe(no_mangle)]
-pub extern "C" fn trade_load(alloc: Global, text: &[u8], world: &mut Held) -> u32
+pub extern "C" fn trade_load(alloc: Global, text: &[u8], world: &mut WorldHandle) -> u32
     ensures loaded { result ≡ LOADED → Holds world.new.world (Starts text.now) }
     ensures refused { result ≡ REFUSED → IsRefused text.now }
     ensures known { (result ≡ LOADED → ⊥) → (result ≡ REFUSED → ⊥) → result ≡ MEMORY }
@@ -33,7 +33,7 @@ pub extern "C" fn trade_load(alloc: Global, text: &[u8], world: &mut Held) -> u3
                 MEMORY
             }
             Ok(boxed) => {
-                *world = Held::of(boxed);
+                *world = WorldHandle::of(boxed);
                 LOADED
             }
         },
@@ -78,10 +78,10 @@ pub extern "C" fn trade_fault(
 
 /// Frees what the handle holds, and leaves it empty. An empty handle stays as it is.
 #[unsafe(no_mangle)]
-pub extern "C" fn trade_drop(alloc: Global, world: &mut Held)
+pub extern "C" fn trade_drop(alloc: Global, world: &mut WorldHandle)
     ensures { world.new.world ≡ None }
 {
-    match replace(world, Held::none()).into_box(alloc) {
+    match replace(world, WorldHandle::none()).into_box(alloc) {
         None => {}
         Some(boxed) => Box::into_inner(boxed).end(),
     }

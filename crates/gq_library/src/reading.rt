@@ -11,7 +11,7 @@ ghost use Rattle.gq_library.specs.Lookup.{number_or};
 ghost use Rattle.gq_library.specs.Texts.{IsPut};
 
 use crate::account_structs::{LeafBounds, NodeAccount, read_account, read_bounds};
-use crate::held::Held;
+use crate::held::WorldHandle;
 use crate::lookup::{leaf_named, node_of, put_label};
 use crate::result_codes::NONE;
 use std::alloc::Global;
@@ -19,16 +19,16 @@ use std::mem::replace;
 
 /// The number of nodes, the root among them; 0 if the handle is empty.
 #[unsafe(no_mangle)]
-pub extern "C" fn trade_nodes(alloc: Global, world: &mut Held) -> u32
+pub extern "C" fn trade_nodes(alloc: Global, world: &mut WorldHandle) -> u32
     ensures nodes { IfSome world.old.world (λ w. result ≡ length (node_rows w.scenario)) }
     ensures empty { world.old.world ≡ None → result ≡ 0 }
     ensures same { world.new.world ≡ world.old.world }
 {
-    match replace(world, Held::none()).into_box(alloc) {
+    match replace(world, WorldHandle::none()).into_box(alloc) {
         None => 0,
         Some(boxed) => {
             let nodes = boxed.nodes() as u32;
-            *world = Held::of(boxed);
+            *world = WorldHandle::of(boxed);
             nodes
         }
     }
@@ -36,16 +36,16 @@ pub extern "C" fn trade_nodes(alloc: Global, world: &mut Held) -> u32
 
 /// The number of leaves; 0 if the handle is empty.
 #[unsafe(no_mangle)]
-pub extern "C" fn trade_leaves(alloc: Global, world: &mut Held) -> u32
+pub extern "C" fn trade_leaves(alloc: Global, world: &mut WorldHandle) -> u32
     ensures leaves { IfSome world.old.world (λ w. result ≡ length (components w.scenario)) }
     ensures empty { world.old.world ≡ None → result ≡ 0 }
     ensures same { world.new.world ≡ world.old.world }
 {
-    match replace(world, Held::none()).into_box(alloc) {
+    match replace(world, WorldHandle::none()).into_box(alloc) {
         None => 0,
         Some(boxed) => {
             let leaves = boxed.table().leaf_count() as u32;
-            *world = Held::of(boxed);
+            *world = WorldHandle::of(boxed);
             leaves
         }
     }
@@ -53,16 +53,16 @@ pub extern "C" fn trade_leaves(alloc: Global, world: &mut Held) -> u32
 
 /// The number of the leaf of a name, or `NONE`.
 #[unsafe(no_mangle)]
-pub extern "C" fn trade_leaf(alloc: Global, world: &mut Held, name: &[u8]) -> u32
+pub extern "C" fn trade_leaf(alloc: Global, world: &mut WorldHandle, name: &[u8]) -> u32
     ensures leaf { IfSome world.old.world (λ w. result ≡ number_or (numbered 0 name.now (components w.scenario))) }
     ensures empty { world.old.world ≡ None → result ≡ NONE }
     ensures same { world.new.world ≡ world.old.world }
 {
-    match replace(world, Held::none()).into_box(alloc) {
+    match replace(world, WorldHandle::none()).into_box(alloc) {
         None => NONE,
         Some(boxed) => {
             let leaf = leaf_named(&boxed, name);
-            *world = Held::of(boxed);
+            *world = WorldHandle::of(boxed);
             leaf
         }
     }
@@ -70,17 +70,17 @@ pub extern "C" fn trade_leaf(alloc: Global, world: &mut Held, name: &[u8]) -> u3
 
 /// The node of a leaf, or `NONE` if there is no such leaf.
 #[unsafe(no_mangle)]
-pub extern "C" fn trade_node(alloc: Global, world: &mut Held, leaf: u32) -> u32
+pub extern "C" fn trade_node(alloc: Global, world: &mut WorldHandle, leaf: u32) -> u32
     ensures node { IfSome world.old.world (λ w. IfSome (slice_get (components w.scenario) leaf) (λ c. IsNodeOf (node_rows w.scenario) result c)) }
     ensures none { IfSome world.old.world (λ w. length (components w.scenario) ≤ leaf → result ≡ NONE) }
     ensures empty { world.old.world ≡ None → result ≡ NONE }
     ensures same { world.new.world ≡ world.old.world }
 {
-    match replace(world, Held::none()).into_box(alloc) {
+    match replace(world, WorldHandle::none()).into_box(alloc) {
         None => NONE,
         Some(boxed) => {
             let node = node_of(&boxed, leaf);
-            *world = Held::of(boxed);
+            *world = WorldHandle::of(boxed);
             node
         }
     }
@@ -91,7 +91,7 @@ pub extern "C" fn trade_node(alloc: Global, world: &mut Held, leaf: u32) -> u32
 #[unsafe(no_mangle)]
 pub extern "C" fn trade_label(
     alloc: Global,
-    world: &mut Held,
+    world: &mut WorldHandle,
     node: u32,
     label: &mut [u8],
     written: &mut usize,
@@ -104,11 +104,11 @@ pub extern "C" fn trade_label(
     ensures stays { result ≡ false → label.new ≡ label.old }
     ensures written { result ≡ false → written.new ≡ written.old }
 {
-    match replace(world, Held::none()).into_box(alloc) {
+    match replace(world, WorldHandle::none()).into_box(alloc) {
         None => false,
         Some(boxed) => {
             let there = put_label(&boxed, node, label, written);
-            *world = Held::of(boxed);
+            *world = WorldHandle::of(boxed);
             there
         }
     }
@@ -118,7 +118,7 @@ pub extern "C" fn trade_label(
 #[unsafe(no_mangle)]
 pub extern "C" fn trade_read_account(
     alloc: Global,
-    world: &mut Held,
+    world: &mut WorldHandle,
     node: u32,
     account: &mut NodeAccount,
 ) -> bool
@@ -128,11 +128,11 @@ pub extern "C" fn trade_read_account(
     ensures same { world.new.world ≡ world.old.world }
     ensures stays { result ≡ false → account.new ≡ account.old }
 {
-    match replace(world, Held::none()).into_box(alloc) {
+    match replace(world, WorldHandle::none()).into_box(alloc) {
         None => false,
         Some(boxed) => {
             let there = read_account(&boxed, node, account);
-            *world = Held::of(boxed);
+            *world = WorldHandle::of(boxed);
             there
         }
     }
@@ -142,7 +142,7 @@ pub extern "C" fn trade_read_account(
 #[unsafe(no_mangle)]
 pub extern "C" fn trade_read_budget(
     alloc: Global,
-    world: &mut Held,
+    world: &mut WorldHandle,
     leaf: u32,
     budget: &mut LeafBounds,
 ) -> bool
@@ -152,11 +152,11 @@ pub extern "C" fn trade_read_budget(
     ensures same { world.new.world ≡ world.old.world }
     ensures stays { result ≡ false → budget.new ≡ budget.old }
 {
-    match replace(world, Held::none()).into_box(alloc) {
+    match replace(world, WorldHandle::none()).into_box(alloc) {
         None => false,
         Some(boxed) => {
             let there = read_bounds(&boxed, leaf, budget);
-            *world = Held::of(boxed);
+            *world = WorldHandle::of(boxed);
             there
         }
     }

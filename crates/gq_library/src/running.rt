@@ -5,7 +5,7 @@ ghost use Rattle.gq_library.specs.Loads.{Holds};
 ghost use Rattle.gq_library.specs.C_settings.{IsSetting};
 ghost use Rattle.gq_library.specs.C_turns.{AreTaken, IsTaken};
 
-use crate::held::Held;
+use crate::held::WorldHandle;
 use crate::inputs::set_input;
 use crate::result_codes::{NO_INPUT, NONE, SET};
 use crate::turn::turn;
@@ -21,7 +21,7 @@ use std::mem::replace;
 #[unsafe(no_mangle)]
 pub extern "C" fn trade_set_input(
     alloc: Global,
-    world: &mut Held,
+    world: &mut WorldHandle,
     leaf: u32,
     input: u32,
     number: u32,
@@ -30,12 +30,12 @@ pub extern "C" fn trade_set_input(
     ensures unchanged { (result ≡ SET → ⊥) → world.new.world ≡ world.old.world }
     ensures empty { world.old.world ≡ None → result ≡ NO_INPUT }
 {
-    match replace(world, Held::none()).into_box(alloc) {
+    match replace(world, WorldHandle::none()).into_box(alloc) {
         None => NO_INPUT,
         Some(boxed) => {
             let mut boxed = boxed;
             let set = set_input(&mut boxed, leaf, input, number);
-            *world = Held::of(boxed);
+            *world = WorldHandle::of(boxed);
             set
         }
     }
@@ -48,7 +48,7 @@ pub extern "C" fn trade_set_input(
 #[unsafe(no_mangle)]
 pub extern "C" fn trade_turn(
     alloc: Global,
-    world: &mut Held,
+    world: &mut WorldHandle,
     leaf: u32,
     line: &mut [u8],
     written: &mut usize,
@@ -61,12 +61,12 @@ pub extern "C" fn trade_turn(
     ensures line { result ≡ NONE → line.new ≡ line.old }
     ensures written { result ≡ NONE → written.new ≡ written.old }
 {
-    match replace(world, Held::none()).into_box(alloc) {
+    match replace(world, WorldHandle::none()).into_box(alloc) {
         None => NONE,
         Some(boxed) => {
             let mut boxed = boxed;
             let event = turn(&mut boxed, leaf, line, written);
-            *world = Held::of(boxed);
+            *world = WorldHandle::of(boxed);
             event
         }
     }
@@ -79,7 +79,7 @@ pub extern "C" fn trade_turn(
 #[unsafe(no_mangle)]
 pub extern "C" fn trade_turns(
     alloc: Global,
-    world: &mut Held,
+    world: &mut WorldHandle,
     leaf: u32,
     most: u32,
     taken: &mut u32,
@@ -96,7 +96,7 @@ pub extern "C" fn trade_turns(
     ensures line { result ≡ NONE → line.new ≡ line.old }
     ensures written { result ≡ NONE → written.new ≡ written.old }
 {
-    match replace(world, Held::none()).into_box(alloc) {
+    match replace(world, WorldHandle::none()).into_box(alloc) {
         None => {
             *taken = 0;
             NONE
@@ -104,7 +104,7 @@ pub extern "C" fn trade_turns(
         Some(boxed) => {
             let mut boxed = boxed;
             let event = turns(&mut boxed, leaf, most, taken, line, written);
-            *world = Held::of(boxed);
+            *world = WorldHandle::of(boxed);
             event
         }
     }

@@ -8,7 +8,7 @@ use Rattle.gq_model.specs.machine.Scenario.{Interfaces, Component}
 use Rattle.gq_model.specs.rules.Accept.{Refusal}
 use Rattle.gq_model.specs.rules.Use.{services}
 use Rattle.gq_budget.specs.Leaf_section_counts.{Counted, IsCountOf, AreCountsOf}
-use Rattle.gq_load.specs.Load.{Fault, refused}
+use Rattle.gq_load.specs.Load.{LoadRefusal, refused}
 use Rattle.gq_load.specs.Load_faults.{PrintsFault}
 use Rattle.gq_load.specs.internal.Judged_programs.{judged_by}
 use Rattle.gq_load.specs.internal.Counted_leaves.{counted_leaves}
@@ -67,7 +67,7 @@ surveyed_end i all place owns counted opened past h =
 -- RULES
 
 -- an error for the texts and codes, or for one rule, is one for them or the first rule
-pub gives_either : (e : LoadError) (o : Option Fault) (a b : Option Refusal) → PrintsFault e (or_first o (refused a))
+pub gives_either : (e : LoadError) (o : Option LoadRefusal) (a b : Option Refusal) → PrintsFault e (or_first o (refused a))
     → PrintsFault e (or_first o (refused (or_first a b)))
 gives_either error.Memory o a b h = tt
 gives_either (error.Fault f) None None b h = absurd h

@@ -12,7 +12,7 @@ use Rattle.gq_resolve.specs.declared.resolve_fault.ResolveError.TheVariants as r
 use Rattle.gq_load.specs.internal.Judged_programs.{leaf_refusal, first_refusal}
 use Rattle.gq_load.specs.internal.Saturated_budgets.{kept_from, budget_refusal}
 use Rattle.gq_scenario.specs.Top_table.{scenario_in}
-use Rattle.gq_load.specs.Load.{Fault, sources_fault, refused, scenario_fault, loaded_or, loaded_from, loaded}
+use Rattle.gq_load.specs.Load.{LoadRefusal, sources_fault, refused, scenario_fault, loaded_or, loaded_from, loaded}
 use Rattle.gq_load.specs.Load_faults.{PrintsFault, Refuses, load_error_of}
 use Rattle.gq_load.specs.declared.load_fault.LoadError.{LoadError}
 use Rattle.gq_load.specs.declared.load_fault.LoadError.TheVariants as error
@@ -95,7 +95,7 @@ kept_are s fit =
 
 -- FAULTS OF A SCENARIO
 
-pub fault_here : (e : LoadError) (a b : Option Fault) → PrintsFault e a → PrintsFault e (or_first a b)
+pub fault_here : (e : LoadError) (a b : Option LoadRefusal) → PrintsFault e a → PrintsFault e (or_first a b)
 fault_here error.Memory a b h = tt
 fault_here (error.Fault f) None b h = absurd h
 fault_here (error.Fault f) (Some why) b h = h
@@ -128,7 +128,7 @@ pub of_kept : (s : Scenario) (cs : List Component) (bs : List Budget) (P : List 
 of_kept s cs bs P e f h = subst (λ cs. P cs (kept_from s.version (system s) 0 cs)) e (subst (P cs) f h)
 
 -- a text whose scenario is refused is refused so
-gives_refuses : (s : Scenario) (o : Option Fault) (e : LoadError) → PrintsFault e o → Refuses e (loaded_or s o)
+gives_refuses : (s : Scenario) (o : Option LoadRefusal) (e : LoadError) → PrintsFault e o → Refuses e (loaded_or s o)
 gives_refuses s o error.Memory h = tt
 gives_refuses s None (error.Fault f) h = h
 gives_refuses s (Some fault) (error.Fault f) h = h
@@ -137,10 +137,10 @@ pub refuses_so : {A : Type 0} (text : List ℕ) (s : Scenario) (r : Result A Loa
     → IfErr r (λ e. PrintsFault e (scenario_fault s)) →
     IfErr r (λ e. Refuses e (loaded text))
 refuses_so text s (Ok a) is h = tt
-refuses_so text s (Err e) is h = subst (λ (l : Result Scenario Fault). Refuses e l) (sym (ap loaded_from is)) (gives_refuses s (scenario_fault s) e h)
+refuses_so text s (Err e) is h = subst (λ (l : Result Scenario LoadRefusal). Refuses e l) (sym (ap loaded_from is)) (gives_refuses s (scenario_fault s) e h)
 
 -- a text is refused by the first fault of its scenario
-pub refuses_or : (s : Scenario) (e : LoadError) (o : Option Fault) → PrintsFault e o → Refuses e (loaded_or s o)
+pub refuses_or : (s : Scenario) (e : LoadError) (o : Option LoadRefusal) → PrintsFault e o → Refuses e (loaded_or s o)
 refuses_or s error.Memory None h = tt
 refuses_or s error.Memory (Some fault) h = tt
 refuses_or s (error.Fault f) None h = h

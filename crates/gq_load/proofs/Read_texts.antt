@@ -10,7 +10,7 @@ use Rattle.gq_scenario.specs.Document_tables.{version_of, top_keys}
 use Rattle.gq_scenario.specs.Document.{table_of, list_at, described, keys_of, interfaces_fault, routes_fault, walk_fault, names_of, name_twice, counts_fault}
 use Rattle.gq_scenario.specs.Document.{document_fault}
 use Rattle.gq_scenario.specs.Top_table.{ReadFault, Bad_document, described_or, read_from, document_in, scenario_in}
-use Rattle.gq_load.specs.Load.{Fault, Unread, sources_fault, refused, scenario_fault, loaded_or, loaded_from, loaded}
+use Rattle.gq_load.specs.Load.{LoadRefusal, Unread, sources_fault, refused, scenario_fault, loaded_or, loaded_from, loaded}
 use Rattle.gq_load.specs.Unverified.{unverified_fault, unverified_from, unverified}
 use Rattle.gq_laws.specs.Names.{NamesDiffer}
 use Rattle.gq_laws.proofs.verified_programs.Sound_systems.{is_resolved}
@@ -71,7 +71,7 @@ text_differ = read_by NamesDiffer described_differ
 was_read : (text : List ℕ) (s : Scenario) → loaded text ≡ Ok s → scenario_in text ≡ Ok s
 was_read text s e = from (scenario_in text) e
   where
-    last : (t : Scenario) (o : Option Fault) → loaded_or t o ≡ Ok s → t ≡ s
+    last : (t : Scenario) (o : Option LoadRefusal) → loaded_or t o ≡ Ok s → t ≡ s
     last t None f = same_scenario t s f
     last t (Some fault) f = absurd (not_ok fault s f)
 
@@ -106,7 +106,7 @@ fits_of s e =
 pub unverified_ready : (text : List ℕ) (s : Scenario) → unverified text ≡ Ok s → IsReady s
 unverified_ready text s e = from (scenario_in text) refl e
   where
-    last : (t : Scenario) (o : Option Fault) → scenario_in text ≡ Ok t → unverified_fault t ≡ o → loaded_or t o ≡ Ok s → IsReady s
+    last : (t : Scenario) (o : Option LoadRefusal) → scenario_in text ≡ Ok t → unverified_fault t ≡ o → loaded_or t o ≡ Ok s → IsReady s
     last t None r whole f =
         subst IsReady (same_scenario t s f)
         (record { read = text_read text t r; resolved = record { differ = text_differ text t r; fits = fits_of t whole } })

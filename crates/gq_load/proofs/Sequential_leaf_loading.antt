@@ -3,7 +3,7 @@ use Rattle.std.proofs.Common.{◌≡◌, ℕ, suc, ◌+◌, ◌<◌, List, ◌�
 use Rattle.std.proofs.Math.Seq.{drop-cons}
 use Rattle.gq_model.specs.machine.Lists.{or_first}
 use Rattle.gq_model.specs.machine.Scenario.{Component}
-use Rattle.gq_load.specs.Load.{Fault, source_fault, sources_fault}
+use Rattle.gq_load.specs.Load.{LoadRefusal, source_fault, sources_fault}
 use Rattle.gq_load.specs.Load_faults.{PrintsFault}
 use Rattle.gq_load.specs.declared.load_fault.LoadError.{LoadError}
 use Rattle.gq_load.specs.declared.load_fault.LoadError.TheVariants as error
@@ -14,7 +14,7 @@ here_is l i a less e =
     drop-cons l i a less ∙ (ap (λ h. h ∷ drop (suc i) l) (sym e) ∙ ap (λ n. a ∷ drop n l) (sym (add-one i)))
 
 -- an error for the first of two faults is one for both
-pub gives_first : (e : LoadError) (o p : Option Fault) → PrintsFault e o → PrintsFault e (or_first o p)
+pub gives_first : (e : LoadError) (o p : Option LoadRefusal) → PrintsFault e o → PrintsFault e (or_first o p)
 gives_first error.Memory o p h = tt
 gives_first (error.Fault f) None p h = absurd h
 gives_first (error.Fault f) (Some fault) p h = h

@@ -9,7 +9,7 @@ use Rattle.gq_scenario.specs.Document_tables.{top_keys}
 use Rattle.gq_scenario.specs.Document.{table_of, list_at, described, interfaces_fault, walk_fault, names_of, name_twice, counts_fault, document_fault}
 use Rattle.gq_scenario.specs.Document_tables.{version_of}
 use Rattle.gq_scenario.specs.Top_table.{ReadFault, Bad_document, described_or, read_from, document_in}
-use Rattle.gq_load.specs.Load.{Fault, Unread, sources_fault, refused, scenario_fault, loaded_or, loaded_from, loaded}
+use Rattle.gq_load.specs.Load.{LoadRefusal, Unread, sources_fault, refused, scenario_fault, loaded_or, loaded_from, loaded}
 use Rattle.gq_laws.specs.Sound_scenarios.{IsSound}
 use Rattle.gq_model.proofs.Small_facts.{none_some, or_first_none}
 use Rattle.gq_scenario.proofs.Distinct_leaf_names.{names_differ}
@@ -50,7 +50,7 @@ described_sound top e sources accepted =
 pub loaded_sound : (text : List ℕ) (s : Scenario) → loaded text ≡ Ok s → IsSound s
 loaded_sound text s e = from (document_in text) e
   where
-    last : (top : Members) → document_fault top ≡ None → (o : Option Fault) → scenario_fault (described top) ≡ o → loaded_or (described top) o ≡ Ok s
+    last : (top : Members) → document_fault top ≡ None → (o : Option LoadRefusal) → scenario_fault (described top) ≡ o → loaded_or (described top) o ≡ Ok s
         → IsSound s
     last top whole None none f =
         let p = or_first_none (sources_fault (components (described top))) (refused (refusal (described top))) none in

@@ -10,7 +10,7 @@ use Rattle.gq_load.specs.declared.load_fault.LoadFault.{LoadFault}
 use Rattle.gq_load.specs.declared.load_fault.LoadFault.TheVariants as load
 use Rattle.gq_load.specs.declared.load_fault.LoadError.{LoadError}
 use Rattle.gq_load.specs.declared.load_fault.LoadError.TheVariants as error
-use Rattle.gq_load.specs.Load.{Fault, fault_text}
+use Rattle.gq_load.specs.Load.{LoadRefusal, fault_text}
 
 -- the line that a refusal prints
 abbrev pub load_fault_text : LoadFault → List ℕ
@@ -24,12 +24,12 @@ load_fault_text (load.OverSteps leaf) = leaf ++ codes ": B2 OverSteps"
 load_fault_text (load.OverCaps leaf own caps) = leaf ++ codes ": B3 OverCaps own " ++ decimal own ++ codes " caps " ++ decimal caps
 
 -- the refusal prints the line of this fault
-abbrev pub Prints : LoadFault → Option Fault → Type 0
+abbrev pub Prints : LoadFault → Option LoadRefusal → Type 0
 Prints f None = ⊥
 Prints f (Some fault) = load_fault_text f ≡ fault_text fault
 
 -- so it is, unless the host refused memory
-abbrev pub PrintsFault : LoadError → Option Fault → Type 0
+abbrev pub PrintsFault : LoadError → Option LoadRefusal → Type 0
 PrintsFault error.Memory fault = Unit {0}
 PrintsFault (error.Fault f) fault = Prints f fault
 
@@ -39,7 +39,7 @@ load_error_of (resolve.Memory why) = error.Memory
 load_error_of (resolve.Fault why) = error.Fault (load.Resolve why)
 
 -- the text is refused with this error
-abbrev pub Refuses : LoadError → Result Scenario Fault → Type 0
+abbrev pub Refuses : LoadError → Result Scenario LoadRefusal → Type 0
 Refuses error.Memory loaded = Unit {0}
 Refuses (error.Fault f) (Ok s) = ⊥
 Refuses (error.Fault f) (Err fault) = load_fault_text f ≡ fault_text fault

@@ -5,7 +5,7 @@ ghost use Rattle.gq_model.specs.machine.Lists.{or_first};
 ghost use Rattle.gq_model.specs.rules.Use.{services};
 ghost use Rattle.gq_budget.specs.Leaf_section_counts.{IsCountOf};
 ghost use Rattle.gq_load.specs.Load_faults.{PrintsFault};
-ghost use Rattle.gq_load.specs.Load.{Fault, source_fault, sources_fault, refused};
+ghost use Rattle.gq_load.specs.Load.{LoadRefusal, source_fault, sources_fault, refused};
 ghost use Rattle.gq_load.specs.internal.Judged_programs.{programs_of, judged_by, leaf_refusal, first_refusal};
 ghost use Rattle.gq_load.specs.internal.Surveys.{own_of, leaf_by, AreSurveys};
 
@@ -136,7 +136,7 @@ pub(crate) fn survey_programs(
 
 // The first error: that of the texts and codes of these leaves, or this one.
 fn first_error(alloc: Global, components: &[Component<'_>], error: LoadError) -> LoadError
-    ensures { (fault : Option Fault) → PrintsFault error fault → PrintsFault result (or_first (sources_fault components.now) fault) }
+    ensures { (fault : Option LoadRefusal) → PrintsFault error fault → PrintsFault result (or_first (sources_fault components.now) fault) }
 {
     match check_programs(alloc, components) {
         Ok(()) => error,

@@ -74,7 +74,7 @@ fn write(slots: &mut Slots, addresses: &Addresses, session: usize, value: u8) ->
     slots.pay_by(1);
     match slots.content(SlotId::InLeaf(1, 0)) {
         Content::Link(other) if other as usize == session => {
-            addresses::store(addresses, slots, 1, 3, value)
+            region_addresses::store(addresses, slots, 1, 3, value)
         }
         _ => false,
     }
@@ -88,7 +88,7 @@ fn write_number(slots: &mut Slots, addresses: &Addresses, session: usize, value:
     slots.pay_by(1);
     match slots.content(SlotId::InLeaf(1, 0)) {
         Content::Link(other) if other as usize == session => {
-            addresses::store4(addresses, slots, 1, 8, value)
+            region_addresses::store4(addresses, slots, 1, 8, value)
         }
         _ => false,
     }
@@ -102,9 +102,9 @@ fn read_back(slots: &mut Slots, addresses: &Addresses, session: usize) -> [Optio
     slots.pay_by(1);
     match slots.content(SlotId::InLeaf(1, 0)) {
         Content::Link(other) if other as usize == session => {
-            let byte = addresses::load(addresses, slots, 1, 3);
-            let number = addresses::load4(addresses, slots, 1, 8);
-            let behind = addresses::load(addresses, slots, 1, 4096);
+            let byte = region_addresses::load(addresses, slots, 1, 3);
+            let number = region_addresses::load4(addresses, slots, 1, 8);
+            let behind = region_addresses::load(addresses, slots, 1, 4096);
             [byte.map(u32::from), number, behind.map(u32::from)]
         }
         _ => [None, None, None],

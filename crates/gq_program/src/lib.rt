@@ -15,12 +15,12 @@
 //! `shapes` is the table of statements: for each the word that it has in program text, its number in code, and the operands that it takes.
 //!
 //! ```rust
-//! use gq_model::program::Place;
+//! use gq_model::program::OperandSlot;
 //! use gq_program::{Shape, shape_of_word};
 //!
 //! // `free` takes a slot.
 //! if let Some(Shape::Slot(statement)) = shape_of_word(b"free") {
-//!     let free = statement.instruction(Place::Own(3));
+//!     let free = statement.instruction(OperandSlot::Own(3));
 //! }
 //! ```
 #![tactic(auto)]

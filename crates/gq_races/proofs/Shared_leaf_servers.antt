@@ -11,7 +11,7 @@ use Rattle.gq_model.specs.machine.Scenario.{Component, Scenario, components, sys
 use Rattle.gq_model.specs.rules.Kinds.{in_main}
 use Rattle.gq_model.specs.rules.Use.{is_there, services_of}
 use Rattle.gq_resolve.specs.Served.{once, server_among}
-use Rattle.gq_resolve.proofs.Opened_services.{any_once}
+use Rattle.gq_resolve.proofs.Opened_service_lists.{any_once}
 use Rattle.gq_resolve.proofs.Mapped_list_growth.{next_is}
 use Rattle.gq_races.specs.Races.{all_for, any_below, implies, is_shared, opens, opens_first, opens_later, owns}
 use Rattle.gq_races.specs.internal.Openers.{first_servers, later_servers, opened_from, servers_of}

@@ -7,7 +7,7 @@ use Rattle.gq_model.specs.declared.program.Instruction.{Instruction}
 use Rattle.gq_model.specs.declared.program.Section.{Section}
 use Rattle.gq_model.specs.machine.Program.{Statements, Done, Do, If, Loop, size}
 use Rattle.gq_model.specs.machine.Scenario.{Component, Scenario, System, system}
-use Rattle.gq_load.specs.Load.{Fault}
+use Rattle.gq_load.specs.Load.{LoadRefusal}
 use Rattle.gq_races.specs.Races.{Stated, IsOrderFree, IsRaceFree, each_stated, for_several, found_in, is_order, is_race, is_shared, openers, stated_from}
 use Rattle.gq_races.specs.Races.{stated_in, stated_of}
 use Rattle.gq_races.specs.Race_text.{effect_text, has_effect, heading, leaf_lines, lines_from, races_text, sharing_lines}
@@ -94,12 +94,12 @@ nothing_appended old new text h n = by (subst (λ o. Appends o new text) n.1 h)
     by g = nothing_more n.0 text (subst (λ o. Appends (Some n.0) o text) n.2 g)
 
 -- of a scenario that was loaded
-pub free_printed : (r : Result Scenario Fault) (text : List ℕ) (old new : Option (List ℕ)) → IsOkAnd r (λ s. text ≡ races_text s) → Appends old new text
+pub free_printed : (r : Result Scenario LoadRefusal) (text : List ℕ) (old new : Option (List ℕ)) → IsOkAnd r (λ s. text ≡ races_text s) → Appends old new text
     → WroteNothing old new → IsOkAnd r IsRaceFree
 free_printed (Ok s) text old new h put n = lines_less is_race not_race (system s) 0 (system s).components (sym h ∙ nothing_appended old new text put n)
 free_printed (Err fault) text old new h put n = absurd h
 
-pub quiet_printed : (r : Result Scenario Fault) (text : List ℕ) (old new : Option (List ℕ)) → IsOkAnd r (λ s. text ≡ races_text s) → Appends old new text
+pub quiet_printed : (r : Result Scenario LoadRefusal) (text : List ℕ) (old new : Option (List ℕ)) → IsOkAnd r (λ s. text ≡ races_text s) → Appends old new text
     → WroteNothing old new → IsOkAnd r IsOrderFree
 quiet_printed (Ok s) text old new h put n = lines_less is_order not_order (system s) 0 (system s).components (sym h ∙ nothing_appended old new text put n)
 quiet_printed (Err fault) text old new h put n = absurd h

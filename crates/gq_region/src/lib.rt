@@ -18,16 +18,16 @@
 //! ```rust
 //! use gq_region::region_addresses;
 //! use gq_slots::Addresses;
-//! use gq_trade::Spot;
+//! use gq_trade::SlotId;
 //!
 //! // Slots of a scenario, as `gq_slots` has them; no service shares a buffer.
 //! let buffers = Addresses::new(Vec::new(rt.alloc()));
 //! slots.pay_by(0);
-//! slots.make_slice(Spot::InLeaf(0, 3), 100)?;
-//! let address = addresses::base(3) + 7;
-//! assert!(rt; addresses::store(&buffers, &mut slots, 0, address, 42));
-//! assert_eq!(rt; addresses::load(&buffers, &mut slots, 0, address), Some(42));
-//! assert_eq!(rt; addresses::load(&buffers, &mut slots, 0, address + 100), None);
+//! slots.make_slice(SlotId::InLeaf(0, 3), 100)?;
+//! let address = region_addresses::base(3) + 7;
+//! assert!(rt; region_addresses::store(&buffers, &mut slots, 0, address, 42));
+//! assert_eq!(rt; region_addresses::load(&buffers, &mut slots, 0, address), Some(42));
+//! assert_eq!(rt; region_addresses::load(&buffers, &mut slots, 0, address + 100), None);
 //! ```
 #![tactic(auto)]
 

@@ -6,7 +6,7 @@ pub mod Service_server_lists
 pub mod Rows_cycles
 pub mod Matching_list_items
 pub mod Each_once
-pub mod Opened_services
+pub mod Opened_service_lists
 pub mod Mapped_list_growth
 pub mod Name_keys
 pub mod Names_by_key

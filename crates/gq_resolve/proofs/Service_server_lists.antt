@@ -13,7 +13,7 @@ use Rattle.gq_resolve.specs.Reaching.{used_there, first_on_cycle}
 use Rattle.gq_resolve.specs.Served.{once, entry, served, servers, server_among, leaf_routes, routes_of, server_in, server_reported, server_at, AreServers}
 use Rattle.gq_resolve.proofs.Routed_service_providers.{has_server}
 use Rattle.gq_resolve.proofs.Use_chain_flags.{AreUsed, led_to, used_by, no_cycle, cycle_found}
-use Rattle.gq_resolve.proofs.Opened_services.{any_once}
+use Rattle.gq_resolve.proofs.Opened_service_lists.{any_once}
 use Rattle.std.proofs.lemmas.Option.{slice_get-map}
 use Rattle.gq_model.proofs.Small_facts.{text_is}
 

@@ -2,7 +2,7 @@
 //!
 //! ```rust
 //! use gq_rules::flow::flow;
-//! use gq_rules::{Context, State, Subject};
+//! use gq_rules::{Context, AbstractState, Subject};
 //!
 //! // What a `push` makes of what is known, in `main` of the program that is judged.
 //! let context = Context::new(&subject, Section::Main);

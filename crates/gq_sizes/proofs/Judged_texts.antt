@@ -11,7 +11,7 @@ use Rattle.gq_scenario.specs.Top_table.{ReadFault, Bad_document, described_or, r
 use Rattle.gq_scenario.specs.Without_quantities.{unsized}
 use Rattle.gq_scenario.proofs.Distinct_leaf_names.{names_differ}
 use Rattle.gq_reader.proofs.Faultless_document_parts.{walked}
-use Rattle.gq_load.specs.Load.{Fault, Unread, source_fault, sources_fault, refused, scenario_fault, loaded_or, loaded_from, loaded}
+use Rattle.gq_load.specs.Load.{LoadRefusal, Unread, source_fault, sources_fault, refused, scenario_fault, loaded_or, loaded_from, loaded}
 use Rattle.gq_load.specs.Unsized_judgement.{unsized_refusal}
 use Rattle.gq_load.proofs.Read_service_resources.{services_fair}
 use Rattle.gq_load.proofs.Sound_programs.{nodes_given, programs_are}
@@ -82,7 +82,7 @@ sources_free s = sources_so (components s) (components (unsized s)) (components_
 
 -- TEXTS THAT ARE JUDGED WITHOUT QUANTITIES
 
-ok_or : (s t : Scenario) (o : Option Fault) → loaded_or t o ≡ Ok s → (t ≡ s) × (o ≡ None)
+ok_or : (s t : Scenario) (o : Option LoadRefusal) → loaded_or t o ≡ Ok s → (t ≡ s) × (o ≡ None)
 ok_or s t None e = (same_scenario t s e, refl)
 ok_or s t (Some fault) e = absurd (not_ok fault s e)
 

@@ -30,7 +30,7 @@ pub mod Equal_route_targets
 pub mod Equal_section_requests
 pub mod Own_need_comparison
 pub mod Costs_without_quantities
-pub mod Section_levels
+pub mod Levels_of_sections
 pub mod Freed_scenarios
 pub mod Session_needs_bounded
 pub mod Accepted_opens_pay

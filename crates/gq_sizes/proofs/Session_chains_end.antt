@@ -38,7 +38,7 @@ use Rattle.gq_sizes.proofs.Statement_point_predicates.{Each}
 use Rattle.gq_sizes.proofs.Session_needs_bounded.{counts_of, need_upward, both, interfaces, points_so, points_paid, named_is}
 use Rattle.gq_sizes.proofs.Node_quanta_suffice.{after_there}
 use Rattle.gq_model.proofs.Section_laws.{section_found}
-use Rattle.gq_sizes.proofs.Section_levels.{outside_main}
+use Rattle.gq_sizes.proofs.Levels_of_sections.{outside_main}
 
 -- LISTS
 

@@ -32,7 +32,7 @@ use Rattle.gq_sizes.proofs.Faultless_without_quantities.{points_free}
 use Rattle.gq_sizes.proofs.Freed_scenarios.{all_free, nodes_free, components_both, pair_of, subjects_both, found_both, none_counted}
 use Rattle.gq_sizes.proofs.Costs_without_quantities.{Within, greatest_under, greatest_lower, session_lower}
 use Rattle.gq_model.proofs.Section_laws.{section_found}
-use Rattle.gq_sizes.proofs.Section_levels.{outside_main}
+use Rattle.gq_sizes.proofs.Levels_of_sections.{outside_main}
 use Rattle.gq_sizes.proofs.Statement_point_predicates.{greatest_each}
 
 -- WHAT IS COUNTED

@@ -47,7 +47,7 @@ use Rattle.gq_sizes.proofs.Equal_section_requests.{AskAsOne, budget_so}
 use Rattle.gq_sizes.proofs.Freed_scenarios.{nodes_free, components_both, pair_of}
 use Rattle.gq_sizes.proofs.Node_quanta_suffice.{sibling_held}
 use Rattle.gq_sizes.proofs.Start_chain_quanta.{after_least}
-use Rattle.gq_sizes.proofs.Section_levels.{level_known}
+use Rattle.gq_sizes.proofs.Levels_of_sections.{level_known}
 use Rattle.gq_sizes.proofs.Resolved_without_quantities.{offers_so, after_so, routes_so, cycles_so}
 use Rattle.gq_sizes.proofs.Sized_nodes.{handed, free_sized, all_have, has_at, quanta_fit}
 use Rattle.gq_sizes.proofs.Accepted_sizes_suffice.{nodes_self}

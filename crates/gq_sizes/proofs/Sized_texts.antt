@@ -16,7 +16,7 @@ use Rattle.gq_program.specs.Interfaces.{all_unbounded, capped, unbounded}
 use Rattle.gq_scenario.specs.Top_table.{scenario_in}
 use Rattle.gq_scenario.specs.Without_quantities.{unsized}
 use Rattle.gq_load.specs.Load_faults.{PrintsFault, Refuses}
-use Rattle.gq_load.specs.Load.{Fault, loaded_or, refused, sources_fault}
+use Rattle.gq_load.specs.Load.{LoadRefusal, loaded_or, refused, sources_fault}
 use Rattle.gq_load.specs.declared.load_fault.LoadError.{LoadError}
 use Rattle.gq_load.specs.declared.load_fault.LoadError.TheVariants as error
 use Rattle.gq_load.specs.Unsized_judgement.{unsized_fault, unsized_refusal}
@@ -127,7 +127,7 @@ endless_printed all s free ifs rows is same made =
 
 -- REFUSALS
 
-refuses_or : (s : Scenario) (fault : Option Fault) (e : LoadError) → PrintsFault e fault → Refuses e (loaded_or s fault)
+refuses_or : (s : Scenario) (fault : Option LoadRefusal) (e : LoadError) → PrintsFault e fault → Refuses e (loaded_or s fault)
 refuses_or s fault error.Memory h = tt
 refuses_or s None (error.Fault f) h = h
 refuses_or s (Some fault) (error.Fault f) h = h
@@ -137,7 +137,7 @@ pub refuses_so : {A : Type 0} (text : List ℕ) (s : Scenario) (r : Result A Loa
     → IfErr r (λ e. Refuses e (judged_without text))
 refuses_so text s (Ok a) is h = tt
 refuses_so text s (Err e) is h =
-    subst (λ (l : Result Scenario Fault). Refuses e l) (sym (ap judged_without_from is)) (refuses_or s (fault_without s) e h)
+    subst (λ (l : Result Scenario LoadRefusal). Refuses e l) (sym (ap judged_without_from is)) (refuses_or s (fault_without s) e h)
 
 -- THE TEXT
 

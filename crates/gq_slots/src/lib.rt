@@ -1,12 +1,12 @@
 //! What every slot of a scenario holds, in the memory of the leaf that pays for it: the slots of its leaves, those of its sessions, and their objects.
 //!
 //! ```rust
-//! use gq_trade::Spot;
+//! use gq_trade::SlotId;
 //! use gq_slots::Slots;
 //!
 //! // Accounts for the nodes of a plan, as `gq_trade` has them.
 //! let mut slots = Slots::new(rt.alloc(), 65536, None, plan, 24)?;
-//! let slot_id = Spot::InLeaf(0, 3);
+//! let slot_id = SlotId::InLeaf(0, 3);
 //! slots.pay_by(0);
 //! slots.make_slice(slot_id, 100)?;
 //! slots.store(slot_id, 7, 42);
@@ -17,16 +17,16 @@
 //! `sessions` and `ending_leaves` have what requests, their servers and the ends of leaves do to all slots.
 //!
 //! ```rust
-//! use gq_trade::Spot;
-//! use gq_slots::{leaves, sessions};
+//! use gq_trade::SlotId;
+//! use gq_slots::{ending_leaves, sessions};
 //!
 //! // The leaf 1 opens a session to the leaf 0, which takes the request; then the session is closed, and the client ends.
-//! let session = sessions::ask(&mut slots, 1, Spot::InLeaf(1, 0), 0, 0, donation)?;
+//! let session = sessions::ask(&mut slots, 1, SlotId::InLeaf(1, 0), 0, 0, donation)?;
 //! sessions::accept(&mut slots, 0)?;
 //! sessions::ask_close(&mut slots, session);
 //! sessions::accept(&mut slots, 0)?;
 //! sessions::closed(&mut slots, session)?;
-//! leaves::end(&mut slots, 1);
+//! ending_leaves::end(&mut slots, 1);
 //! ```
 //!
 //! [`Addresses`] says where the bytes of a slot stand: behind a link they are those of the session's buffer.

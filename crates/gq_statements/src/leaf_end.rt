@@ -27,7 +27,7 @@ pub fn exit(slots: &mut Slots, leaf: usize) -> Result<(), Wrong>
     if !has_no_link(slots, leaf) {
         return Err(Wrong::WrongKind);
     }
-    leaves::end(slots, leaf);
+    ending_leaves::end(slots, leaf);
     Ok(())
 }
 

@@ -5,9 +5,9 @@
 //!
 //! // The leaf 0 writes a word into a space of its own, o0, and reads it; it has no current request.
 //! let actor = Actor { leaf: 0, current: None };
-//! actor.make(&mut slots, Form::Space, Place::Own(0), 4096)?;
-//! actor.store(&addresses, &mut slots, Width::Word, Place::Own(0), 8, 77)?;
-//! assert_eq!(rt; actor.load(&addresses, &mut slots, Width::Word, Place::Own(0), 8), Ok(77));
+//! actor.make(&mut slots, Form::Space, OperandSlot::Own(0), 4096)?;
+//! actor.store(&addresses, &mut slots, Width::Word, OperandSlot::Own(0), 8, 77)?;
+//! assert_eq!(rt; actor.load(&addresses, &mut slots, Width::Word, OperandSlot::Own(0), 8), Ok(77));
 //! ```
 //!
 //! `open`, `upgrade`, `call` and `close` are what a leaf asks other leaves for.
@@ -16,8 +16,8 @@
 //! use gq_statements::{call, link};
 //!
 //! // The leaf of `actor` calls the session in its slot o0 with 21; its slot waits until the server has replied.
-//! if link(actor, &slots, Place::Own(0)).is_some() {
-//!     call(actor, &mut slots, Place::Own(0), 21)?;
+//! if link(actor, &slots, OperandSlot::Own(0)).is_some() {
+//!     call(actor, &mut slots, OperandSlot::Own(0), 21)?;
 //! }
 //! ```
 //!

@@ -96,7 +96,7 @@ pub(crate) enum DocumentKind {
 
 /// What a value belongs to: a key of a table, with its name and its offset, or an element of an array.
 #[derive(Drop)]
-pub(crate) enum Owner {
+pub(crate) enum ValueOwner {
     Key(usize, String, usize),
     Element(usize, usize),
 }
@@ -237,19 +237,19 @@ impl Tree {
     /// Notes where a value stands. An element that is neither a table nor an array is not noted.
     pub fn note(
         &mut self,
-        owner: Owner,
+        owner: ValueOwner,
         kind: DocumentKind,
         at: usize,
     ) -> Result<usize, AllocError> {
         match owner {
-            Owner::Key(table, name, key) => self.add_key(
+            ValueOwner::Key(table, name, key) => self.add_key(
                 table,
                 name,
                 kind,
                 Marks { key, value: at },
             ),
-            Owner::Element(array, _) if kind == DocumentKind::Scalar => Ok(array),
-            Owner::Element(array, index) => self.add_element(
+            ValueOwner::Element(array, _) if kind == DocumentKind::Scalar => Ok(array),
+            ValueOwner::Element(array, index) => self.add_element(
                 array,
                 index,
                 kind,

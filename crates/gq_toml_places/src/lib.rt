@@ -6,10 +6,10 @@
 //! - For a text that is no TOML: the place at which it stops being one.
 //!
 //! ```rust
-//! use gq_toml_places::{Places, Step};
+//! use gq_toml_places::{SourceMap, Step};
 //!
 //! let text = "version = 1\n\n[interface.echo]\nneed = '8K'\n";
-//! let places = Places::read(rt.alloc(), text)?;
+//! let places = SourceMap::read(rt.alloc(), text)?;
 //! let need = places.key(&[Step::Key("interface"), Step::Key("echo"), Step::Key("need")]);
 //! let position = places.position(need);
 //! assert_eq!(rt; (position.line, position.column), (4, 1));

@@ -1,7 +1,7 @@
 // One pass over a text, which notes each header, key, element and inline table.
 ghost use Rattle.std.specs.Prelude.{◌≡◌, ◌<◌, length, slice_index, IsTrue, OnOk, IfOk};
 
-use crate::document_tree::{DocumentKind, Marks, Owner, ROOT, Tree};
+use crate::document_tree::{DocumentKind, Marks, ROOT, Tree, ValueOwner};
 use crate::dotted_keys::part;
 use std::alloc::{AllocError, Global};
 use toml_parser::text::{byte_at, first, skip, skip_blank, skip_ws};
@@ -74,7 +74,7 @@ impl<'t> Reader<'t> {
             b']' => self.close(),
             _ => {
                 count_element(&mut self.open);
-                self.value(Owner::Element(array, count))?;
+                self.value(ValueOwner::Element(array, count))?;
             }
         }
         Ok(())
@@ -123,7 +123,7 @@ impl<'t> Reader<'t> {
             return Err(ParseError::at(ErrorKind::MissingEquals, self.rest));
         }
         self.rest = skip_ws(skip(self.rest, 1));
-        self.value(Owner::Key(table, name, at))
+        self.value(ValueOwner::Key(table, name, at))
     }
 
     // Follows a key up to its last part, which is given with its table and its offset. The tables that it makes on its way have the
@@ -151,7 +151,7 @@ impl<'t> Reader<'t> {
     }
 
     // A value, or the opening bracket of an array or an inline table, of which as many may stand in one another as `toml` allows.
-    fn value(&mut self, owner: Owner) -> Result<(), ParseError>
+    fn value(&mut self, owner: ValueOwner) -> Result<(), ParseError>
         ensures { OnOk result (length self.new.rest.now < length self.old.rest.now) }
     {
         let at = self.offset(self.rest);

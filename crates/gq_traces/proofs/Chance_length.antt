@@ -13,7 +13,7 @@ use Rattle.gq_laws.specs.Names.{NamesDiffer}
 use Rattle.gq_views.specs.Listing.{joined}
 use Rattle.gq_traces.specs.Schedule.{Taken, able, as_acts, choice, choices, chosen, drawn, greatest_choices, no_turns, schedule_lines, schedule_text, some_can}
 use Rattle.gq_traces.specs.Schedule.{reported_turns, turn_line, where_some, while_can}
-use Rattle.gq_traces.proofs.Schedule_laws.{AreNames, all_chosen, reported_back}
+use Rattle.gq_traces.proofs.Schedule_runs.{AreNames, all_chosen, reported_back}
 use Rattle.gq_traces.proofs.Scheduled_turn_runs.{while_few}
 use Rattle.gq_traces.proofs.Text_length.{cut_short, joined_both, line_short}
 use Rattle.gq_traces.proofs.Turned_back.{AreTurns}

@@ -1,11 +1,11 @@
 mod Turned_back
 mod Scheduled_turn_runs
-mod Schedule_laws
+mod Schedule_runs
 mod Leaf_progress_measure
 mod Text_length
 mod Turn_laws
 mod Leaf_number_bounds
-mod Line_parts
+mod Printed_line_parts
 mod Leaf_table_names
 mod Repeated_leaf_turns
 mod Turn_text_parts
@@ -51,7 +51,7 @@ mod One_else
 mod Printed_own_slots
 mod Own_turns
 mod Straight_line_statements
-mod Alone_steps
+mod Steps_taken_alone
 mod Still_noted
 mod Printed_leaves
 mod Printed_afters
@@ -60,7 +60,7 @@ mod Printed_instructions
 mod Printed_lines
 mod Printed_events
 mod Printed_places
-mod Step_lines
+mod Lines_of_steps
 mod Node_names
 mod Printed_run
 mod Inits_added

@@ -25,13 +25,13 @@ use Rattle.gq_scenario.specs.Sizes.{leaves_in}
 use Rattle.gq_scenario.proofs.Preorder_leaves.{components-count, components-leaves_in}
 use Rattle.gq_reader.proofs.Table_rules_kept.{fits_or_none, kept, one_there}
 use Rattle.gq_laws.specs.Shapes.{Each}
-use Rattle.gq_load.specs.Load.{Fault, Unread, loaded, loaded_from, loaded_or, scenario_fault}
+use Rattle.gq_load.specs.Load.{LoadRefusal, Unread, loaded, loaded_from, loaded_or, scenario_fault}
 use Rattle.gq_load.proofs.Sound_programs.{each_append}
 use Rattle.gq_load.proofs.Sound_texts.{not_ok, same_scenario}
 use Rattle.gq_traces.proofs.Leaf_table_names.{HasNames}
 use Rattle.gq_traces.proofs.Printed_instructions.{name_printed}
 use Rattle.gq_traces.proofs.Printed_numbers.{IsPrinted, both}
-use Rattle.gq_traces.proofs.Step_lines.{AreLabelled, HasTexts}
+use Rattle.gq_traces.proofs.Lines_of_steps.{AreLabelled, HasTexts}
 
 -- NODES
 
@@ -209,7 +209,7 @@ described_named top e =
 pub loaded_named : (text : List ℕ) (s : Scenario) → loaded text ≡ Ok s → AllNamed s
 loaded_named text s e = from (document_in text) e
   where
-    last : (top : Members) → document_fault top ≡ None → (o : Option Fault) → loaded_or (described top) o ≡ Ok s → AllNamed s
+    last : (top : Members) → document_fault top ≡ None → (o : Option LoadRefusal) → loaded_or (described top) o ≡ Ok s → AllNamed s
     last top whole None f = subst AllNamed (same_scenario (described top) s f) (described_named top whole)
     last top whole (Some fault) f = absurd (not_ok fault s f)
 

@@ -15,7 +15,7 @@ use Rattle.gq_model.specs.Promises.{EachOf}
 use Rattle.gq_laws.specs.Shapes.{Each}
 use Rattle.gq_laws.proofs.quota_payment.Leaf_component_positions.{Placed, all_placed}
 use Rattle.gq_laws.proofs.quota_payment.Quota_total.{IsCounted}
-use Rattle.gq_load.specs.Load.{Fault, loaded}
+use Rattle.gq_load.specs.Load.{LoadRefusal, loaded}
 use Rattle.gq_resolve.specs.NodeTables.{NodeRow, leaf_node, node_rows, rows_of}
 use Rattle.gq_scenario.specs.Sizes.{node_count}
 use Rattle.gq_world.specs.Whole.{Written, with_scenario}
@@ -228,6 +228,7 @@ shows_sums first scenario turns text world adds e = from (loaded scenario) refl 
           adds = adds s loads taken;
         }
 
-    from : (r : Result Scenario Fault) → loaded scenario ≡ r → with_scenario r (λ s. state_from first s turns) ≡ Ok text → ShowsSums first scenario turns text
+    from : (r : Result Scenario LoadRefusal) → loaded scenario ≡ r → with_scenario r (λ s. state_from first s turns) ≡ Ok text → ShowsSums first scenario turns
+        text
     from (Err fault) loads f = not_written _ text f
     from (Ok s) loads f = read s loads (turned s turns) refl f

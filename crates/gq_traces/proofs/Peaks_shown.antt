@@ -4,7 +4,7 @@ use Rattle.gq_model.specs.machine.Amounts.{Resource, Ram, Caps}
 use Rattle.gq_model.specs.machine.Run.{Acts, run}
 use Rattle.gq_model.specs.machine.Scenario.{Component, Scenario, components, system}
 use Rattle.gq_model.specs.texts.Turns.{Turned, turned}
-use Rattle.gq_load.specs.Load.{Fault, loaded}
+use Rattle.gq_load.specs.Load.{LoadRefusal, loaded}
 use Rattle.gq_world.specs.Whole.{Written, with_scenario}
 use Rattle.gq_traces.specs.First_turns.{turns_in}
 use Rattle.gq_traces.specs.Greatest.{AreGreatest, IsGreatest, ShowsPeaks, used_after}
@@ -73,6 +73,7 @@ shows_peaks scenario turns text e = from (loaded scenario) refl e
       greatest = all_greatest s all 0 (components s);
     }
 
-    from : (r : Result Scenario Fault) → loaded scenario ≡ r → with_scenario r (λ s. written.peaks_from s turns) ≡ Ok text → ShowsPeaks scenario turns text
+    from : (r : Result Scenario LoadRefusal) → loaded scenario ≡ r → with_scenario r (λ s. written.peaks_from s turns) ≡ Ok text → ShowsPeaks scenario turns
+        text
     from (Err fault) loads f = not_written _ text f
     from (Ok s) loads f = read s loads (turned s turns) refl f

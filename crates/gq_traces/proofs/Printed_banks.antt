@@ -13,13 +13,13 @@ use Rattle.gq_machine.specs.Readers.{HasSlotId}
 use Rattle.gq_trade.specs.Seen_sessions.{slot_id_seen}
 use Rattle.gq_traces.specs.Account_state.{bank_items, items_text, slot_items, slots_items}
 use Rattle.gq_traces.specs.internal.Slot_items.{HasBank, Prints_items, bank_place, bank_size, bank_slots, bank_slot_id}
-use Rattle.gq_traces.specs.declared.items.Bank.{Bank}
-use Rattle.gq_traces.specs.declared.items.Bank.TheVariants.{OfLeaf, OfSession}
+use Rattle.gq_traces.specs.declared.items.SlotRow.{SlotRow}
+use Rattle.gq_traces.specs.declared.items.SlotRow.TheVariants.{OfLeaf, OfSession}
 use Rattle.gq_traces.proofs.Sequential_text_writes.{goes_both, goes_text}
 use Rattle.gq_traces.proofs.Printed_items.{items_both}
 use Rattle.gq_traces.proofs.So_far.{So_far, next_one, none_left, reported_end, printed_first, printed_next}
 
-pub has_slot_id : (m : Machine) (bank : Bank) (i : ℕ) → HasBank m bank → i < bank_size bank → HasSlotId m (bank_slot_id bank i)
+pub has_slot_id : (m : Machine) (bank : SlotRow) (i : ℕ) → HasBank m bank → i < bank_size bank → HasSlotId m (bank_slot_id bank i)
 has_slot_id m (OfLeaf x) i h less = (h.within, less)
 has_slot_id m (OfSession k) i h less = (by (session_at m.world k) h.there, less)
   where
@@ -27,7 +27,7 @@ has_slot_id m (OfSession k) i h less = (by (session_at m.world k) h.there, less)
     by None e = absurd (none_some e)
     by (Some s) e = refl
 
-pub slot_here : (w : World) (bank : Bank) (i : ℕ) (slots : List Slot) → bank_slots w bank ≡ Some slots
+pub slot_here : (w : World) (bank : SlotRow) (i : ℕ) (slots : List Slot) → bank_slots w bank ≡ Some slots
     → slot_at w (slot_id_seen (bank_slot_id bank i)) ≡ slice_get slots i
 slot_here w (OfLeaf x) i slots e = by (slice_get w.leaves x) e
   where
@@ -40,7 +40,7 @@ slot_here w (OfSession k) i slots e = by (session_at w k) e
     by None e = absurd (none_some e)
     by (Some s) e = ap (λ t. slice_get t i) (some_same e)
 
-module _ {W : Type 0} (contents : W → Option (List ℕ)) (m : Machine) (bank : Bank) where
+module _ {W : Type 0} (contents : W → Option (List ℕ)) (m : Machine) (bank : SlotRow) where
   abbrev rest_of : ℕ → List Slot → List ℕ
   rest_of i slots = items_text m.scenario.version (slots_items (system m.scenario) m.world (bank_place bank) i slots)
 

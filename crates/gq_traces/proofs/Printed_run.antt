@@ -42,7 +42,7 @@ use Rattle.gq_traces.proofs.Printed_events.{IsNextInRange, IsShown, event_printe
 use Rattle.gq_traces.proofs.Printed_numbers.{IsPrinted, both, number_printed}
 use Rattle.gq_traces.proofs.Printed_places.{AreAhead, AreSections, IsInRange, IsPlace, place_printed, set_texts, start_texts, stepped_texts}
 use Rattle.gq_traces.proofs.Scheduled_turn_runs.{IsAt}
-use Rattle.gq_traces.proofs.Step_lines.{HasTexts, IsNamed, Reports, all_give, changes_give, head_gives, lines_shown, of_lines, of_turns, printed_gives}
+use Rattle.gq_traces.proofs.Lines_of_steps.{HasTexts, IsNamed, Reports, all_give, changes_give, head_gives, lines_shown, of_lines, of_turns, printed_gives}
 use Rattle.gq_traces.proofs.Text_length.{Reaches, reaches_next, reaches_set}
 
 -- WHAT IS DUE

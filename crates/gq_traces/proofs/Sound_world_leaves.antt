@@ -10,7 +10,7 @@ use Rattle.gq_model.specs.machine.World.{Leaf, Session, World, joined, session_a
 use Rattle.gq_model.proofs.Small_facts.{none_some, some_same}
 use Rattle.gq_machine.specs.Machines.{Machine}
 use Rattle.gq_traces.specs.internal.Slot_items.{HasBank, IsStanding}
-use Rattle.gq_traces.specs.declared.items.Bank.TheVariants.{OfLeaf, OfSession}
+use Rattle.gq_traces.specs.declared.items.SlotRow.TheVariants.{OfLeaf, OfSession}
 
 each_at : {A : Type 0} (P : A → Type 0) (xs : List A) (x : ℕ) (a : A) → Each P xs → slice_get xs x ≡ Some a → P a
 each_at P [] x a h e = absurd (none_some e)

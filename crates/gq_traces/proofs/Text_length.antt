@@ -28,7 +28,7 @@ use Rattle.gq_laws.specs.Turn_effects.{can_run, runs, runs_as}
 use Rattle.gq_traces.specs.Schedule.{Taken, and_further, as_acts, cut_lines, one_and, round, rounds, schedule_lines, schedule_text, scheduled, some_can}
 use Rattle.gq_traces.specs.Schedule.{reported_turns, turn_line, while_can}
 use Rattle.gq_traces.proofs.Turned_back.{AreTurns, IsCalled, all_turns}
-use Rattle.gq_traces.proofs.Schedule_laws.{AreNames, all_taken, reported_back}
+use Rattle.gq_traces.proofs.Schedule_runs.{AreNames, all_taken, reported_back}
 use Rattle.gq_views.specs.Listing.{joined}
 use Rattle.gq_traces.proofs.Scheduled_turn_runs.{IsAt, run_on_both, step_runs, while_few}
 use Rattle.gq_traces.proofs.Leaf_progress_measure.{Gains, IsGoing, goes, next_gains, stances, value, worth_of}

@@ -11,7 +11,7 @@ use Rattle.gq_model.specs.machine.Scenario.{Scenario, system}
 use Rattle.gq_model.specs.texts.Turns.{Turned, turned}
 use Rattle.gq_model.specs.rules.Accept.{Budget, budgets, step_budgets}
 use Rattle.gq_machine.specs.Machines.{Machine}
-use Rattle.gq_load.specs.Load.{Fault, loaded}
+use Rattle.gq_load.specs.Load.{LoadRefusal, loaded}
 use Rattle.gq_load.specs.Load_faults.{Refuses, load_fault_text}
 use Rattle.gq_load.specs.declared.load_fault.LoadFault.{LoadFault}
 use Rattle.gq_load.specs.declared.load_fault.LoadError.TheVariants as error
@@ -134,7 +134,7 @@ acts_given all s text turns taken reads is =
 pub scenario_given : (all : Bool) (scenario turns : List ℕ) (s : Scenario) → loaded scenario ≡ Ok s → trace_written all scenario turns ≡ trace_from all s turns
 scenario_given all scenario turns s load = ap (λ l. with_scenario l (λ r. trace_from all r turns)) load
 
-load_by : (f : LoadFault) (l : Result Scenario Fault) (go : Scenario → Written) → Refuses (error.Fault f) l
+load_by : (f : LoadFault) (l : Result Scenario LoadRefusal) (go : Scenario → Written) → Refuses (error.Fault f) l
     → with_scenario l go ≡ Err (refused_with (load_fault_text f))
 load_by f (Ok s) go h = absurd h
 load_by f (Err g) go h = ap (λ t. Err (refused_with t)) (sym h)

@@ -13,7 +13,7 @@ use Rattle.gq_laws.specs.Turn_effects.{can_run}
 use Rattle.gq_traces.specs.Rest_runs.{EndsIn, RestsUnless}
 use Rattle.gq_traces.specs.Schedule.{as_acts, is_cut, schedule_text, scheduled_by}
 use Rattle.gq_traces.proofs.Leaf_table_names.{HasNames}
-use Rattle.gq_traces.proofs.Schedule_laws.{at_rest, is_reached, taken_by}
+use Rattle.gq_traces.proofs.Schedule_runs.{at_rest, is_reached, taken_by}
 use Rattle.gq_traces.proofs.Chance_length.{chosen_printed}
 use Rattle.gq_traces.proofs.Text_length.{turns_reported}
 

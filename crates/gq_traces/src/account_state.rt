@@ -23,8 +23,8 @@ ghost use Rattle.gq_traces.specs.internal.Slot_items.{IsStanding, Prints_items, 
 ghost use Rattle.gq_traces.specs.internal.Printed_steps.{Goes, due_of, statement_text};
 
 use crate::follow::{Followed, take_first};
-use crate::items::{Bank, write_amount, write_places, write_sessions, write_slots};
-use crate::line_parts::{Line, extend, extend_entry, extend_place};
+use crate::items::{SlotRow, write_amount, write_places, write_sessions, write_slots};
+use crate::line_parts::{TraceLine, extend, extend_entry, extend_place};
 use crate::step_lines::write_statement;
 use crate::step_output::write_on;
 use crate::tracker::{Due, next_due};
@@ -196,7 +196,7 @@ fn write_start<W: Write>(
 }
 
 // Puts these numbers at the end of a line, each behind a blank.
-fn extend_amounts(line: &mut Line, numbers: &[u32])
+fn extend_amounts(line: &mut TraceLine, numbers: &[u32])
     requires { length line.old.items + length numbers.now * 21 ≤ 400 }
     ensures bytes { line.new.items ≡ line.old.items ++ amounts numbers.now }
     ensures long { length line.new.items ≤ length line.old.items + length numbers.now * 21 }
@@ -207,7 +207,7 @@ fn extend_amounts(line: &mut Line, numbers: &[u32])
 }
 
 // The values of inputs, in a line of their own behind another.
-fn inputs_line(values: &[u32]) -> Line
+fn inputs_line(values: &[u32]) -> TraceLine
     requires { length values.now ≤ 8 }
     ensures line { result.items ≡ inputs_behind values.now }
     ensures long { length result.items ≤ 300 }
@@ -252,7 +252,7 @@ fn write_live<W: Write>(machine: &Machine, leaf: LeafNo, going: bool, out: &mut 
         (live_items (system machine.now.scenario) machine.now.world leaf c l) }
 {
     let going = write_given(machine, leaf, going, out);
-    let going = write_slots(machine, Bank::OfLeaf(leaf.index()), going, out);
+    let going = write_slots(machine, SlotRow::OfLeaf(leaf.index()), going, out);
     let going = write_places(machine, leaf, going, out);
     write_sessions(machine, leaf, going, out)
 }
@@ -282,7 +282,7 @@ fn write_items<W: Write>(
 }
 
 // The line of the place of a step, up to its statement.
-fn next_line(due: &Due<'_>) -> Line
+fn next_line(due: &Due<'_>) -> TraceLine
     ensures { result.items ≡ next_prefix due.now }
 {
     let mut line = ArrayVec::new();

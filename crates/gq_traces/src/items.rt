@@ -12,13 +12,13 @@ ghost use Rattle.gq_views.specs.Listing.{indent, line, place_text};
 ghost use Rattle.gq_traces.specs.Account_state.{amount_by, bank_items, depth_of, form_text, items_text, lent_items, place_items, places_items, price};
 ghost use Rattle.gq_traces.specs.Account_state.{received_items};
 ghost use Rattle.gq_traces.specs.Account_state.{service_text, session_items, sessions_items, slot_items, slots_items};
-ghost use Rattle.gq_traces.specs.declared.items.Bank.TheVariants as bank;
+ghost use Rattle.gq_traces.specs.declared.items.SlotRow.TheVariants as bank;
 ghost use Rattle.gq_traces.specs.Trace.{amount_text, leaf_label, requested_text};
 ghost use Rattle.gq_traces.specs.internal.Slot_items.{HasBank, IsStanding, Prints_items, bank_place, bank_size, bank_slots, bank_slot_id, holding_items};
 ghost use Rattle.gq_traces.specs.internal.Noted.{IsKnown, service_at};
 ghost use Rattle.gq_traces.specs.internal.Printed_steps.{Goes};
 
-use crate::line_parts::{Line, extend, extend_amount, extend_entry, extend_number};
+use crate::line_parts::{TraceLine, extend, extend_amount, extend_entry, extend_number};
 use crate::session_lines::{
     PrintedSession, extend_request, leaf_label, printed_session, service_name,
 };
@@ -40,20 +40,20 @@ use std::io::Write;
 
 /// Slots that stand one after the other: those of a leaf's own, or those of a session.
 #[derive(Clone, Copy)]
-pub(crate) enum Bank {
+pub(crate) enum SlotRow {
     OfLeaf(usize),
     OfSession(usize),
 }
 
-impl Bank {
+impl SlotRow {
     // How many there are.
     fn count(self) -> usize
         ensures size { result ≡ bank_size self }
         ensures few { result ≤ 64 }
     {
         match self {
-            Bank::OfLeaf(_) => OWN_SLOTS,
-            Bank::OfSession(_) => SESSION_SLOTS,
+            SlotRow::OfLeaf(_) => OWN_SLOTS,
+            SlotRow::OfSession(_) => SESSION_SLOTS,
         }
     }
 
@@ -62,8 +62,8 @@ impl Bank {
         ensures { result ≡ bank_slot_id self slot }
     {
         match self {
-            Bank::OfLeaf(leaf) => SlotId::InLeaf(leaf, slot),
-            Bank::OfSession(session) => SlotId::InSession(session, slot),
+            SlotRow::OfLeaf(leaf) => SlotId::InLeaf(leaf, slot),
+            SlotRow::OfSession(session) => SlotId::InSession(session, slot),
         }
     }
 
@@ -72,8 +72,8 @@ impl Bank {
         ensures { result ≡ bank_place self slot }
     {
         match self {
-            Bank::OfLeaf(_) => OperandSlot::Own(slot),
-            Bank::OfSession(_) => OperandSlot::Shared(slot),
+            SlotRow::OfLeaf(_) => OperandSlot::Own(slot),
+            SlotRow::OfSession(_) => OperandSlot::Shared(slot),
         }
     }
 }
@@ -92,7 +92,13 @@ fn indent_of(place: OperandSlot) -> &'static [u8]
 }
 
 // A line of a word and an amount, behind these blanks, and the rest behind them.
-fn amount_line(version: Version, blanks: &[u8], word: &[u8], amount: Amount, rest: &[u8]) -> Line
+fn amount_line(
+    version: Version,
+    blanks: &[u8],
+    word: &[u8],
+    amount: Amount,
+    rest: &[u8],
+) -> TraceLine
     requires blanks { length blanks.now ≤ 4 }
     requires word { length word.now ≤ 8 }
     requires rest { length rest.now ≤ 300 }
@@ -126,7 +132,7 @@ pub(crate) fn write_amount<W: Write>(
 }
 
 // Puts the name of a slot at the end of a line.
-fn extend_name(line: &mut Line, place: OperandSlot)
+fn extend_name(line: &mut TraceLine, place: OperandSlot)
     requires { length line.old.items ≤ 200 }
     ensures bytes { line.new.items ≡ line.old.items ++ place_text place }
     ensures long { length line.new.items ≤ length line.old.items + 23 }
@@ -145,7 +151,7 @@ fn extend_name(line: &mut Line, place: OperandSlot)
 }
 
 // Puts a form of memory at the end of a line.
-fn extend_form(line: &mut Line, form: Form)
+fn extend_form(line: &mut TraceLine, form: Form)
     requires { length line.old.items ≤ 250 }
     ensures bytes { line.new.items ≡ line.old.items ++ form_text form }
     ensures long { length line.new.items ≤ length line.old.items + 7 }
@@ -158,7 +164,7 @@ fn extend_form(line: &mut Line, form: Form)
 }
 
 // Puts a service, and the level of a session with it, at the end of a line.
-fn extend_service(line: &mut Line, table: &NodeTable, service: usize, level: u8)
+fn extend_service(line: &mut TraceLine, table: &NodeTable, service: usize, level: u8)
     requires service { service < length table.now.interfaces }
     requires short { length line.old.items ≤ 200 }
     ensures bytes { line.new.items ≡ line.old.items ++ service_text (service_at table.now service) level }
@@ -203,7 +209,7 @@ fn pool_price(entries: u32) -> Amount
 }
 
 // What is reported of memory behind its price.
-fn memory_rest(place: OperandSlot, form: Form, bytes: u32) -> Line
+fn memory_rest(place: OperandSlot, form: Form, bytes: u32) -> TraceLine
     ensures bytes { result.items ≡ codes ": " ++ place_text place ++ form_text form ++ decimal bytes }
     ensures short { length result.items ≤ 60 }
 {
@@ -216,7 +222,7 @@ fn memory_rest(place: OperandSlot, form: Form, bytes: u32) -> Line
 }
 
 // What is reported of a pool behind its price.
-fn pool_rest(place: OperandSlot, size: u32, count: u32) -> Line
+fn pool_rest(place: OperandSlot, size: u32, count: u32) -> TraceLine
     ensures bytes { result.items ≡ codes ": " ++ place_text place ++ codes " pool " ++ decimal size ++ codes " " ++ decimal count }
     ensures short { length result.items ≤ 90 }
 {
@@ -230,7 +236,7 @@ fn pool_rest(place: OperandSlot, size: u32, count: u32) -> Line
 }
 
 // What is reported of a session behind what is lent with it.
-fn lent_rest(table: &NodeTable, place: OperandSlot, reported: &PrintedSession) -> Line
+fn lent_rest(table: &NodeTable, place: OperandSlot, reported: &PrintedSession) -> TraceLine
     requires { IsKnown table.now reported.now }
     ensures bytes { result.items ≡ codes " to " ++ leaf_label (system table.now) reported.now.server ++ codes ": " ++ place_text place ++ codes " "
         ++ service_text (service_at table.now reported.now.service) reported.now.level ++ requested_text reported.now.requested }
@@ -328,7 +334,7 @@ fn write_slot<W: Write>(
 /// Reports what slots that stand one after the other hold or lend.
 pub(crate) fn write_slots<W: Write>(
     machine: &Machine,
-    bank: Bank,
+    bank: SlotRow,
     going: bool,
     out: &mut Counted<W>,
 ) -> bool
@@ -378,7 +384,7 @@ fn places_price(class: Class, places: u32) -> Amount
 }
 
 // What is reported of places behind their price.
-fn places_rest(class: Class, places: u32) -> Line
+fn places_rest(class: Class, places: u32) -> TraceLine
     ensures bytes { result.items ≡ codes ": " ++ decimal places ++ codes " places of " ++ decimal (class_size class) }
     ensures short { length result.items ≤ 60 }
 {
@@ -432,7 +438,7 @@ pub(crate) fn write_places<W: Write>(
 // SESSIONS
 
 // What is reported of a session behind what is received with it.
-fn received_rest(table: &NodeTable, state: &SessionState) -> Line
+fn received_rest(table: &NodeTable, state: &SessionState) -> TraceLine
     requires client { state.now.client < length (components table.now) }
     requires service { state.now.service < length table.now.interfaces }
     ensures bytes { result.items ≡ codes " from " ++ leaf_label (system table.now) state.now.client ++ codes ": "
@@ -461,7 +467,7 @@ fn write_bank<W: Write>(
 {
     let object = SlotId::InObject(session);
     let going = write_slot(machine, OperandSlot::Object, object, going, out);
-    write_slots(machine, Bank::OfSession(session), going, out)
+    write_slots(machine, SlotRow::OfSession(session), going, out)
 }
 
 // Reports what a leaf receives with a session and holds for it.

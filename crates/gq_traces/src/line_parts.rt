@@ -14,10 +14,10 @@ use itoa::Buffer;
 pub(crate) const GREATEST_LINE: usize = 400;
 
 /// A line of text, with room for the longest.
-pub(crate) type Line = ArrayVec<u8, GREATEST_LINE>;
+pub(crate) type TraceLine = ArrayVec<u8, GREATEST_LINE>;
 
 /// Puts bytes at the end of a line.
-pub(crate) fn extend(line: &mut Line, bytes: &[u8])
+pub(crate) fn extend(line: &mut TraceLine, bytes: &[u8])
     requires { length line.old.items + length bytes.now ≤ GREATEST_LINE }
     ensures bytes { line.new.items ≡ line.old.items ++ bytes.now }
     ensures long { length line.new.items ≡ length line.old.items + length bytes.now }
@@ -29,7 +29,7 @@ pub(crate) fn extend(line: &mut Line, bytes: &[u8])
 }
 
 /// Puts a number in decimal at the end of a line.
-pub(crate) fn extend_number(line: &mut Line, number: u64)
+pub(crate) fn extend_number(line: &mut TraceLine, number: u64)
     requires { length line.old.items + 20 ≤ GREATEST_LINE }
     ensures bytes { line.new.items ≡ line.old.items ++ decimal number }
     ensures long { length line.new.items ≤ length line.old.items + 20 }
@@ -38,7 +38,7 @@ pub(crate) fn extend_number(line: &mut Line, number: u64)
 }
 
 /// Puts a word and a number behind it at the end of a line.
-pub(crate) fn extend_entry(line: &mut Line, word: &[u8], number: u64)
+pub(crate) fn extend_entry(line: &mut TraceLine, word: &[u8], number: u64)
     requires { length line.old.items + length word.now + 21 ≤ GREATEST_LINE }
     ensures bytes { line.new.items ≡ line.old.items ++ word.now ++ codes " " ++ decimal number }
     ensures long { length line.new.items ≤ length line.old.items + length word.now + 21 }
@@ -49,7 +49,7 @@ pub(crate) fn extend_entry(line: &mut Line, word: &[u8], number: u64)
 }
 
 /// Puts a word and an amount at the end of a line: bytes, and capabilities where the version counts them.
-pub(crate) fn extend_amount(line: &mut Line, version: Version, word: &[u8], amount: Amount)
+pub(crate) fn extend_amount(line: &mut TraceLine, version: Version, word: &[u8], amount: Amount)
     requires { length line.old.items + length word.now + 47 ≤ GREATEST_LINE }
     ensures bytes { line.new.items ≡ line.old.items ++ amount_text (version_number version) word.now amount }
     ensures long { length line.new.items ≤ length line.old.items + length word.now + 47 }
@@ -61,7 +61,7 @@ pub(crate) fn extend_amount(line: &mut Line, version: Version, word: &[u8], amou
 }
 
 /// Puts the heading of a section at the end of a line.
-pub(crate) fn extend_section(line: &mut Line, section: Section)
+pub(crate) fn extend_section(line: &mut TraceLine, section: Section)
     requires { length line.old.items + 26 ≤ GREATEST_LINE }
     ensures bytes { line.new.items ≡ line.old.items ++ section_word section }
     ensures long { length line.new.items ≤ length line.old.items + 26 }
@@ -76,7 +76,7 @@ pub(crate) fn extend_section(line: &mut Line, section: Section)
 }
 
 /// Puts a section and the number of a statement in it at the end of a line.
-pub(crate) fn extend_place(line: &mut Line, section: Section, number: u64)
+pub(crate) fn extend_place(line: &mut TraceLine, section: Section, number: u64)
     requires { length line.old.items + 50 ≤ GREATEST_LINE }
     ensures bytes { line.new.items ≡ line.old.items ++ section_word section ++ codes " at " ++ decimal number }
     ensures long { length line.new.items ≤ length line.old.items + 50 }

@@ -8,7 +8,7 @@ ghost use Rattle.gq_traces.specs.Trace.{same_phase, same_standing, same_using, s
 ghost use Rattle.gq_traces.specs.internal.Noted.{AreNoted, CanRenew, IsReported, IsUse, standing_in};
 
 use crate::session_lines::{PrintedSession, printed_session, same_amount};
-use gq_init::account_report::{Account, LeafAccount};
+use gq_init::account_report::{AccountReport, LeafAccount};
 use gq_machine::machine::Machine;
 use gq_model::phase::Phase;
 use gq_scenario::node_numbers::NodeNo;
@@ -23,7 +23,7 @@ pub(crate) const ROOM: usize = 16449;
 /// What is noted of a world: the account of each node, and what is reported of each session, with room for all. No call but `new` allocates host memory.
 #[derive(Drop)]
 pub(crate) struct PrintedState {
-    pub accounts: Vec<Account>,
+    pub accounts: Vec<AccountReport>,
     pub sessions: Vec<Option<PrintedSession>>,
     // How many numbers of sessions have been used.
     pub count: usize,
@@ -61,12 +61,12 @@ pub(crate) fn counted(world: &World)
 }
 
 // Accounts for all nodes.
-fn first_accounts(alloc: Global, world: &World) -> Result<Vec<Account>, AllocError>
+fn first_accounts(alloc: Global, world: &World) -> Result<Vec<AccountReport>, AllocError>
     ensures { IfOk result (λ all. length all.items ≡ length (all_accounts world.now)) }
 {
     let mut accounts = Vec::new(alloc);
     for _ in 0..world.nodes() {
-        accounts.push(Account::new(Amount { ram: 0, caps: 0 }, None))?;
+        accounts.push(AccountReport::new(Amount { ram: 0, caps: 0 }, None))?;
     }
     Ok(accounts)
 }
@@ -101,7 +101,7 @@ fn used_of(leaf: &LeafAccount) -> Amount
 }
 
 // What a node has.
-fn quota_of(account: &Account) -> Amount
+fn quota_of(account: &AccountReport) -> Amount
     ensures { result ≡ account.now.quota }
 {
     Amount {
@@ -118,7 +118,7 @@ pub(crate) fn same_phase(a: Phase, b: Phase) -> bool
 }
 
 /// Whether two accounts are one but for the steps of their leaf.
-pub(crate) fn same_account(a: &Account, b: &Account) -> bool
+pub(crate) fn same_account(a: &AccountReport, b: &AccountReport) -> bool
     ensures { result ≡ same_standing (standing_in a.now) (standing_in b.now) }
 {
     if !same_amount(quota_of(a), quota_of(b)) {

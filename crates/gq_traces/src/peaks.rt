@@ -16,7 +16,7 @@ ghost use Rattle.gq_traces.specs.internal.Peaking.{AllNow, ArePeaksNow, AreRaise
 ghost use Rattle.gq_traces.specs.internal.Printed_steps.{Goes};
 ghost use Rattle.gq_traces.specs.First_turns.{turns_in};
 
-use crate::line_parts::{Line, extend, extend_entry};
+use crate::line_parts::{TraceLine, extend, extend_entry};
 use crate::noted::{counted, use_of};
 use crate::session_lines::label_of;
 use crate::step_output::write_on;
@@ -217,7 +217,7 @@ fn take_all(world: &mut World, peaks: &mut [LeafPeaks], turns: &[TurnItem])
 // LINES
 
 // Puts the greatest use of bytes at the end of a line.
-fn extend_ram(line: &mut Line, peak: Peak)
+fn extend_ram(line: &mut TraceLine, peak: Peak)
     requires { length line.old.items + 79 ≤ 400 }
     ensures bytes { line.new.items ≡ line.old.items ++ entry (codes "used") peak.used ++ entry (codes "quota") peak.quota ++ entry (codes "turn") peak.turn }
     ensures long { length line.new.items ≤ length line.old.items + 79 }
@@ -228,7 +228,7 @@ fn extend_ram(line: &mut Line, peak: Peak)
 }
 
 // Puts the greatest use of capabilities at the end of a line, where they are counted.
-fn extend_caps(line: &mut Line, version: Version, peak: Peak)
+fn extend_caps(line: &mut TraceLine, version: Version, peak: Peak)
     requires { length line.old.items + 79 ≤ 400 }
     ensures bytes { line.new.items ≡ line.old.items ++ reported (version_number version)
         (entry (codes "caps") peak.quota ++ entry (codes "taken") peak.used ++ entry (codes "turn") peak.turn) }
@@ -242,7 +242,7 @@ fn extend_caps(line: &mut Line, version: Version, peak: Peak)
 }
 
 // The line of a leaf of this label.
-fn peak_line(version: Version, label: &[u8], peaks: LeafPeaks) -> Line
+fn peak_line(version: Version, label: &[u8], peaks: LeafPeaks) -> TraceLine
     requires { length label.now ≤ 96 }
     ensures { result.items ≡ peak_line (version_number version) label.now peaks }
 {

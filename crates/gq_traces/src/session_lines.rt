@@ -8,7 +8,7 @@ ghost use Rattle.gq_traces.specs.Trace.{at_server, leaf_label, parties_text, req
 ghost use Rattle.gq_model.specs.machine.Amounts.{same_amount};
 ghost use Rattle.gq_traces.specs.internal.Noted.{AreKnown, IsKnown, IsReported, seen_session, service_at};
 
-use crate::line_parts::{Line, extend, extend_amount, extend_entry, extend_section};
+use crate::line_parts::{TraceLine, extend, extend_amount, extend_entry, extend_section};
 use arrayvec::ArrayVec;
 use gq_init::NodeTable;
 use gq_machine::machine::Machine;
@@ -129,7 +129,7 @@ pub(crate) fn service_name(table: &NodeTable, service: usize) -> &[u8]
 }
 
 // Puts the request of a session at the end of a line, if it has one.
-pub(crate) fn extend_request(line: &mut Line, requested: Requested)
+pub(crate) fn extend_request(line: &mut TraceLine, requested: Requested)
     requires { length line.old.items + 36 ≤ 400 }
     ensures bytes { line.new.items ≡ line.old.items ++ requested_text requested }
     ensures long { length line.new.items ≤ length line.old.items + 36 }
@@ -150,7 +150,7 @@ pub(crate) fn extend_request(line: &mut Line, requested: Requested)
 }
 
 // Puts who has a session at the end of a line: its service, its server and its client.
-fn extend_parties(line: &mut Line, table: &NodeTable, reported: &PrintedSession)
+fn extend_parties(line: &mut TraceLine, table: &NodeTable, reported: &PrintedSession)
     requires known { IsKnown table.now reported.now }
     requires short { length line.old.items ≤ 40 }
     ensures bytes { line.new.items ≡ line.old.items ++ parties_text (system table.now) (seen_session table.now reported.now) }
@@ -164,7 +164,7 @@ fn extend_parties(line: &mut Line, table: &NodeTable, reported: &PrintedSession)
 }
 
 // The line of a session that is there.
-fn open_line(table: &NodeTable, session: usize, reported: &PrintedSession) -> Line
+fn open_line(table: &NodeTable, session: usize, reported: &PrintedSession) -> TraceLine
     requires known { IsKnown table.now reported.now }
     ensures { result.items ≡ session_line table.now.version (system table.now) session (Some (seen_session table.now reported.now)) }
 {
@@ -186,7 +186,7 @@ fn open_line(table: &NodeTable, session: usize, reported: &PrintedSession) -> Li
 }
 
 // The line of a session that is gone.
-fn end_line(session: usize) -> Line
+fn end_line(session: usize) -> TraceLine
     ensures { result.items ≡ codes "session " ++ decimal session ++ codes " ends\n" }
 {
     let mut line = ArrayVec::new();
@@ -200,7 +200,7 @@ pub(crate) fn session_line(
     table: &NodeTable,
     session: usize,
     reported: &Option<PrintedSession>,
-) -> Line
+) -> TraceLine
     requires known { AreKnown table.now reported.now }
     ensures { result.items ≡ session_line table.now.version (system table.now) session (option_map (seen_session table.now) reported.now) }
 {

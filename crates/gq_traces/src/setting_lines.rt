@@ -6,7 +6,7 @@ ghost use Rattle.gq_traces.specs.Trace.{after_setting, input_line, setting_text,
 ghost use Rattle.gq_traces.specs.Traces_written.{prints_all};
 ghost use Rattle.gq_traces.specs.internal.Printed_steps.{CanTrace, Goes, PrintsTurns};
 
-use crate::line_parts::{Line, extend, extend_entry, extend_number};
+use crate::line_parts::{TraceLine, extend, extend_entry, extend_number};
 use crate::noted::counted;
 use crate::session_lines::label_of;
 use crate::step_output::{Reporting, write_on};
@@ -42,7 +42,7 @@ fn is_reported(reporting: Reporting, before: u32, after: u32) -> bool
 }
 
 // The line of a setting of a leaf of this label.
-fn input_line(label: &[u8], input: u8, number: u32) -> Line
+fn input_line(label: &[u8], input: u8, number: u32) -> TraceLine
     requires { length label.now ≤ 96 }
     ensures { result.items ≡ input_line label.now input number }
 {

@@ -15,11 +15,11 @@ ghost use Rattle.gq_traces.specs.internal.Printed_steps.{Goes, IsTaken, Reports,
 ghost use Rattle.gq_traces.specs.internal.Printed_steps.{PrintsSessions};
 ghost use Rattle.gq_traces.specs.internal.Printed_steps.{PrintsStep, head_prefix, head_text, statement_text};
 
-use crate::line_parts::{Line, extend, extend_entry, extend_place};
+use crate::line_parts::{TraceLine, extend, extend_entry, extend_place};
 use crate::noted::{PrintedState, Use, counted, same_account, same_phase, use_of};
 use crate::session_lines::{label_of, printed_session, same_amount, same_printed, session_line};
 use crate::step_output::{Progress, Reporting, write_on};
-use crate::tracker::{Due, Statement};
+use crate::tracker::{Due, TrackedStatement};
 use arrayvec::ArrayVec;
 use gq_init::NodeTable;
 use gq_init::account_line::account_line;
@@ -48,7 +48,7 @@ pub(crate) struct Taken {
 }
 
 // The first line of a step, up to its statement.
-fn head_line(table: &NodeTable, head: &Head<'_>) -> Line
+fn head_line(table: &NodeTable, head: &Head<'_>) -> TraceLine
     requires { head.now.leaf < length (components table.now) }
     ensures { result.items ≡ head_prefix table.now head.now }
 {
@@ -63,20 +63,20 @@ fn head_line(table: &NodeTable, head: &Head<'_>) -> Line
 
 // Writes the statement of a place, behind a blank.
 pub(crate) fn write_statement<W: Write>(
-    statement: Statement<'_>,
+    statement: TrackedStatement<'_>,
     going: bool,
     out: &mut Counted<W>,
 ) -> bool
     ensures { Goes W.contents out.old out.new going result (statement_text statement.entry) }
 {
     match statement {
-        Statement::Nothing => going,
-        Statement::Plain(text) => {
+        TrackedStatement::Nothing => going,
+        TrackedStatement::Plain(text) => {
             let going = write_on(out, going, b" ");
             write_on(out, going, text)
         }
-        Statement::If => write_on(out, going, b" if"),
-        Statement::Loop(count) => {
+        TrackedStatement::If => write_on(out, going, b" if"),
+        TrackedStatement::Loop(count) => {
             let mut line = ArrayVec::new();
             extend_entry(&mut line, b" loop", u64::from(count));
             write_on(out, going, line.as_slice())

@@ -45,7 +45,7 @@ pub(crate) struct Ahead {
 
 /// What a place has of a statement.
 #[derive(Clone, Copy)]
-pub(crate) enum Statement<'a> {
+pub(crate) enum TrackedStatement<'a> {
     /// Nothing, at the end and at the start of a section.
     Nothing,
     /// The text of one with no statement in it.
@@ -61,7 +61,7 @@ pub(crate) enum Statement<'a> {
 pub(crate) struct Due<'a> {
     pub section: Section,
     pub number: u64,
-    pub statement: Statement<'a>,
+    pub statement: TrackedStatement<'a>,
 }
 
 impl Ahead {
@@ -231,7 +231,7 @@ impl Ahead {
             None => Due {
                 section,
                 number: u64::from(numbered.part(section).size) + 1,
-                statement: Statement::Nothing,
+                statement: TrackedStatement::Nothing,
             },
             Some(innermost) => entry_place(numbered, innermost.place, section),
         }
@@ -287,13 +287,13 @@ fn chosen(top: Option<u32>, arm: Next, other: Next) -> Next
 }
 
 // What a place has of a statement of this way.
-fn statement_of(way: &Way) -> Statement<'_>
+fn statement_of(way: &Way) -> TrackedStatement<'_>
     ensures { statement_text result ≡ way_text way.now }
 {
     match way {
-        Way::Plain(text, _) => Statement::Plain(text.as_slice()),
-        Way::If(_, _) => Statement::If,
-        Way::Loop(count, _, _) => Statement::Loop(*count),
+        Way::Plain(text, _) => TrackedStatement::Plain(text.as_slice()),
+        Way::If(_, _) => TrackedStatement::If,
+        Way::Loop(count, _, _) => TrackedStatement::Loop(*count),
     }
 }
 
@@ -358,7 +358,7 @@ fn request_due(asked: Asked) -> Due<'static>
     Due {
         section: asked.section,
         number: 0,
-        statement: Statement::Nothing,
+        statement: TrackedStatement::Nothing,
     }
 }
 

@@ -9,15 +9,15 @@
 //! - `objects`: the objects of sessions, which are made in that memory.
 //!
 //! ```rust
-//! use gq_trade::Spot;
+//! use gq_trade::SlotId;
 //! use gq_tariff::Amount;
-//! use gq_trade::{Node, Plan, Stage, Trades};
+//! use gq_trade::{NodeState, Plan, Stage, Trades};
 //!
 //! // A root with a server and a client below it.
 //! let quanta = [65536, 4096, 16384];
 //! let mut nodes = Vec::new(rt.alloc());
 //! for ram in quanta {
-//!     nodes.push(Node { quantum: Amount { ram, caps: 0 }, after: None, stage: Stage::Live })?;
+//!     nodes.push(NodeState { quantum: Amount { ram, caps: 0 }, after: None, stage: Stage::Live })?;
 //! }
 //! let plan = Plan {
 //!     parents: vec![in rt.alloc(); 0, 0, 0]?,
@@ -26,7 +26,7 @@
 //!     objects: vec![in rt.alloc(); 100]?,
 //! };
 //! let mut trades = Trades::new(rt.alloc(), 65536, None, plan, 24)?;
-//! let session = trades.ask(1, Spot::InLeaf(1, 0), 0, 0, Amount { ram: 8192, caps: 0 })?;
+//! let session = trades.ask(1, SlotId::InLeaf(1, 0), 0, 0, Amount { ram: 8192, caps: 0 })?;
 //! assert_eq!(rt; trades.quota(1), 12288);
 //! trades.accept(0)?;
 //! assert_eq!(rt; trades.used(1), 4096);

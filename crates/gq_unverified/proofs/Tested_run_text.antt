@@ -8,7 +8,7 @@ use Rattle.gq_model.specs.machine.Run.{Ran, Acts, run, run_on}
 use Rattle.gq_model.specs.machine.Scenario.{Scenario, system}
 use Rattle.gq_model.specs.machine.World.{World, start}
 use Rattle.gq_model.specs.texts.Turns.{turned}
-use Rattle.gq_load.specs.Load.{Fault}
+use Rattle.gq_load.specs.Load.{LoadRefusal}
 use Rattle.gq_load.specs.Unverified.{unverified}
 use Rattle.gq_load.specs.Load_faults.{Refuses}
 use Rattle.gq_load.specs.declared.load_fault.LoadError.{LoadError}
@@ -81,7 +81,7 @@ pub refused_is : (scenario text : List ℕ) (s : Scenario) (fault : TurnFault ×
 refused_is scenario text s fault load e = ap (λ l. tested_from l text) load ∙ ap (tested_turns s) e
 
 -- why nothing is read is why nothing is written
-pub unread_is : (e : LoadError) (read : Result Scenario Fault) (text : List ℕ) → Refuses e read → IsTestFault (run_fault_of e) (tested_from read text)
+pub unread_is : (e : LoadError) (read : Result Scenario LoadRefusal) (text : List ℕ) → Refuses e read → IsTestFault (run_fault_of e) (tested_from read text)
 unread_is error.Memory read text h = tt
 unread_is (error.Fault f) (Ok s) text h = absurd h
 unread_is (error.Fault f) (Err fault) text h = ap (λ t. Err (refused_with t)) (sym h)

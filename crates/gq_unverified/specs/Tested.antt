@@ -6,7 +6,7 @@ use Rattle.gq_model.specs.declared.fault.Wrong.TheVariants.{MissingOperand, Wron
 use Rattle.gq_model.specs.machine.Run.{Acts, run}
 use Rattle.gq_model.specs.machine.Accounts.{text_of}
 use Rattle.gq_model.specs.texts.Turns.{Turned, turned}
-use Rattle.gq_load.specs.Load.{Fault, fault_text}
+use Rattle.gq_load.specs.Load.{LoadRefusal, fault_text}
 use Rattle.gq_load.specs.Unverified.{unverified}
 use Rattle.gq_world.specs.Whole.{refused_with, turn_fault_text}
 
@@ -36,7 +36,7 @@ abbrev pub tested_turns : Scenario → Turned → Tested
 tested_turns s (Ok turns) = Ok (tested_text s turns, named s (first_wrong s turns))
 tested_turns s (Err fault) = Err (refused_with (turn_fault_text fault.0 fault.1))
 
-abbrev pub tested_from : Result Scenario Fault → List ℕ → Tested
+abbrev pub tested_from : Result Scenario LoadRefusal → List ℕ → Tested
 tested_from (Ok s) turns = tested_turns s (turned s turns)
 tested_from (Err fault) turns = Err (refused_with (fault_text fault))
 

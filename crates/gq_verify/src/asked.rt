@@ -85,12 +85,12 @@ pub struct Asker {
 /// How many requests there are, by the section of a service that they are for. Where those for a service may stand is given by a number that is made of its
 /// name.
 #[derive(Drop)]
-pub struct Requests {
+pub struct RequestCounts {
     places: KeyIndex,
     entries: Vec<RequestCount>,
 }
 
-impl Model for Requests {
+impl Model for RequestCounts {
     ghost use Rattle.std.specs.Prelude.{List};
     ghost use Rattle.gq_verify.specs.Requested.{Requested};
     ghost use Rattle.gq_program.specs.Name_keys.{AreWithin};
@@ -103,12 +103,12 @@ impl Model for Requests {
     ghost invariant = { λ r. AreWithin r.places (keys_of r.entries.items) };
 }
 
-impl Requests {
+impl RequestCounts {
     /// None. It takes no memory.
-    pub fn new(alloc: Global) -> Requests
+    pub fn new(alloc: Global) -> RequestCounts
         ensures { result ≡ [] }
     {
-        Requests {
+        RequestCounts {
             places: KeyIndex::new(),
             entries: Vec::new(alloc),
         }
@@ -257,7 +257,7 @@ impl Requests {
     }
 
     /// All of these more, so often.
-    pub(crate) fn add_all(&mut self, others: &Requests, times: u64) -> Result<(), AllocError>
+    pub(crate) fn add_all(&mut self, others: &RequestCounts, times: u64) -> Result<(), AllocError>
         ensures { OnOk result (Adds self.new self.old (λ v r. times * requests_for others.now v r)) }
     {
         for entry in &others.entries {
@@ -268,7 +268,7 @@ impl Requests {
     }
 
     /// For each section of a service at least as many as these.
-    pub(crate) fn raise(&mut self, others: &Requests) -> Result<(), AllocError>
+    pub(crate) fn raise(&mut self, others: &RequestCounts) -> Result<(), AllocError>
         ensures { OnOk result (Raises self.new self.old others.now) }
     {
         for entry in &others.entries {

@@ -16,7 +16,7 @@ ghost use Rattle.gq_verify.specs.internal.Slot_equal_states.{AreAlike, FromAlike
 ghost use Rattle.gq_verify.specs.Rights.{IsRight};
 ghost use Rattle.gq_verify.specs.internal.Requesting.{requests_in, section_by};
 
-use crate::asked::Requests;
+use crate::asked::RequestCounts;
 use crate::asked_sections::{ByLevel, section_by};
 use crate::service::Service;
 use gq_caps::Totals;
@@ -30,7 +30,7 @@ use std::alloc::{AllocError, Global};
 fn count_link(
     context: &Context<'_>,
     state: &AbstractState,
-    asked: &mut Requests,
+    asked: &mut RequestCounts,
     place: OperandSlot,
     of: ByLevel,
 ) -> Result<(), AllocError>
@@ -49,7 +49,7 @@ fn count_link(
 fn count_instruction(
     context: &Context<'_>,
     state: &AbstractState,
-    asked: &mut Requests,
+    asked: &mut RequestCounts,
     instruction: &Instruction,
 ) -> Result<(), AllocError>
     ensures { OnOk result (Adds asked.new asked.old (λ v r. asks v r context.now state.now instruction.now)) }
@@ -108,7 +108,7 @@ fn count(
     alloc: Global,
     context: &Context<'_>,
     state: &mut AbstractState,
-    asked: &mut Requests,
+    asked: &mut RequestCounts,
     body: &Body,
 ) -> Result<(), AllocError>
     requires few { size body.now ≤ 4096 }
@@ -128,7 +128,7 @@ fn count_in(
     alloc: Global,
     context: &Context<'_>,
     state: &mut AbstractState,
-    asked: &mut Requests,
+    asked: &mut RequestCounts,
     statement: &Statement,
 ) -> Result<(), AllocError>
     requires few { size (tree_of (statement.now ∷ [])) ≤ 4096 }
@@ -169,7 +169,7 @@ fn count_if(
     alloc: Global,
     context: &Context<'_>,
     state: &mut AbstractState,
-    asked: &mut Requests,
+    asked: &mut RequestCounts,
     arm: &Body,
     other: &Body,
 ) -> Result<(), AllocError>
@@ -182,9 +182,9 @@ fn count_if(
 {
     state.drop_operands();
     let mut second = state.copy();
-    let mut most = Requests::new(alloc);
+    let mut most = RequestCounts::new(alloc);
     count(alloc, context, state, &mut most, arm)?;
-    let mut others = Requests::new(alloc);
+    let mut others = RequestCounts::new(alloc);
     count(alloc, context, &mut second, &mut others, other)?;
     most.raise(&others)?;
     asked.add_all(&most, 1)
@@ -197,7 +197,7 @@ fn count_loop(
     alloc: Global,
     context: &Context<'_>,
     state: &AbstractState,
-    asked: &mut Requests,
+    asked: &mut RequestCounts,
     times: u16,
     body: &Body,
 ) -> Result<(), AllocError>
@@ -207,7 +207,7 @@ fn count_loop(
         Adds asked.new asked.old (λ v r. times * requests v r (inside context.now times) s body.now))) }
 {
     let mut inner = state.copy();
-    let mut round = Requests::new(alloc);
+    let mut round = RequestCounts::new(alloc);
     count(alloc, &context.inside(times), &mut inner, &mut round, body)?;
     asked.add_all(&round, u64::from(times))
 }
@@ -220,16 +220,16 @@ pub fn all_requests(
     context: &Context<'_>,
     state: &mut AbstractState,
     body: &Body,
-) -> Result<Requests, AllocError>
+) -> Result<RequestCounts, AllocError>
     requires few { size body.now ≤ 4096 }
     requires loops { IsTrue (few_loops (4 - length context.now.counts) body.now) }
     requires right { IsRight context.now state.old body.now }
     ensures { IfOk result (λ n. (v : List ℕ) (r : Section) → saturated (requests_for n v r) ≡ saturated (requests v r context.now state.old body.now)) }
 {
     if body.is_quiet() {
-        return Ok(Requests::new(alloc));
+        return Ok(RequestCounts::new(alloc));
     }
-    let mut asked = Requests::new(alloc);
+    let mut asked = RequestCounts::new(alloc);
     count(alloc, context, state, &mut asked, body)?;
     Ok(asked)
 }

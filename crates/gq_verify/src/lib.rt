@@ -29,10 +29,10 @@ mod verified;
 mod verify_fault;
 mod visits;
 
-pub use asked::{Asker, Requests};
+pub use asked::{Asker, RequestCounts};
 pub use section_steps::section_cost;
 pub use service::Service;
 pub use starts::Starts;
 pub use verified::{Verified, verify};
-pub use verify_fault::Fault;
+pub use verify_fault::BrokenRule;
 pub use visits::Visitor;

@@ -8,7 +8,7 @@ ghost use Rattle.gq_verify.specs.Saturated_numbers.{saturated};
 ghost use Rattle.gq_verify.specs.Requested.{requests_for};
 ghost use Rattle.gq_verify.specs.internal.Starting.{IsStarts};
 
-use crate::asked::Requests;
+use crate::asked::RequestCounts;
 use crate::counting::all_requests;
 use crate::starts::Starts;
 use gq_program::Section;
@@ -21,7 +21,7 @@ pub(crate) fn section_counts(
     subject: &Subject<'_>,
     starts: &Starts,
     from: Section,
-) -> Result<Requests, AllocError>
+) -> Result<RequestCounts, AllocError>
     requires starts { IsStarts subject.now starts.now }
     requires section { IsTrue (is_section from) }
     requires right { program_fault subject.now ≡ None }
@@ -32,6 +32,6 @@ pub(crate) fn section_counts(
             let mut state = starts.start_of(subject, from);
             all_requests(alloc, &Context::new(subject, from), &mut state, body)
         }
-        None => Ok(Requests::new(alloc)),
+        None => Ok(RequestCounts::new(alloc)),
     }
 }

@@ -12,7 +12,7 @@ use crate::section_end_rules::section_end;
 use crate::section_steps::section_cost;
 use crate::sizes::count;
 use crate::starts::{Starts, walk};
-use crate::verify_fault::Fault;
+use crate::verify_fault::BrokenRule;
 use gq_caps::Totals;
 use gq_model::fault::Rule;
 use gq_model::limits::GREATEST_STEPS;
@@ -66,14 +66,14 @@ fn first_unwanted(subject: &Subject<'_>, sections: &[Section]) -> Option<Section
 }
 
 /// Whether a section takes too many steps, which is judged at its end.
-fn cost_fault(section: Section, body: &Body) -> Option<Fault>
+fn cost_fault(section: Section, body: &Body) -> Option<BrokenRule>
     requires { size body.now ≤ 4096 }
     ensures { option_map known_fault result ≡ cost_fault section body.now }
 {
     if section_cost(section, body) <= GREATEST_STEPS {
         None
     } else {
-        Some(Fault {
+        Some(BrokenRule {
             rule: Rule::BudgetTooLarge,
             section,
             place: count(body) + 1,
@@ -82,14 +82,14 @@ fn cost_fault(section: Section, body: &Body) -> Option<Fault>
 }
 
 /// The first fault of `main`, which has been walked through.
-fn main_fault(subject: &Subject<'_>, starts: &Starts, body: &Body) -> Option<Fault>
+fn main_fault(subject: &Subject<'_>, starts: &Starts, body: &Body) -> Option<BrokenRule>
     requires starts { IsStarts subject.now starts.now }
     requires few { size body.now ≤ 4096 }
     ensures { option_map known_fault result ≡ fault_of Section.Main body.now (section_flow subject.now Section.Main) }
 {
     match starts.main {
         Ok(()) => cost_fault(Section::Main, body),
-        Err(broken) => Some(Fault {
+        Err(broken) => Some(BrokenRule {
             rule: broken.rule,
             section: Section::Main,
             place: broken.place,
@@ -103,7 +103,7 @@ fn section_fault(
     starts: &Starts,
     section: Section,
     body: &Body,
-) -> Option<Fault>
+) -> Option<BrokenRule>
     requires starts { IsStarts subject.now starts.now }
     requires section { IsTrue (is_section section) }
     requires few { size body.now ≤ 4096 }
@@ -114,7 +114,7 @@ fn section_fault(
     }
     match section_flow(subject, starts, section) {
         Ok(_) => cost_fault(section, body),
-        Err(Broken { rule, place }) => Some(Fault {
+        Err(Broken { rule, place }) => Some(BrokenRule {
             rule,
             section,
             place,
@@ -123,7 +123,7 @@ fn section_fault(
 }
 
 /// The first fault of the sections.
-fn first_fault(subject: &Subject<'_>, starts: &Starts) -> Option<Fault>
+fn first_fault(subject: &Subject<'_>, starts: &Starts) -> Option<BrokenRule>
     requires { IsStarts subject.now starts.now }
     ensures { option_map known_fault result ≡ first_fault subject.now subject.now.program.sections }
 {
@@ -137,12 +137,12 @@ fn first_fault(subject: &Subject<'_>, starts: &Starts) -> Option<Fault>
 
 /// The first fault of a program, if it has one. Sections are looked for before any is walked through. It goes over the statements a
 /// few times, and allocates no host memory.
-pub(crate) fn program_fault(subject: &Subject<'_>, starts: &Starts) -> Option<Fault>
+pub(crate) fn program_fault(subject: &Subject<'_>, starts: &Starts) -> Option<BrokenRule>
     requires { IsStarts subject.now starts.now }
     ensures { option_map known_fault result ≡ program_fault subject.now }
 {
     match first_unwanted(subject, &Section::ALL) {
-        Some(section) => Some(Fault {
+        Some(section) => Some(BrokenRule {
             rule: Rule::MissingSection,
             section,
             place: 0,

@@ -12,13 +12,13 @@ ghost use Rattle.gq_verify.specs.Named_sections.{AreThere};
 ghost use Rattle.gq_verify.specs.Subjects.{subject_of, cost_in};
 ghost use Rattle.gq_verify.specs.Visits.{Shows, section_sights};
 
-use crate::asked::Requests;
+use crate::asked::RequestCounts;
 use crate::own_use::own;
 use crate::section_requests::section_counts;
 use crate::section_rules::program_fault;
 use crate::section_steps::section_cost;
 use crate::starts::Starts;
-use crate::verify_fault::Fault;
+use crate::verify_fault::BrokenRule;
 use crate::visits::{Visitor, visit};
 use gq_program::{Body, Interfaces, Name, Program, Section};
 use gq_rules::{Context, Subject};
@@ -123,7 +123,7 @@ impl<'a> Verified<'a> {
 
     /// The greatest numbers of requests of a section, for all sections of all services at once. It goes over the statements once, and not
     /// over loops that make none. Refused only if the host refuses memory, of which it takes some for each section that is asked for.
-    pub fn all_requests(&self, alloc: Global, from: Section) -> Result<Requests, AllocError>
+    pub fn all_requests(&self, alloc: Global, from: Section) -> Result<RequestCounts, AllocError>
         requires { IsTrue (is_section from) }
         ensures { IfOk result (λ n. (v : List ℕ) (r : Section) → saturated (requests_for n v r) ≡ saturated (section_requests self.now from v r)) }
     {
@@ -140,7 +140,7 @@ pub fn verify<'a>(
     provides: Option<&Name>,
     interfaces: &'a Interfaces,
     inputs: &'a [u32],
-) -> Result<Verified<'a>, Fault>
+) -> Result<Verified<'a>, BrokenRule>
     ensures subject { IfOk result (λ v. v ≡ subject_of program.now (option_copied provides.entry) interfaces.now inputs.now) }
     ensures accepted { IfOk result (λ v. verdict program.now (option_copied provides.entry) interfaces.now inputs.now ≡ Ok (verified v)) }
     ensures refused { IfErr result (λ fault. verdict program.now (option_copied provides.entry) interfaces.now inputs.now ≡ Err (known_fault fault)) }

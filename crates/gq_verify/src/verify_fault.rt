@@ -8,7 +8,7 @@ use thiserror::Error;
 /// number past the last its end.
 #[derive(Clone, Copy, Debug, PartialEq, Eq, Error)]
 #[error("{rule} in {section} at {place}")]
-pub struct Fault {
+pub struct BrokenRule {
     pub rule: Rule,
     pub section: Section,
     pub place: u64,

@@ -18,7 +18,7 @@ use Rattle.gq_scenario.specs.Top_table.{ReadFault, described_or, document_in, re
 use Rattle.gq_scenario.specs.Sizes.{leaves_in}
 use Rattle.gq_scenario.proofs.Preorder_leaves.{components-leaves_in}
 use Rattle.gq_laws.specs.Shapes.{Each}
-use Rattle.gq_load.specs.Load.{Fault, code_fault, source_fault, text_fault}
+use Rattle.gq_load.specs.Load.{LoadRefusal, code_fault, source_fault, text_fault}
 use Rattle.gq_load.specs.Named.{leaf_named}
 use Rattle.gq_load.proofs.Sound_programs.{IsGiven, nodes_given, programs_are}
 use Rattle.gq_load.proofs.Sound_texts.{not_ok, same_scenario}
@@ -92,7 +92,7 @@ given_by node same e = by node.source same e
 pub lists_program : (scenario name text : List ℕ) → list_written Plain scenario name ≡ Ok text → ListsProgram scenario name text
 lists_program scenario name text e = from (scenario_in scenario) refl e
   where
-    of_leaf : (s : Scenario) → scenario_in scenario ≡ Ok s → (node : LeafNode) → leaf_named name (components s) ≡ Some node → (o : Option Fault)
+    of_leaf : (s : Scenario) → scenario_in scenario ≡ Ok s → (node : LeafNode) → leaf_named name (components s) ≡ Some node → (o : Option LoadRefusal)
         → source_fault node.name node.source ≡ o → program_text Plain node.program o ≡ Ok text → ListsProgram scenario name text
     of_leaf s reads node named (Some fault) sound f = not_written _ text f
     of_leaf s reads node named None sound f =
@@ -119,7 +119,7 @@ lists_program scenario name text e = from (scenario_in scenario) refl e
 pub lists_numbers : (scenario name text : List ℕ) → list_written Numbered scenario name ≡ Ok text → ListsNumbers scenario name text
 lists_numbers scenario name text e = from (scenario_in scenario) refl e
   where
-    of_leaf : (node : LeafNode) → (o : Option Fault) → program_text Numbered node.program o ≡ Ok text
+    of_leaf : (node : LeafNode) → (o : Option LoadRefusal) → program_text Numbered node.program o ≡ Ok text
         → list_written Plain scenario name ≡ program_text Plain node.program o → ListsNumbers scenario name text
     of_leaf node (Some fault) f plain = not_written _ text f
     of_leaf node None f plain = record {

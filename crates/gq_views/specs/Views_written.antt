@@ -4,7 +4,7 @@ use Rattle.gq_model.specs.machine.Program.{Program}
 use Rattle.gq_model.specs.machine.Scenario.{LeafNode, Scenario, components}
 use Rattle.gq_scenario.specs.Top_table.{ReadFault, read_text, scenario_in}
 use Rattle.gq_load.specs.Named.{leaf_named}
-use Rattle.gq_load.specs.Load.{Fault, source_fault, fault_text, loaded}
+use Rattle.gq_load.specs.Load.{LoadRefusal, source_fault, fault_text, loaded}
 use Rattle.gq_world.specs.Whole.{Written, refused_with, with_scenario}
 use Rattle.gq_views.specs.declared.margin.Margin.{Margin}
 use Rattle.gq_views.specs.declared.margin.Margin.TheVariants.{Plain, Numbered}
@@ -20,7 +20,7 @@ shown Plain p = listing p
 shown Numbered p = numbered_listing p
 
 -- if there is no fault
-abbrev pub program_text : Margin → Program → Option Fault → Written
+abbrev pub program_text : Margin → Program → Option LoadRefusal → Written
 program_text m p None = Ok (shown m p)
 program_text m p (Some fault) = Err (refused_with (fault_text fault))
 

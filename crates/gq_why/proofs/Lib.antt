@@ -2,7 +2,7 @@ mod Shown_points
 mod First_highest
 mod Eight_class_facts
 mod Highest_cell_count
-mod Own_lines
+mod Lines_of_own_slots
 mod Need_lines
 mod Level_section_points
 mod Leaf_number_sums

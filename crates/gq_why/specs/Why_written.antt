@@ -4,7 +4,7 @@ use Rattle.gq_model.specs.machine.Program.{text_eq}
 use Rattle.gq_model.specs.machine.Scenario.{Component, Scenario, components}
 use Rattle.gq_scenario.specs.Top_table.{ReadFault, read_text, scenario_in}
 use Rattle.gq_scenario.specs.Without_quantities.{unsized}
-use Rattle.gq_load.specs.Load.{Fault, fault_text}
+use Rattle.gq_load.specs.Load.{LoadRefusal, fault_text}
 use Rattle.gq_load.specs.Unsized_judgement.{unsized_fault}
 use Rattle.gq_world.specs.Whole.{Written, refused_with}
 use Rattle.gq_why.specs.Why.{why_text}
@@ -15,7 +15,7 @@ leaf_number name x [] = None
 leaf_number name x (c ∷ rest) = if text_eq name c.node.name then Some x else leaf_number name (suc x) rest
 
 -- a text, if there is no fault
-abbrev pub text_or_fault : Option Fault → List ℕ → Written
+abbrev pub text_or_fault : Option LoadRefusal → List ℕ → Written
 text_or_fault None text = Ok text
 text_or_fault (Some fault) text = Err (refused_with (fault_text fault))
 

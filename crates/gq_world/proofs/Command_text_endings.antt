@@ -2,7 +2,7 @@
 use Rattle.std.proofs.Common.{◌≡◌, ◌∙◌, ℕ, List, Option, Result, Ok, Err, OnOk, ap, refl, subst, sym}
 use Rattle.std.specs.Prelude.{IsOkAnd}
 use Rattle.std.specs.Io.KnownBytes.{Appends}
-use Rattle.gq_load.specs.Load.{Fault}
+use Rattle.gq_load.specs.Load.{LoadRefusal}
 use Rattle.gq_model.specs.machine.Scenario.{Scenario}
 use Rattle.gq_init.specs.declared.counted.Counted.{Counted}
 use Rattle.gq_init.specs.Writer_failures.{Writes, failures_of, written_to}
@@ -84,7 +84,7 @@ whole_text {contents = contents} {old = old} {new = new} {text = text} P (Ok a) 
 whole_text P (Err fault) so h = tt
 
 -- what a definition gives of a scenario that was loaded is the text of the command
-pub reported_text : (reported : Scenario → List ℕ) (r : Result Scenario Fault) (text : List ℕ) → IsOkAnd r (λ s. text ≡ reported s)
+pub reported_text : (reported : Scenario → List ℕ) (r : Result Scenario LoadRefusal) (text : List ℕ) → IsOkAnd r (λ s. text ≡ reported s)
     → with_scenario r (λ s. Ok (reported s)) ≡ Ok text
 reported_text reported (Ok s) text h = ap Ok (sym h)
 reported_text reported (Err fault) text h = absurd h

@@ -15,7 +15,7 @@ use Rattle.gq_world.specs.Account_lines.{accounts_by, all_accounts, accounts_tex
 use Rattle.gq_model.specs.declared.fault.TurnFault.{TurnFault}
 use Rattle.gq_model.specs.rules.Accept.{IsAccepted}
 use Rattle.gq_model.specs.texts.Turns.{Turned, turned}
-use Rattle.gq_load.specs.Load.{Fault, loaded}
+use Rattle.gq_load.specs.Load.{LoadRefusal, loaded}
 use Rattle.gq_load.specs.Load_faults.{load_fault_text, Refuses}
 use Rattle.gq_load.specs.declared.load_fault.LoadFault.{LoadFault}
 use Rattle.gq_load.specs.declared.load_fault.LoadError.TheVariants as error
@@ -77,7 +77,7 @@ pub below_of : (s t : Scenario) (text : List ℕ) (turns : Acts) → t ≡ s →
 below_of s t text turns same e = subst (λ r. AreBelow (length (components r)) turns) same
     (subst (AreBelowIn (length (components t))) e (turned_below t text))
 
-load_by : (fault : LoadFault) (l : Result Scenario Fault) (go : Scenario → Written) → Refuses (error.Fault fault) l
+load_by : (fault : LoadFault) (l : Result Scenario LoadRefusal) (go : Scenario → Written) → Refuses (error.Fault fault) l
     → with_scenario l go ≡ Err (refused_with (load_fault_text fault))
 load_by fault (Ok s) go h = absurd h
 load_by fault (Err f) go h = ap (λ t. Err (refused_with t)) (sym h)

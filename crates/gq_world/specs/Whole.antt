@@ -10,7 +10,7 @@ use Rattle.gq_model.specs.texts.Fault_texts.{turn_fault_word}
 use Rattle.gq_model.specs.texts.Turns.{Turned, turned}
 use Rattle.gq_scenario.specs.Top_table.{ReadFault, read_text, scenario_in}
 use Rattle.gq_load.specs.Named.{leaf_named}
-use Rattle.gq_load.specs.Load.{Fault, source_fault, fault_text, loaded}
+use Rattle.gq_load.specs.Load.{LoadRefusal, source_fault, fault_text, loaded}
 use Rattle.gq_model.specs.machine.Run.{Acts}
 
 -- what is written, or the line that says why nothing is
@@ -21,7 +21,7 @@ abbrev pub refused_with : List ℕ → List ℕ
 refused_with text = codes "trade: " ++ text ++ 10 ∷ []
 
 -- goes on with a scenario that was loaded
-abbrev pub with_scenario : Result Scenario Fault → (Scenario → Written) → Written
+abbrev pub with_scenario : Result Scenario LoadRefusal → (Scenario → Written) → Written
 with_scenario (Ok s) go = go s
 with_scenario (Err fault) go = Err (refused_with (fault_text fault))
 
@@ -51,7 +51,7 @@ check_written scenario = with_scenario (loaded scenario) (λ s. Ok (budget_lines
 -- CODE
 
 -- a program's code in hexadecimal, if there is no fault
-abbrev pub code_line : Program → Option Fault → Written
+abbrev pub code_line : Program → Option LoadRefusal → Written
 code_line p None = Ok (hex_of (code_of p) ++ 10 ∷ [])
 code_line p (Some fault) = Err (refused_with (fault_text fault))
 

@@ -8,7 +8,7 @@ ghost use Rattle.gq_init.specs.Account_values.{reported_of};
 ghost use Rattle.gq_world.specs.Account_lines.{accounts_by, ReportsOf};
 ghost use Rattle.gq_model.specs.machine.Amounts.{counts_caps};
 
-use gq_init::account_report::{Account, LeafAccount};
+use gq_init::account_report::{AccountReport, LeafAccount};
 use gq_load::budget::Budget;
 use gq_machine::machine::Machine;
 use gq_scenario::node_numbers::NodeNo;
@@ -49,7 +49,7 @@ fn leaf_account(machine: &Machine, budgets: &[Budget], leaf: LeafNo) -> LeafAcco
 }
 
 // The account of a node of a machine whose leaves have these budgets.
-pub(crate) fn account_of(machine: &Machine, budgets: &[Budget], node: NodeNo) -> Account
+pub(crate) fn account_of(machine: &Machine, budgets: &[Budget], node: NodeNo) -> AccountReport
     requires leaves { length machine.now.world.leaves ≡ length (components machine.now.scenario) }
     requires node { node < length (node_rows machine.now.scenario) }
     ensures { IfSome (slice_get (accounts_by machine.now.scenario machine.now.world (step_budgets budgets.now)) node) (λ a. result ≡ reported_of a) }
@@ -62,5 +62,5 @@ pub(crate) fn account_of(machine: &Machine, budgets: &[Budget], node: NodeNo) ->
         Some(leaf) => Some(leaf_account(machine, budgets, leaf)),
         None => None,
     };
-    Account::new(quota, leaf)
+    AccountReport::new(quota, leaf)
 }

@@ -28,7 +28,7 @@ use crate::leaf_lines::write_line;
 use crate::node_accounts::account_of;
 use arrayvec::ArrayVec;
 use gq_init::NodeTable;
-use gq_init::account_report::Account;
+use gq_init::account_report::AccountReport;
 use gq_init::counted::{Counted, WriteFault, put};
 use gq_init::gathered_lines::Lines;
 use gq_laws::accepted_runs::accepted_laws;
@@ -149,7 +149,7 @@ impl World {
     }
 
     /// The account of a node. A leaf uses no more than its quota, of bytes and of capabilities, and has taken no more steps than its budget.
-    pub fn account(&self, node: NodeNo) -> Account
+    pub fn account(&self, node: NodeNo) -> AccountReport
         requires { node < length (node_rows self.now.scenario) }
         ensures reported { IfSome (slice_get (all_accounts self.now) node) (λ a. result ≡ reported_of a) }
         ensures paid { IfSome result.leaf (λ l. l.used.ram ≤ result.quota.ram) }

@@ -10,11 +10,11 @@ use Rattle.gq_world.specs.Command_outcomes.{IsCutShort, IsWhole}
 use Rattle.gq_world.specs.Whole.{Written}
 use Rattle.gq_world.specs.internal.Act_transitions.{turns_written}
 use Rattle.gq_cli.specs.Executed.{ReadsText}
-use Rattle.gq_cli.specs.declared.execute.Fault.{Fault}
-use Rattle.gq_cli.specs.declared.execute.Fault.TheVariants.{Refused, Memory, Read, Write}
+use Rattle.gq_cli.specs.declared.execute.CommandFault.{CommandFault}
+use Rattle.gq_cli.specs.declared.execute.CommandFault.TheVariants.{Refused, Memory, Read, Write}
 
 -- the turns and settings of a scenario were read to the end of a reader, or are refused by this line
-abbrev pub ReadsTurns : Scenario → (old new : Option (List ℕ)) → Result (Vec (ℕ × Act) Global) Fault → Type 0
+abbrev pub ReadsTurns : Scenario → (old new : Option (List ℕ)) → Result (Vec (ℕ × Act) Global) CommandFault → Type 0
 ReadsTurns s old new (Ok items) = ReadsText old new (λ text. turned s text ≡ Ok items.items)
 ReadsTurns s old new (Err (Refused line)) = ReadsText old new (λ text. turns_written s text ≡ Err (string_bytes line))
 ReadsTurns s old new (Err Memory) = Unit {0}
@@ -29,7 +29,7 @@ pub record HasCome (s : Scenario) (old new : Option (List ℕ)) (before after : 
   pub same : (rest : List ℕ) → answer s after rest ≡ answer s before (text ++ rest)
 
 -- how a run by the turns of this text ends
-abbrev pub EndsAs : Scenario → List ℕ → {A : Type 0} → Result A Fault → (before after : Option (List ℕ)) → Type 0
+abbrev pub EndsAs : Scenario → List ℕ → {A : Type 0} → Result A CommandFault → (before after : Option (List ℕ)) → Type 0
 EndsAs s text (Ok u) before after = IsWhole (turns_written s text) before after
 EndsAs s text (Err (Refused line)) before after = turns_written s text ≡ Err (string_bytes line)
 EndsAs s text (Err Memory) before after = ⊥
@@ -37,7 +37,7 @@ EndsAs s text (Err Read) before after = ⊥
 EndsAs s text (Err Write) before after = IsCutShort (turns_written s text) before after
 
 -- why what is to be written is not
-abbrev pub RefusesAs : Written → Fault → Type 0
+abbrev pub RefusesAs : Written → CommandFault → Type 0
 RefusesAs written (Refused line) = written ≡ Err (string_bytes line)
 RefusesAs written Memory = Unit {0}
 RefusesAs written Read = Unit {0}

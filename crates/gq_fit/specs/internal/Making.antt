@@ -2,7 +2,7 @@
 use Rattle.std.specs.Prelude.{◌≡◌, ◌≢◌, ℕ, List, [], Result, Ok}
 use Rattle.gq_model.specs.machine.Scenario.{Scenario}
 use Rattle.gq_load.specs.Load_faults.{Refuses}
-use Rattle.gq_load.specs.Load.{Fault, loaded}
+use Rattle.gq_load.specs.Load.{LoadRefusal, loaded}
 use Rattle.gq_load.specs.declared.load_fault.LoadError.TheVariants as error
 use Rattle.gq_sizes.specs.Gives.{GivesLeast}
 use Rattle.gq_sizes.specs.Least.{sized}
@@ -10,7 +10,7 @@ use Rattle.gq_fit.specs.declared.fit_fault.FitFault.{FitFault}
 use Rattle.gq_fit.specs.declared.fit_fault.FitFault.TheVariants as faults
 
 -- a text is refused with this fault
-abbrev pub IsRefusedBy : FitFault → Result Scenario Fault → Type 0
+abbrev pub IsRefusedBy : FitFault → Result Scenario LoadRefusal → Type 0
 IsRefusedBy (faults.Load fault) judged = Refuses (error.Fault fault) judged
 IsRefusedBy (faults.Short lines) judged = ⊥
 IsRefusedBy (faults.NoFit reason) judged = ⊥

@@ -47,8 +47,8 @@ use Rattle.gq_traces.specs.declared.numbered_program.Way.{Way}
 use Rattle.gq_traces.specs.declared.numbered_program.Way.TheVariants as way
 use Rattle.gq_traces.specs.declared.tracker.Ahead as places
 use Rattle.gq_traces.specs.declared.tracker.Due as stated
-use Rattle.gq_traces.specs.declared.tracker.Statement.{Statement}
-use Rattle.gq_traces.specs.declared.tracker.Statement.TheVariants as statement
+use Rattle.gq_traces.specs.declared.tracker.TrackedStatement.{TrackedStatement}
+use Rattle.gq_traces.specs.declared.tracker.TrackedStatement.TheVariants as statement
 use Rattle.gq_traces.specs.internal.Flat.{AllStand, AreAheads, ArePrograms, IsAhead, IsProgramOf, programs_of}
 
 -- WRITES
@@ -82,7 +82,7 @@ pub record Reports {W : Type 0} (contents : W → Option (List ℕ)) (old new : 
 -- PLACES
 
 -- the first line of a statement, behind a blank
-abbrev pub statement_text : Statement → List ℕ
+abbrev pub statement_text : TrackedStatement → List ℕ
 statement_text statement.Nothing = []
 statement_text (statement.Plain text) = codes " " ++ text.now
 statement_text statement.If = codes " if"

@@ -17,8 +17,8 @@ use Rattle.gq_views.specs.Listing.{place_text}
 use Rattle.gq_traces.specs.Account_state.{Held, Item, item, amount_by, depth_of, form_text, items_text, lent_items, price}
 use Rattle.gq_traces.specs.internal.Printed_steps.{Goes}
 use Rattle.gq_traces.specs.declared.tracker.Due.{Due}
-use Rattle.gq_traces.specs.declared.items.Bank.{Bank}
-use Rattle.gq_traces.specs.declared.items.Bank.TheVariants.{OfLeaf, OfSession}
+use Rattle.gq_traces.specs.declared.items.SlotRow.{SlotRow}
+use Rattle.gq_traces.specs.declared.items.SlotRow.TheVariants.{OfLeaf, OfSession}
 
 -- what a slot holds or lends, by what is read of it
 abbrev pub holding_items : System → World → OperandSlot → Holding → List Item
@@ -36,28 +36,28 @@ Prints_items contents old new was now m items = Goes contents old new was now (i
 
 -- BANKS
 
-abbrev pub bank_place : Bank → ℕ → OperandSlot
+abbrev pub bank_place : SlotRow → ℕ → OperandSlot
 bank_place (OfLeaf x) = Own
 bank_place (OfSession k) = Shared
 
-abbrev pub bank_slot_id : Bank → ℕ → SlotId
+abbrev pub bank_slot_id : SlotRow → ℕ → SlotId
 bank_slot_id (OfLeaf x) i = InLeaf x i
 bank_slot_id (OfSession k) i = InSession k i
 
-abbrev pub bank_size : Bank → ℕ
+abbrev pub bank_size : SlotRow → ℕ
 bank_size (OfLeaf x) = 64
 bank_size (OfSession k) = 8
 
-abbrev pub bank_slots : World → Bank → Option (List Slot)
+abbrev pub bank_slots : World → SlotRow → Option (List Slot)
 bank_slots w (OfLeaf x) = option_map (λ l. l.slots) (slice_get w.leaves x)
 bank_slots w (OfSession k) = option_map (λ s. s.slots) (session_at w k)
 
-abbrev pub IsBankOf : ℕ → Bank → Type 0
+abbrev pub IsBankOf : ℕ → SlotRow → Type 0
 IsBankOf n (OfLeaf x) = x < n
 IsBankOf n (OfSession k) = Unit {0}
 
 -- these are its slots
-pub record HasBank (m : Machine) (bank : Bank) : Type 0 where
+pub record HasBank (m : Machine) (bank : SlotRow) : Type 0 where
   pub slots : List Slot
   pub there : bank_slots m.world bank ≡ Some slots
   pub long : length slots ≡ bank_size bank

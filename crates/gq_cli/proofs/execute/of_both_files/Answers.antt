@@ -4,7 +4,7 @@ use Rattle.gq_load.specs.Load.{loaded}
 use Rattle.gq_faults.specs.Turn_faults.{Answers, lines_of_both, reported_of}
 use Rattle.gq_cli.specs.Early_command_ends.{IsReportedAs}
 use Rattle.gq_cli.specs.Executed.{Of_faults}
-use Rattle.gq_cli.specs.declared.execute.Fault.TheVariants.{Write}
+use Rattle.gq_cli.specs.declared.execute.CommandFault.TheVariants.{Write}
 use Rattle.gq_cli.proofs.Faults_command_result.{both_ends, both_none, kept_faults, unreported_ends, whole_prefix}
 use Rattle.gq_cli.proofs.execute.of_both_files.Goals as goal
 

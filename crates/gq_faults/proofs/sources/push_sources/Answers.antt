@@ -1,14 +1,14 @@
 use Rattle.std.proofs.Common.{◌+◌, List, map, drop}
 use Rattle.gq_load.specs.Load.{fault_text, source_fault}
 use Rattle.gq_model.specs.machine.Scenario.{Component}
-use Rattle.gq_load.specs.Load.{Fault}
+use Rattle.gq_load.specs.Load.{LoadRefusal}
 use Rattle.gq_faults.specs.Found_lists.{all_found, listed_if}
 use Rattle.gq_faults.specs.Found_lines.{lines_found}
 use Rattle.gq_faults.proofs.Appended_faults.{mapped_next, mapped_end, all_there}
 use Rattle.gq_faults.proofs.Joined_fault_lists.{then_more}
 use Rattle.gq_faults.proofs.sources.push_sources.Goals as goal
 
-abbrev f : Component → List Fault
+abbrev f : Component → List LoadRefusal
 f c = listed_if (source_fault c.node.name c.node.source)
 
 pub loop-place-preserved : goal.loop-place-preserved

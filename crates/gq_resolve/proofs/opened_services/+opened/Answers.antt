@@ -1,6 +1,6 @@
 use Rattle.std.proofs.Common.{◌∙◌, ap, arith, rules, sym}
 use Rattle.gq_model.specs.machine.Program.{size}
-use Rattle.gq_resolve.proofs.Opened_services.{services_here, pushed, none_more}
+use Rattle.gq_resolve.proofs.Opened_service_lists.{services_here, pushed, none_more}
 use Rattle.gq_program.proofs.Statement_list_sizes.{size_here}
 use Rattle.gq_resolve.proofs.opened_services.+opened.Goals as goal
 

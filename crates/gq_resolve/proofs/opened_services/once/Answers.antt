@@ -1,4 +1,4 @@
-use Rattle.gq_resolve.proofs.Opened_services.{once_more}
+use Rattle.gq_resolve.proofs.Opened_service_lists.{once_more}
 use Rattle.gq_resolve.proofs.opened_services.once.Goals as goal
 
 pub loop-service-preserved : goal.loop-service-preserved

@@ -7,7 +7,7 @@ use Rattle.gq_resolve.specs.NodeTables.{IsNodeOf, node_rows}
 use Rattle.gq_traces.specs.Account_state.{Given, item, items_text, slots_items}
 use Rattle.gq_traces.specs.internal.Slot_items.{HasBank, Prints_items, bank_slots}
 use Rattle.gq_traces.specs.internal.Printed_steps.{Goes}
-use Rattle.gq_traces.specs.declared.items.Bank.TheVariants.{OfLeaf}
+use Rattle.gq_traces.specs.declared.items.SlotRow.TheVariants.{OfLeaf}
 use Rattle.gq_traces.proofs.Printed_children.{live_printed, own_slots}
 use Rattle.gq_traces.proofs.Sound_world_leaves.{leaf_bank, leaves_are, peaks_there}
 use Rattle.gq_traces.proofs.account_state.write_live.Goals as goal

@@ -3,7 +3,7 @@ use Rattle.std.proofs.Common.{◌∙◌, ◌+◌, refl, subst, sym, arith}
 use Rattle.gq_model.specs.machine.Scenario.{Scenario, system}
 use Rattle.gq_traces.specs.internal.Alone_positions.{StepsAlone}
 use Rattle.gq_traces.specs.internal.Flat.{ArePrograms, programs_of}
-use Rattle.gq_traces.proofs.Alone_steps.{steps_then, stands_still}
+use Rattle.gq_traces.proofs.Steps_taken_alone.{steps_then, stands_still}
 use Rattle.gq_traces.proofs.alone_steps.steps_alone.Goals as goal
 
 pub loop-done-init : goal.loop-done-init

@@ -6,7 +6,7 @@ use Rattle.gq_model.specs.machine.Scenario.{Scenario, system}
 use Rattle.gq_traces.specs.Trace.{after_turn, after_turns}
 use Rattle.gq_traces.specs.declared.follow.Followed.{Followed}
 use Rattle.gq_traces.specs.internal.Follows.{Follows}
-use Rattle.gq_traces.proofs.Alone_steps.{followed, steps_as}
+use Rattle.gq_traces.proofs.Steps_taken_alone.{followed, steps_as}
 use Rattle.gq_traces.proofs.Unprinted_turns.{follows_both, turns_more}
 use Rattle.gq_traces.proofs.follow.take_some.Goals as goal
 

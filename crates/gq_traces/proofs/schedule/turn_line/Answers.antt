@@ -4,7 +4,7 @@ use Rattle.std.specs.Prelude.{decimal, slice_get}
 use Rattle.gq_model.specs.machine.Scenario.{components}
 use Rattle.gq_model.specs.texts.Letters.{is_name}
 use Rattle.gq_traces.specs.Schedule.{name_at}
-use Rattle.gq_traces.proofs.Line_parts.{line_is, short_count, short_name, three_short, two_short}
+use Rattle.gq_traces.proofs.Printed_line_parts.{line_is, short_count, short_name, three_short, two_short}
 use Rattle.gq_traces.proofs.Leaf_table_names.{name_of}
 use Rattle.gq_traces.proofs.schedule.turn_line.Goals as goal
 

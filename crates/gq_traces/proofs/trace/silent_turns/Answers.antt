@@ -5,7 +5,7 @@ use Rattle.std.specs.Vec.{with_items}
 use Rattle.gq_traces.specs.Traces_written.{prints_all}
 use Rattle.gq_traces.specs.declared.trace.Tracing.{Tracing}
 use Rattle.gq_traces.specs.internal.Printed_steps.{IsSilent}
-use Rattle.gq_traces.proofs.Alone_steps.{no_silent, silent, steps_as}
+use Rattle.gq_traces.proofs.Steps_taken_alone.{no_silent, silent, steps_as}
 use Rattle.gq_traces.proofs.trace.silent_turns.Goals as goal
 
 pub returns-in-All-clause-silent : goal.returns-in-All-clause-silent

@@ -4,7 +4,7 @@ use Rattle.std.specs.Prelude.{decimal}
 use Rattle.gq_init.specs.Writer_failures.{Writes}
 use Rattle.gq_views.specs.Listing.{joined}
 use Rattle.gq_traces.specs.Schedule.{cut_lines}
-use Rattle.gq_traces.proofs.Line_parts.{short_count}
+use Rattle.gq_traces.proofs.Printed_line_parts.{short_count}
 use Rattle.gq_traces.proofs.turn_schedule.write_cut.Goals as goal
 
 -- digits that are read as text are those of the number

@@ -1,6 +1,6 @@
 use Rattle.std.proofs.lemmas.Result.{on_ok_weaker}
 use Rattle.gq_tariff.specs.Prices.{class_size}
-use Rattle.gq_why.proofs.Own_lines.{class_put}
+use Rattle.gq_why.proofs.Lines_of_own_slots.{class_put}
 use Rattle.gq_why.proofs.own_lines.push_class.Goals as goal
 
 pub returns : goal.returns

@@ -4,7 +4,7 @@ use Rattle.std.proofs.lemmas.Result.{on_ok_weaker}
 use Rattle.gq_model.specs.machine.Amounts.{Ram, Caps}
 use Rattle.gq_why.specs.First_maxima.{top_in}
 use Rattle.gq_why.specs.Why.{own_part}
-use Rattle.gq_why.proofs.Own_lines.{own_put}
+use Rattle.gq_why.proofs.Lines_of_own_slots.{own_put}
 use Rattle.gq_why.proofs.own_lines.push_owns.Goals as goal
 
 pub returns-then-not-counts_caps : goal.returns-then-not-counts_caps

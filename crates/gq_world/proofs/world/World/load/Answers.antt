@@ -4,7 +4,7 @@ use Rattle.gq_model.specs.machine.World as model
 use Rattle.gq_model.specs.machine.World.{start}
 use Rattle.gq_model.specs.rules.Accept.{IsAccepted}
 use Rattle.gq_laws.specs.Stands.{Stands}
-use Rattle.gq_load.specs.Load.{Fault}
+use Rattle.gq_load.specs.Load.{LoadRefusal}
 use Rattle.gq_world.specs.Headline.{Upholding}
 use Rattle.gq_world.proofs.world.World.load.Goals as goal
 
@@ -32,7 +32,7 @@ returns-clause-upheld c =
 pub returns-clause-loaded : goal.returns-clause-loaded
 returns-clause-loaded c =
     let same = c.start.ensures.scenario ∙ (c.in_ok-machine.ensures.scenario ∙ c.into_parts-table.ensures.table) in
-    c.in_ok-accepted.ensures.loaded ∙ ap (λ (r : Scenario). let o : Result Scenario Fault = Ok r in o) (sym same)
+    c.in_ok-accepted.ensures.loaded ∙ ap (λ (r : Scenario). let o : Result Scenario LoadRefusal = Ok r in o) (sym same)
 
 pub returns-clause-world : goal.returns-clause-world
 returns-clause-world c =

@@ -2,7 +2,7 @@ use Rattle.std.proofs.Common.{◌≡◌, ℕ, ◌+◌, ◌*◌, List, drop}
 use Rattle.gq_model.specs.declared.program.Section.{Section}
 use Rattle.gq_verify.specs.Saturated_numbers.{saturated}
 use Rattle.gq_verify.specs.Requested.{requests_for}
-use Rattle.gq_verify.proofs.asked.Requests.add_all.Given as goal
+use Rattle.gq_verify.proofs.asked.RequestCounts.add_all.Given as goal
 
 -- those so far, with those that are left, are all
 abbrev pub invariant-loop-entry : goal.invariant-loop-entry

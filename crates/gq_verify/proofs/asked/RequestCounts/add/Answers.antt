@@ -3,7 +3,7 @@ use Rattle.gq_verify.specs.Requested.{Requested}
 use Rattle.gq_verify.proofs.Summed_section_requests.{requests_put}
 use Rattle.gq_program.specs.Name_keys.{AreWithin}
 use Rattle.gq_verify.proofs.Service_name_keys.{keys_set}
-use Rattle.gq_verify.proofs.asked.Requests.add.Goals as goal
+use Rattle.gq_verify.proofs.asked.RequestCounts.add.Goals as goal
 
 pub invariant_of-self : goal.invariant_of-self
 invariant_of-self c =

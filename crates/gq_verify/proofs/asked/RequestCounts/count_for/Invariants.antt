@@ -1,7 +1,7 @@
 use Rattle.std.proofs.Common.{◌≡◌, ◌≤◌, ◌+◌, ◌-◌, ◌^◌, drop}
 use Rattle.gq_verify.specs.Saturated_numbers.{saturated}
 use Rattle.gq_verify.specs.Requested.{requests_for}
-use Rattle.gq_verify.proofs.asked.Requests.count_for.Given as goal
+use Rattle.gq_verify.proofs.asked.RequestCounts.count_for.Given as goal
 
 -- the sum so far, with those that are left, is that of all
 abbrev pub invariant-loop-place : goal.invariant-loop-place

@@ -30,10 +30,10 @@ use Rattle.std.proofs.ResultValues.{and_tt}
 use Rattle.gq_world.specs.contracts.world.World.{the_row as world_row}
 use Rattle.gq_library.proofs.Loose_box_values.{both, Loose, al, loose_good, loose_in}
 use Rattle.gq_library.proofs.Held_value_ownership.{one, Held, held_out, either_held}
-use Rattle.gq_library.specs.contracts.held.Held.into_loose.{ended, clauses}
-use Rattle.gq_library.specs.contracts.held.Held.into_loose.Key.{name as #self}
-use Rattle.gq_library.proofs.held.Held.into_loose.Statement.{statement}
-use Rattle.gq_library.proofs.held.Held.into_loose.Code as code
+use Rattle.gq_library.specs.contracts.held.WorldHandle.into_loose.{ended, clauses}
+use Rattle.gq_library.specs.contracts.held.WorldHandle.into_loose.Key.{name as #self}
+use Rattle.gq_library.proofs.held.WorldHandle.into_loose.Statement.{statement}
+use Rattle.gq_library.proofs.held.WorldHandle.into_loose.Code as code
 
 pub into_loose_spec : {M : Type 1} → statement M
 into_loose_spec 𝓤 𝓛 𝓜 𝓡 wired =

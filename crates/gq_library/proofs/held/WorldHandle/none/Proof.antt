@@ -16,10 +16,10 @@ use denote.Steps.{nothing}
 use denote.Triple.Walked.{Stays, walk_of}
 use Rattle.std.proofs.raw_atomic.Walks.{proved_at, leaves}
 use Rattle.gq_library.proofs.Held_value_ownership.{one, held_in}
-use Rattle.gq_library.specs.contracts.held.Held.none.{ended, clauses}
-use Rattle.gq_library.specs.contracts.held.Held.none.Key.{name as #self}
-use Rattle.gq_library.proofs.held.Held.none.Statement.{statement}
-use Rattle.gq_library.proofs.held.Held.none.Code as code
+use Rattle.gq_library.specs.contracts.held.WorldHandle.none.{ended, clauses}
+use Rattle.gq_library.specs.contracts.held.WorldHandle.none.Key.{name as #self}
+use Rattle.gq_library.proofs.held.WorldHandle.none.Statement.{statement}
+use Rattle.gq_library.proofs.held.WorldHandle.none.Code as code
 
 pub none_spec : {M : Type 1} → statement M
 none_spec 𝓤 𝓛 𝓜 𝓡 wired =

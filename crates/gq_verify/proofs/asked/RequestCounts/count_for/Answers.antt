@@ -2,7 +2,7 @@ use Rattle.std.proofs.Common.{arith, ◌<◌, length, List}
 use Rattle.gq_verify.specs.Requested.{Requested, requests_for}
 use Rattle.gq_verify.proofs.Service_name_keys.{summed_more, summed_end}
 use Rattle.gq_verify.proofs.Requests_outside_range.{skipped, rest, not_counted}
-use Rattle.gq_verify.proofs.asked.Requests.count_for.Goals as goal
+use Rattle.gq_verify.proofs.asked.RequestCounts.count_for.Goals as goal
 
 pub loop-place-init : goal.loop-place-init
 loop-place-init c =

@@ -2,7 +2,7 @@ use Rattle.std.proofs.Common.{arith, ◌<◌, length, sym, ◌∙◌}
 use Rattle.gq_verify.specs.Requested.{is_asked}
 use Rattle.gq_verify.proofs.Service_name_keys.{asked_next, asked_here}
 use Rattle.gq_verify.proofs.Requests_outside_range.{skipped, rest, not_asked}
-use Rattle.gq_verify.proofs.asked.Requests.is_asked.Goals as goal
+use Rattle.gq_verify.proofs.asked.RequestCounts.is_asked.Goals as goal
 
 pub loop-place-init : goal.loop-place-init
 loop-place-init c =

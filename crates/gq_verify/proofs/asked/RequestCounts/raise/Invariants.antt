@@ -2,7 +2,7 @@ use Rattle.std.proofs.Common.{ℕ, List, drop}
 use Rattle.gq_model.specs.declared.program.Section.{Section}
 use Rattle.gq_verify.specs.Requested.{requests_for}
 use Rattle.gq_verify.proofs.Summed_section_requests.{IsRaised}
-use Rattle.gq_verify.proofs.asked.Requests.raise.Given as goal
+use Rattle.gq_verify.proofs.asked.RequestCounts.raise.Given as goal
 
 -- each number is raised, or is yet to be raised by those that are left
 abbrev pub invariant-loop-entry : goal.invariant-loop-entry

@@ -7,8 +7,8 @@ use Rattle.gq_verify.specs.Askers.{askers_of}
 use Rattle.gq_verify.specs.Requested.{Requested}
 use Rattle.gq_verify.proofs.Requests_list_ends.{put_here, put_past, put_all}
 use Rattle.gq_verify.proofs.Requests_outside_range.{skipped, rest, not_asker}
-use Rattle.gq_verify.proofs.asked.Requests.put_askers.Goals as goal
-use Rattle.gq_verify.proofs.asked.Requests.put_askers.Goals.{then-is_of_at+in_ok-push, else-is_of_at}
+use Rattle.gq_verify.proofs.asked.RequestCounts.put_askers.Goals as goal
+use Rattle.gq_verify.proofs.asked.RequestCounts.put_askers.Goals.{then-is_of_at+in_ok-push, else-is_of_at}
 
 pub loop-place-init : goal.loop-place-init
 loop-place-init c =

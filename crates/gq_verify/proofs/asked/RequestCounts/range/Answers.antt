@@ -3,7 +3,7 @@ use Rattle.gq_verify.specs.Requested.{Requested}
 use Rattle.gq_program.specs.Name_keys.{AreWithin}
 use Rattle.gq_verify.specs.internal.Service_keys.{keys_of}
 use Rattle.gq_verify.proofs.Service_name_keys.{length_keys, outside}
-use Rattle.gq_verify.proofs.asked.Requests.range.Goals as goal
+use Rattle.gq_verify.proofs.asked.RequestCounts.range.Goals as goal
 
 pub returns-clause-outside : goal.returns-clause-outside
 returns-clause-outside c =

@@ -1,7 +1,7 @@
 use Rattle.std.proofs.Common.{List, ℕ, ap, sym, ◌∙◌}
 use Rattle.gq_verify.specs.Requested.{Requested}
 use Rattle.gq_verify.proofs.Summed_section_requests.{added_on}
-use Rattle.gq_verify.proofs.asked.Requests.add_all.Goals as goal
+use Rattle.gq_verify.proofs.asked.RequestCounts.add_all.Goals as goal
 
 pub loop-entry-preserved : goal.loop-entry-preserved
 loop-entry-preserved c = λ v r.

@@ -5,7 +5,7 @@ use Rattle.gq_program.specs.Name_keys.{AreWithin}
 use Rattle.gq_verify.specs.internal.Service_keys.{keys_of}
 use Rattle.gq_verify.proofs.Summed_section_requests.{requests_push}
 use Rattle.gq_verify.proofs.Service_name_keys.{keys_push, length_keys}
-use Rattle.gq_verify.proofs.asked.Requests.push.Goals as goal
+use Rattle.gq_verify.proofs.asked.RequestCounts.push.Goals as goal
 
 pub invariant_of-self-2 : goal.invariant_of-self-2
 invariant_of-self-2 c =

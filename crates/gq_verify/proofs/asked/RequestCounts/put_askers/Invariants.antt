@@ -1,6 +1,6 @@
 use Rattle.std.proofs.Common.{◌≡◌, ◌++◌, drop}
 use Rattle.gq_verify.specs.Askers.{askers_of}
-use Rattle.gq_verify.proofs.asked.Requests.put_askers.Given as goal
+use Rattle.gq_verify.proofs.asked.RequestCounts.put_askers.Given as goal
 
 -- those so far, with those of the entries that are left, are all
 abbrev pub invariant-loop-place : goal.invariant-loop-place

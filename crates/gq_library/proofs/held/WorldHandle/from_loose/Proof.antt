@@ -26,10 +26,10 @@ use Rattle.gq_world.specs.contracts.world.World.{the_row as world_row}
 use Rattle.gq_library.specs.Held_world.{boxed}
 use Rattle.gq_library.proofs.Loose_box_values.{both, Loose, loose_good, loose_out}
 use Rattle.gq_library.proofs.Held_value_ownership.{one, held_in}
-use Rattle.gq_library.specs.contracts.held.Held.from_loose.{ended, clauses}
-use Rattle.gq_library.specs.contracts.held.Held.from_loose.Key.{name as #self}
-use Rattle.gq_library.proofs.held.Held.from_loose.Statement.{statement}
-use Rattle.gq_library.proofs.held.Held.from_loose.Code as code
+use Rattle.gq_library.specs.contracts.held.WorldHandle.from_loose.{ended, clauses}
+use Rattle.gq_library.specs.contracts.held.WorldHandle.from_loose.Key.{name as #self}
+use Rattle.gq_library.proofs.held.WorldHandle.from_loose.Statement.{statement}
+use Rattle.gq_library.proofs.held.WorldHandle.from_loose.Code as code
 
 pub from_loose_spec : {M : Type 1} → statement M
 from_loose_spec 𝓤 𝓛 𝓜 𝓡 wired =
