@@ -68,7 +68,7 @@ module _ (text : List ℕ) (s : Scenario) (is : scenario_in text ≡ Ok s) where
     refused = tt;
   }
 
--- WHAT IS TOLD
+-- WHAT IS REPORTED
 
 module _ {W : Type 0} (contents : W → Option (List ℕ)) (path text : List ℕ) (old new : Counted W) where
   -- all its lines, and why it is refused

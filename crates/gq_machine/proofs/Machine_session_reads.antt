@@ -127,7 +127,7 @@ asked_is f s r a there session section =
     ∙ ap (λ (o : Option world.Session). reported_as r.session (section_for (ask_seen r.ask) (level_then (ask_seen r.ask) (level_in o))))
     (sym (session_found f s r.session there))
 
--- WHAT THE MACHINE'S READERS TELL
+-- WHAT THE MACHINE'S READERS RETURN
 
 module _ (i : Inside) (w : Machine) (e : machine_seen i ≡ w) (h : Holds i.fixed i.state) (l : AreLawful i.state.slots) where
   abbrev t : Slots

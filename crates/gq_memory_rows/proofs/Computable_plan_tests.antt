@@ -89,7 +89,7 @@ PlanOk total caps ps ns xs os =
     × (all_below (length os) (λ i. nat_le (get_or os i 0) 67108864) ≡ true)
     × (nat_le (length xs) 64 ≡ true)
 
--- WHAT THEY TELL
+-- WHAT THEY COMPUTE
 
 both : (a b : Bool) → (a && b) ≡ true → (a ≡ true) × (b ≡ true)
 both true b h = (refl, h)

@@ -279,7 +279,7 @@ more_leaves s (q ∷ places) (c ∷ cs) (suc i) p less f g e h = more_leaves s p
 pub places-count : (s : Scenario) → length (leaf_places 1 s.nodes) ≡ length (components s)
 places-count s = length-leaf_places 1 s.nodes ∙ components-count s
 
--- WHAT A NODE TELLS OF ITS LEAF
+-- WHAT A NODE HAS OF ITS LEAF
 
 pub record LeafAt (rows : List NodeRow) (n x : ℕ) (cs : List Component) : Type 0 where
   pub component : Component

@@ -54,7 +54,7 @@ sized s =
       nodes = least_nodes s.version all 0 s.nodes;
     }
 
--- WHAT IS TOLD OF A SCENARIO
+-- WHAT IS REPORTED OF A SCENARIO
 
 -- the lines of the `open` statements that are short
 abbrev pub shorts_of : Scenario → List ℕ

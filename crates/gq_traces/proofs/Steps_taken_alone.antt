@@ -114,7 +114,7 @@ module _ (s : Scenario) (x : ℕ) (less : x < length (components s)) (programs :
     count_then : length then.leaves ≡ length (components s)
     count_then = set_long w.leaves x (leaf_with leaf st) ∙ count
 
-    -- WHAT IS TOLD
+    -- WHAT IS PRINTED
 
     module _ (stands : ∥ Stands s w ∥₁) (notes : PrintedState) (noted : AreNoted s w notes) where
       left : AreNoted s then notes × (changes s (budgets_of s) (label_at (slice_get (components s) x)) w then Quiet ≡ [])

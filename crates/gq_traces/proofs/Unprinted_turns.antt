@@ -148,7 +148,7 @@ started w programs aheads slice same h at = record {
       (all_stand slice aheads.items (start_aheads (components w.scenario)) (at (subst (λ l. ArePrograms l (programs_of w.scenario)) (sym same) h)));
 }
 
--- WHAT IS TOLD OF A MACHINE
+-- WHAT IS REPORTED OF A MACHINE
 
 pub due_printed : (m : Machine) (w : World) (x : ℕ) (ps programs : List Entries) (ss stands : List places.Ahead) (o : Option stated.Due) (d : stated.Due)
     → m ≡ record { scenario = w.scenario; world = w.world } → ps ≡ programs → ss ≡ stands → o ≡ Some d → PrintsDue ps ss m.scenario m.world x o

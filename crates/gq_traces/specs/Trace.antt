@@ -212,7 +212,7 @@ abbrev pub after_all : System → Acts → Traced → Traced
 after_all system [] t = t
 after_all system (a ∷ acts) t = after_all system acts (after_act system a.0 a.1 t)
 
--- WHAT IS TOLD
+-- WHAT IS PRINTED
 
 -- a step that changes nothing to be reported is reported where all are
 abbrev pub printed_step : Bool → List ℕ → List ℕ → List ℕ

@@ -18,7 +18,7 @@ use Rattle.gq_laws.specs.Stands.{Stands}
 use Rattle.gq_prepared.specs.Leaf_holdings.{held_by_all, held_from}
 use Rattle.gq_world.proofs.World_turn_facts.{Promises}
 
--- WHAT ACCOUNTS TELL
+-- WHAT ACCOUNTS REPORT
 
 abbrev use_in : Option LeafAccount → ℕ
 use_in None = 0
