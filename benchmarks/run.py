@@ -180,7 +180,7 @@ def same_length(lines):
 
 
 def checked_by_clock(trade, text):
-    """The milliseconds of `trade check` of a text by the clock, the median of some runs, and what it told."""
+    """The milliseconds of `trade check` of a text by the clock, the median of some runs, and what it printed."""
     with tempfile.NamedTemporaryFile(suffix=".toml") as file:
         file.write(text)
         file.flush()
@@ -206,8 +206,8 @@ def budgets(trade):
     for name, text in texts.items():
         took, ran = checked_by_clock(trade, text)
         lines = ran.stdout.decode().split("\n")[:-1]
-        told = max((int(line.split()[-1]) for line in lines), default=None)
-        row(name, f"{took:.1f} ms", f"{checked_by_clock(trade, alone(text))[0]:.1f} ms", told if told is not None else ran.stderr.decode().strip())
+        printed = max((int(line.split()[-1]) for line in lines), default=None)
+        row(name, f"{took:.1f} ms", f"{checked_by_clock(trade, alone(text))[0]:.1f} ms", printed if printed is not None else ran.stderr.decode().strip())
 
 
 def words(benchmark):
@@ -412,13 +412,13 @@ def taken(trade, words, *texts):
         for path, text in zip(paths, texts):
             with open(path, "wb") as file:
                 file.write(text if isinstance(text, bytes) else text.encode())
-        told, least = os.path.join(room, "told"), []
+        printed, least = os.path.join(room, "printed"), []
         for _ in range(ROUNDS):
-            with open(told, "wb") as out:
+            with open(printed, "wb") as out:
                 running = subprocess.Popen([trade, *words, *paths], stdout=out, stderr=subprocess.DEVNULL)
                 _, _, used = os.wait4(running.pid, 0)
             least.append(used.ru_utime + used.ru_stime)
-        return min(least) * 1e3, os.path.getsize(told)
+        return min(least) * 1e3, os.path.getsize(printed)
 
 
 def in_words(milliseconds, size):

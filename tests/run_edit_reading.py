@@ -10,7 +10,7 @@ sys.path.insert(0, str(TOP / "tools"))
 sys.dont_write_bytecode = True
 from crates import Crates  # noqa: E402
 from edits import BadEdit, read_edit  # noqa: E402
-from try_edits import Told, breaks_others, has_read, parted, told, unread, why_refused  # noqa: E402
+from try_edits import CheckReport, breaks_others, has_read, parted, read_report, unread, why_refused  # noqa: E402
 
 SOURCE = """pub struct Box {
     size: u32,
@@ -91,7 +91,7 @@ class Reading(unittest.TestCase):
     def test_what_is_refused(self):
         half, even = self.edit(("self.size / 2", "self.size")), self.edit(("n == 0", "n == 1"))
         start = self.edit(("Box { size: ball.size }", "Box { size: 0 }"))
-        said = told("shapes", 1, REFUSED.split("\n"))
+        said = read_report("shapes", 1, REFUSED.split("\n"))
         self.assertEqual(set(said.refused), {"shapes::Box::half", "methods::even"})
         self.assertTrue(why_refused(half, said) and why_refused(even, said) and has_read(said, [half, even]))
         self.assertEqual(why_refused(start, said), "")
@@ -100,17 +100,17 @@ class Reading(unittest.TestCase):
 
     def test_what_says_nothing_of_a_contract(self):
         half = self.edit(("self.size / 2", "self.size"))
-        names = told("shapes", 1, ["./proofs/shapes/Box/half/Answers.antt:5:13: error: `returns`: module `Goals` has no `returns`", "only=1 proved=0"])
+        names = read_report("shapes", 1, ["./proofs/shapes/Box/half/Answers.antt:5:13: error: `returns`: module `Goals` has no `returns`", "only=1 proved=0"])
         self.assertEqual(why_refused(half, names), "")
-        self.assertTrue(unread(Told(1, ["src/methods.rt:5:9: error[unknown-name]: cannot find it", "src/methods.rt:5:9: error: no such type"], {}), [half]))
-        self.assertFalse(has_read(Told(1, ["src/methods.rt:5:9: error[unknown-name]: cannot find it"], {}), [half]))
-        self.assertFalse(has_read(Told(0, ["only=1 proved=1"], {}), [half]))
+        self.assertTrue(unread(CheckReport(1, ["src/methods.rt:5:9: error[unknown-name]: cannot find it", "src/methods.rt:5:9: error: no such type"], {}), [half]))
+        self.assertFalse(has_read(CheckReport(1, ["src/methods.rt:5:9: error[unknown-name]: cannot find it"], {}), [half]))
+        self.assertFalse(has_read(CheckReport(0, ["only=1 proved=1"], {}), [half]))
 
     def test_verdicts_decide(self):
         half = self.edit(("self.size / 2", "self.size"))
         answer = "./proofs/shapes/Box/half/Answers.antt:5:13: error: `returns`: no proof of it"
         for verdict, is_refused in (("not proved", True), ("no proof: `search` did not prove it", True), ("proved", False), ("could not tell", False)):
-            said = told("shapes", 1, [answer, f"fn shapes::shapes::Box::half: {verdict}", "only=1 proved=0"])
+            said = read_report("shapes", 1, [answer, f"fn shapes::shapes::Box::half: {verdict}", "only=1 proved=0"])
             self.assertEqual(why_refused(half, said) != "", is_refused)
 
     def test_files_outside(self):

@@ -74,7 +74,7 @@ def to_full_device(program, words):
 
 
 def to_closed_pipe(program, words, count):
-    """What a reader got that closes the pipe after so many bytes, what is told, and the status."""
+    """What a reader got that closes the pipe after so many bytes, what it reports, and the status."""
     source, target = os.pipe()
     if not count:
         os.close(source)
@@ -85,8 +85,8 @@ def to_closed_pipe(program, words, count):
         while len(got) < count and (more := os.read(source, count - len(got))):
             got += more
         os.close(source)
-    told = ran.communicate(timeout=SECONDS)[1]
-    return got, (told, ran.returncode)
+    reported = ran.communicate(timeout=SECONDS)[1]
+    return got, (reported, ran.returncode)
 
 
 def results(program, room):

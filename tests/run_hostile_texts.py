@@ -1,8 +1,8 @@
 #!/usr/bin/env python3
 """Hands texts of any bytes to the commands of a program that read a scenario: run_hostile_texts.py PROGRAM
 
-Long, deep and broken texts have to be refused with the line that is told beside each; texts made of a scenario by random changes, always the same
-ones, have to be done or refused, by `check`, `tree` and `faults` with the same line; of those that are done `size` tells no quantity that is less than its
+Long, deep and broken texts have to be refused with the line that stands beside each; texts made of a scenario by random changes, always the same
+ones, have to be done or refused, by `check`, `tree` and `faults` with the same line; of those that are done `size` prints no quantity that is less than its
 least one. A refusal is one line on standard error, with nothing on standard output (but for `faults`, of which the first line there has the same fault) and
 exit status 1. The program may take no more memory than 64 MiB and 50 times the text; 640 times, where the text is one of tables that have one key each, since
 the TOML reader takes room for fifteen keys for each table. The last line is 'N passed, M failed', and the exit status is 1 where one failed.
@@ -137,21 +137,21 @@ def is_size(stdout, stderr, status):
     """The least quantities of a scenario that is accepted: no `open` is short, and no quantity of a node or need is less than its least one."""
     lines = stdout.splitlines()
     pairs = [pair for line in lines if b" upgrade " not in line for pair in re.findall(rb" (?:need|quantum|caps) (\d+) least (\d+)", line)]
-    told = bool(pairs) and all(line.startswith(b"size ") for line in lines)
-    return status == 0 and not stderr and told and all(int(has) >= int(least) for has, least in pairs)
+    printed = bool(pairs) and all(line.startswith(b"size ") for line in lines)
+    return status == 0 and not stderr and printed and all(int(has) >= int(least) for has, least in pairs)
 
 
-def first_fault(told):
-    """The fault that `faults` tells first."""
-    return told.split(b"\n")[0].split(b": ", 1)[-1]
+def first_fault(printed):
+    """The fault that `faults` prints first."""
+    return printed.split(b"\n")[0].split(b": ", 1)[-1]
 
 
 def are_faults(got, checked):
-    """Faults of which the first is the one that `check` tells, in lines of printable characters; none where that is done."""
-    told, stderr, status = got
+    """Faults of which the first is the one that `check` prints, in lines of printable characters; none where that is done."""
+    printed, stderr, status = got
     if checked[2] == 0:
         return got == (b"", b"", 0)
-    return (b"trade: " + first_fault(told) + b"\n", stderr, status) == (checked[1], *checked[1:])
+    return (b"trade: " + first_fault(printed) + b"\n", stderr, status) == (checked[1], *checked[1:])
 
 
 def main():
@@ -163,8 +163,8 @@ def main():
         for (name, text, line), times in given:
             for words in COMMANDS:
                 got = result_of(program, words, room, text, times)
-                told = first_fault(got[0]) if words == ["faults"] else b""
-                if (told, *got[1:]) == (line.encode() if words == ["faults"] else b"", f"trade: {line}\n".encode(), 1):
+                printed = first_fault(got[0]) if words == ["faults"] else b""
+                if (printed, *got[1:]) == (line.encode() if words == ["faults"] else b"", f"trade: {line}\n".encode(), 1):
                     passed += 1
                 else:
                     failed += 1

@@ -3,11 +3,11 @@
 
 The runs are that of each example, with paths and in the stored form, and those of a few cases: a program given as code, the budgets
 of a scenario, its tree and its graph, the code of a leaf, and its program as text; and those that read no file: what a code means, and the version. For each growth that the run asks for, one after the
-other, the program is run with that growth refused. It then has to write nothing to standard output, to tell
+other, the program is run with that growth refused. It then has to write nothing to standard output, to report
 `trade: host memory refused`, and to end with status 3. With none refused it has to write the text of the example or the case.
 So are run some texts of the table of faults, of which a front may have been written before a growth is refused.
 
-Turns take no host memory: each case of a run, also traced and told at its end, asks for as many growths where each line of its turns has one turn as where it has all of its own.
+Turns take no host memory: each case of a run, also traced and with its accounts at its end, asks for as many growths where each line of its turns has one turn as where it has all of its own.
 
 The crates of component memory are run so by the program `benchmark`: with a growth refused it has to write nothing to standard
 output, to end standard error with a line after `benchmark: `, and to end with status 1.
@@ -122,8 +122,8 @@ def works(benchmark, shared, room):
         yield f"{work}, refused: any", True, growths > 0
         for number in range(1, growths + 1):
             (out, err, status), _ = result_of(benchmark, shared, room, work.split(), b"", number)
-            told = err.endswith(b"\n") and err.splitlines()[-1].startswith(b"benchmark: ")
-            yield f"{work}, refused: growth {number} of {growths}", (b"", True, 1), (out, told, status)
+            reported = err.endswith(b"\n") and err.splitlines()[-1].startswith(b"benchmark: ")
+            yield f"{work}, refused: growth {number} of {growths}", (b"", True, 1), (out, reported, status)
 
 
 def turns_of_one(turns):

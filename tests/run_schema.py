@@ -188,7 +188,7 @@ def part_validator(schema, steps):
     return validators.validator_for(schema)({**part(schema, steps), "definitions": schema["definitions"]})
 
 
-def told(values):
+def as_text(values):
     """Some values for a line that says what failed; nothing where there are none."""
     return ", ".join(map(repr, values))[:400]
 
@@ -209,7 +209,7 @@ def scenario_in(command, text):
 
 
 def is_right(stderr, status):
-    """Whether the tables of a scenario are right, by what its case wants; None where that does not tell."""
+    """Whether the tables of a scenario are right, by what its case wants; None where that does not say."""
     if WRONG.match(stderr):
         return False
     return True if status == 0 or RIGHT.match(stderr) else None
@@ -228,7 +228,7 @@ def problem_of(validator, name, tables, right):
     if name in EXCEPTIONS:
         return "this is no exception" if right or found else ""
     if right:
-        return told(found)
+        return as_text(found)
     return "" if found else "the program refuses what is valid"
 
 
@@ -262,7 +262,7 @@ def of_descriptions(schema):
         found = part(schema, steps)["properties"]
         bad = set(keys.split()) ^ set(found)
         bad |= {key for key in found if not re.fullmatch(r"[A-Z][^.\n]+\.", part(schema, (*steps, "properties", key)).get("description", ""))}
-        yield f"the descriptions of {keys}", told(sorted(bad))
+        yield f"the descriptions of {keys}", as_text(sorted(bad))
 
 
 def nodes(depth):
@@ -301,7 +301,7 @@ def of_keys(schema):
     values = {**LEAF, **PARENT, "any-child": True, "colour": 0} | {key: value for table in tables_in(whole(3)) for key, value in table.items()}
     for version in LACKING:
         tables = whole(version)
-        yield f"all keys of version {version}", told(reports(validator, tables))
+        yield f"all keys of version {version}", as_text(reports(validator, tables))
         for table in tables_in(tables):
             bad = []
             for key in sorted(table):
@@ -312,7 +312,7 @@ def of_keys(schema):
                 table[key] = values[key]
                 bad += [f"with {key}"] if validator.is_valid(tables) else []
                 del table[key]
-            yield f"the keys {' '.join(table)}", told(bad)
+            yield f"the keys {' '.join(table)}", as_text(bad)
 
 
 def of_upgrades(schema):
@@ -325,7 +325,7 @@ def of_upgrades(schema):
             tables = whole(version)
             tables["interface"] = {"e": {**ECHO, "need-caps": 0, **{key: [1] * count for key, count in given.items() if count is not None}}}
             bad += [f"{caps} capabilities"] if validator.is_valid(tables) != (caps in (None, upgrades or 0)) else []
-        yield f"{upgrades} upgrades in version {version}", told(bad)
+        yield f"{upgrades} upgrades in version {version}", as_text(bad)
 
 
 def bytes_of(value):
@@ -361,7 +361,7 @@ def of_quantities(schema):
             fits = found is not None and least <= found <= greatest
             unseen = fits and found % multiple != 0 and isinstance(value, str) and value.isdigit()
             bad += [value] if validator.is_valid(value) != (fits and found % multiple == 0) and not unseen else []
-        yield f"the quantity {'.'.join(steps)}", told(bad)
+        yield f"the quantity {'.'.join(steps)}", as_text(bad)
 
 
 def of_values(schema):
@@ -369,7 +369,7 @@ def of_values(schema):
     of_numbers = [(steps, [least, greatest], [least - 1, greatest + 1, str(least), 1.5, True, []]) for steps, least, greatest in NUMBERS]
     for steps, good, wrong in (*of_numbers, *VALUES):
         fits = part_validator(schema, steps).is_valid
-        yield f"the values of {'.'.join(steps) or 'a text'}", told([it for it in good if not fits(it)] + [it for it in wrong if fits(it)])
+        yield f"the values of {'.'.join(steps) or 'a text'}", as_text([it for it in good if not fits(it)] + [it for it in wrong if fits(it)])
 
 
 def of_mistakes(schema):
@@ -378,7 +378,7 @@ def of_mistakes(schema):
     for text, wanted in MISTAKES:
         found = reports(validator, document(text))
         passes = len(found) == len(wanted) and all(any(place == at and words in message for at, message in found) for place, words in wanted)
-        yield repr(text), "" if passes else told(found) or "nothing is reported"
+        yield repr(text), "" if passes else as_text(found) or "nothing is reported"
 
 
 def main():

@@ -2,7 +2,7 @@
 """tests/run_traces.py PROGRAM: holds `trade trace` and `trade state` against `trade run`, over all examples and all cases of runs.
 
 The lines of a trace that begin with `[`, with the account lines at its end, are the run's text, with `--all` and without. Without it the trace is what it is
-with it, but for the steps of which nothing but the first line is told, and the settings that change no value. The lines of a state that are not indented are
+with it, but for the steps of which nothing but the first line is printed, and the settings that change no value. The lines of a state that are not indented are
 the run's account lines; of a leaf that lives the lines `holds` add up to what it has used, and its quantum with what it receives less what it lends to its
 quota; of an init its quantum less what it hands on; so for capabilities. With `--at N` a state is that of a list of the first N turns with the settings
 before the last of them. The last line is 'N passed, M failed', and the exit status is 1 where one failed.
@@ -20,7 +20,7 @@ SETTING = re.compile(r"input (.*)\.(\d) = (\d+)$")
 ACCOUNT = re.compile(r"account .* quota (\d+)(?: used (\d+))?(?: caps (\d+))?(?: taken (\d+))?(?: steps \S+ (\w+))?$")
 
 
-def told(program, *words):
+def output(program, *words):
     """What the program writes, where it is done."""
     ran = subprocess.run([program, *map(str, words)], stdin=subprocess.DEVNULL, stdout=subprocess.PIPE, stderr=subprocess.DEVNULL, timeout=SECONDS)
     return ran.stdout.decode() if ran.returncode == 0 else None
@@ -117,20 +117,20 @@ def states_on_the_way(program, scenario, turns):
         fewer = pathlib.Path(room, "turns")
         for most in sorted({0, 1, 2, 5, number // 2, max(number - 1, 0), number, number + 1}):
             fewer.write_text(first(all_turns, most))
-            if told(program, "state", "--at", str(most), scenario, turns) != told(program, "state", scenario, fewer):
+            if output(program, "state", "--at", str(most), scenario, turns) != output(program, "state", scenario, fewer):
                 yield most
 
 
 def faults(program, run, scenario, turns):
     """What of the trace and the state of a run is not as the run's text says."""
-    changes, steps = told(program, "trace", scenario, turns), told(program, "trace", "--all", scenario, turns)
+    changes, steps = output(program, "trace", scenario, turns), output(program, "trace", "--all", scenario, turns)
     if changes is None or of_trace(changes) != run:
         yield "trace"
     if steps is None or of_trace(steps) != run:
         yield "trace --all"
     if changes is None or steps is None or changes_in(steps) != changes:
         yield "trace beside trace --all"
-    state = told(program, "state", scenario, turns)
+    state = output(program, "state", scenario, turns)
     if state is None:
         yield "state"
         return
@@ -146,7 +146,7 @@ def main(words):
         sys.exit(__doc__)
     program, passed, failed = str(pathlib.Path(words[0]).resolve()), 0, 0
     for scenario, turns in runs():
-        run = told(program, "run", scenario, turns)
+        run = output(program, "run", scenario, turns)
         if run is None:
             continue
         found = list(faults(program, run, scenario, turns))

@@ -17,7 +17,7 @@ CUT = "# cut after "
 MOST, MORE = 1_000_000, 16
 
 
-def told(program, *words):
+def output(program, *words):
     """What the program writes, where it is done."""
     ran = subprocess.run([program, *map(str, words)], stdin=subprocess.DEVNULL, stdout=subprocess.PIPE, stderr=subprocess.DEVNULL, timeout=SECONDS)
     return ran.stdout.decode() if ran.returncode == 0 else None
@@ -53,10 +53,10 @@ def faults(program, scenario, text, most):
         path.write_text(text)
         names = sorted({name for name, _ in turns})
         more.write_text(text + "".join(f"{name} {MORE}\n" for name in names))
-        run = told(program, "run", scenario, path)
+        run = output(program, "run", scenario, path)
         if run is None:
             yield "its run"
-        elif not cut and sum(count for _, count in turns) + MORE * len(names) <= MOST and run != told(program, "run", scenario, more):
+        elif not cut and sum(count for _, count in turns) + MORE * len(names) <= MOST and run != output(program, "run", scenario, more):
             yield "rest at its end"
 
 
@@ -65,14 +65,14 @@ def main(words):
         sys.exit(__doc__)
     program, passed, failed, differ, seen = str(pathlib.Path(words[0]).resolve()), 0, 0, 0, set()
     for scenario in scenarios():
-        rounds = told(program, "turns", scenario)
+        rounds = output(program, "turns", scenario)
         if rounds is None or scenario.read_bytes() in seen:
             continue
         seen.add(scenario.read_bytes())
-        lists = {seed: told(program, "turns", "--seed", seed, scenario) for seed in SEEDS}
+        lists = {seed: output(program, "turns", "--seed", seed, scenario) for seed in SEEDS}
         found = [f"rounds: {fault}" for fault in faults(program, scenario, rounds, MOST)]
         for seed, text in lists.items():
-            if text is None or text != told(program, "turns", "--seed", seed, scenario):
+            if text is None or text != output(program, "turns", "--seed", seed, scenario):
                 found.append(f"seed {seed}: not the same again")
             else:
                 found += [f"seed {seed}: {fault}" for fault in faults(program, scenario, text, 16)]

@@ -59,12 +59,12 @@ def tried(room):
     """For each case, what the program writes by `rt try`, and its status."""
     ran = subprocess.run(["rt", "try", "--cases", str(room / "cases")], cwd=TOP / "crates" / "trade", stdin=subprocess.DEVNULL, capture_output=True, check=False)
     parts = re.split(rb"^== (\S+)\n", ran.stdout, flags=re.MULTILINE)
-    told = dict(zip(parts[1::2], parts[2::2]))
+    printed = dict(zip(parts[1::2], parts[2::2]))
     found, said = {}, b""
     for line in ran.stderr.splitlines(keepends=True):
         ended = re.match(rb"case=(\S+) run=ended status=(\d+) ", line)
         if ended:
-            found[ended[1].decode()] = told.get(ended[1], b""), said, int(ended[2])
+            found[ended[1].decode()] = printed.get(ended[1], b""), said, int(ended[2])
         said = b"" if line.startswith(b"case=") else said + line
     return found
 

@@ -13,7 +13,7 @@ import tempfile
 TOP = pathlib.Path(__file__).resolve().parent.parent
 
 
-def told(program, *words):
+def output(program, *words):
     """What the program writes."""
     return subprocess.run([program, *words], stdin=subprocess.DEVNULL, stdout=subprocess.PIPE, check=True).stdout
 
@@ -27,11 +27,11 @@ def put_pair(folder, name, tree, trace):
 def put_runs(program, folder):
     """The texts of all examples: over each of their lists of turns, and over turns that bring all work to rest, with all steps."""
     for scenario in sorted((TOP / "examples").glob("*.toml")):
-        tree, made = told(program, "tree", scenario), folder / f"{scenario.stem}.turns"
-        made.write_bytes(told(program, "turns", scenario))
-        put_pair(folder, f"{scenario.stem}-made", tree, told(program, "trace", "--all", scenario, made))
+        tree, made = output(program, "tree", scenario), folder / f"{scenario.stem}.turns"
+        made.write_bytes(output(program, "turns", scenario))
+        put_pair(folder, f"{scenario.stem}-made", tree, output(program, "trace", "--all", scenario, made))
         for turns in sorted(scenario.parent.glob(f"{scenario.stem}.*turns")):
-            put_pair(folder, turns.stem, tree, told(program, "trace", scenario, turns))
+            put_pair(folder, turns.stem, tree, output(program, "trace", scenario, turns))
 
 
 def main():

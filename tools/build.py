@@ -2,7 +2,7 @@
 """tools/build.py PROGRAM: proves and builds the crates that a program stands on, side by side with all processors, and then the program. A static library
 for programs in C, as gq_library, is built the same way.
 
-It tells on standard error which crate of how many was proved, and how long that took. What was built from the same sources before is kept. It ends with 0
+It reports on standard error which crate of how many was proved, and how long that took. What was built from the same sources before is kept. It ends with 0
 where the program was built; what the toolchain said of a crate is in crates/NAME/out/build.log.
 """
 import concurrent.futures

@@ -76,12 +76,12 @@ def table_files(text):
 def check_trusted():
     found, wrong = table_files(text_of("docs/TRUSTED.md"))
     yield from (f"docs/TRUSTED.md lists {name}, which is no file" for name in wrong)
-    told = text_of("docs/PROOFS.md").partition("## The laws in plain words")[2]
+    paragraphs = text_of("docs/PROOFS.md").partition("## The laws in plain words")[2]
     mentioned = set()
     for path, names in TRUSTED.items():
         mentioned |= mentioned_by(CRATES / path, names)
     for name, path in laws().items():
-        if f"**`{name}`**" in told and not path.is_relative_to(CRATES / "gq_laws") or name in LAWS:
+        if f"**`{name}`**" in paragraphs and not path.is_relative_to(CRATES / "gq_laws") or name in LAWS:
             mentioned |= mentioned_by(path, {name})
     files = {module.replace(".", "/") for module, _ in mentioned}
     yield from (f"docs/TRUSTED.md does not list {path}" for path in sorted(files - set(found)))

@@ -80,7 +80,7 @@ class Crates:
         return self.folder(name) / "out" / name if self.is_program(name) else self.library(name) / f"{name}.rlib"
 
     def words(self, name, jobs=1):
-        """What a check of a crate is told, in a folder with its sources."""
+        """The words of a check of a crate, in a folder with its sources."""
         of_kit = ["std", *(used for used in self.uses[name] if used not in self.uses)]
         words = ["--crate-name", name, "src/main.rt" if self.is_program(name) else "src/lib.rt"]
         for used in of_kit:
@@ -145,6 +145,6 @@ class Crates:
         return is_built
 
     def is_done(self, command, name, log):
-        """Runs a command in the folder of a crate, and tells whether it ended with 0."""
+        """Runs a command in the folder of a crate, and returns whether it ended with 0."""
         how = {"stdin": subprocess.DEVNULL, "stdout": log, "stderr": subprocess.STDOUT}
         return subprocess.run(command, cwd=self.folder(name), check=False, **how).returncode == 0

@@ -19,11 +19,11 @@ def origins(names, crates):
     """For each crate, a sum of all that its library or program is made from: its sources, the libraries that it lists, and the toolchain."""
     kit, found = (crates.kit / "KIT-ID").read_bytes(), {}
     for name in names:
-        told = hashlib.sha256(kit + repr(crates.uses[name]).encode())
+        digest = hashlib.sha256(kit + repr(crates.uses[name]).encode())
         for path in sorted(path for part in PARTS for path in (crates.folder(name) / part).rglob("*") if path.is_file()):
-            told.update(repr((str(path.relative_to(crates.at)), path.read_bytes())).encode())
-        told.update("".join(found[used] for used in crates.own(name)).encode())
-        found[name] = told.hexdigest()
+            digest.update(repr((str(path.relative_to(crates.at)), path.read_bytes())).encode())
+        digest.update("".join(found[used] for used in crates.own(name)).encode())
+        found[name] = digest.hexdigest()
     return found
 
 

@@ -1,11 +1,11 @@
 #!/usr/bin/env python3
-"""tools/measure_gate.py [COMMAND..]: runs ./check, or that command, and tells the processor seconds of each crate's proof, tests and edits.
+"""tools/measure_gate.py [COMMAND..]: runs ./check, or that command, and prints the processor seconds of each crate's proof, tests and edits.
 
 It looks at the running checks several times a second, so what a check takes between the last look and its end is not counted. It ends with the
-status of what it ran. Where it is interrupted it ends what it ran, and tells what was taken so far.
+status of what it ran. Where it is interrupted it ends what it ran, and prints what was taken so far.
 
 How long the same check takes changes with what others do on the machine, by a factor of two and more. So once a minute it does a small piece of work that
-is always the same, and tells at the end what that took, as a hint of how fast the machine was.
+is always the same, and prints at the end what that took, as a hint of how fast the machine was.
 """
 import array
 import os

@@ -1,5 +1,5 @@
 #!/usr/bin/env python3
-"""tools/proof_times.py FOLDER: tells where the time of a check from nothing went, by what it kept in that folder.
+"""tools/proof_times.py FOLDER: prints where the time of a check from nothing went, by what it kept in that folder.
 
 Remove crates/NAME/out/incremental, run `rt check` in crates/NAME, and then this on crates/NAME/out/incremental. A check writes what it has checked file by
 file, so the time between one file and the one before is what that file took. It prints the seconds, the megabytes and the name of the 40 that took longest:

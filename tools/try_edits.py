@@ -87,7 +87,7 @@ class Verdicts:
 
 
 @dataclasses.dataclass
-class Told:
+class CheckReport:
     """What a check said: its exit status, its lines, and of each function what keeps it from being proved by itself."""
 
     status: int
@@ -111,11 +111,11 @@ def check(crates, name, edits, kept, more=()):
         ran = subprocess.run(crates.check(name, ["--incremental", kept, *more]), cwd=room, check=False, **how)
     if crates.times:
         print(f"{time.monotonic() - start:.0f} s: {name}: {' '.join(edit.path.stem for edit in edits)}", file=sys.stderr, flush=True)
-    return told(name, ran.returncode, ran.stdout.rstrip("\n").split("\n"))
+    return read_report(name, ran.returncode, ran.stdout.rstrip("\n").split("\n"))
 
 
-def told(name, status, lines):
-    """What a check said, from its lines. Of a goal without an answer it tells in notes, before the line of the function."""
+def read_report(name, status, lines):
+    """What a check said, from its lines. Of a goal without an answer it reports in notes, before the line of the function."""
     refused, goals, verdicts, renamed = {}, [], {}, set()
     for line in lines:
         answer = re.match(r"(?:\./)?proofs/(\S+)/(?:Answers|Proof)\.antt:\d+:\d+: error: (.*)", line)
@@ -133,7 +133,7 @@ def told(name, status, lines):
             refused.update({function[1]: open_goals[0]} if open_goals and function[1] not in refused else {})
             goals, verdicts[function[1]] = [], line[function.end():]
     # What is proved all the same, or what antt could not tell, is not refused.
-    return Told(status, lines, {path: why for path, why in refused.items() if verdicts.get(path, "not proved").startswith(("not proved", "no proof"))})
+    return CheckReport(status, lines, {path: why for path, why in refused.items() if verdicts.get(path, "not proved").startswith(("not proved", "no proof"))})
 
 
 def proofs_of(path):
@@ -160,7 +160,7 @@ def breaks_others(crates, name, edits, said):
 
 
 def unread(said, edits):
-    """The first line by which a check tells that it can't read the crate with some edits, so that no contract was tried; nothing where it can."""
+    """The first line by which a check reports that it can't read the crate with some edits, so that no contract was tried; nothing where it can."""
     files = {file for edit in edits for file, _, _ in edit.pairs}
     for line in said.lines:
         if NOT_STATED in line:

@@ -1,5 +1,5 @@
 #!/usr/bin/env python3
-"""tools/wide_lines.py: tells the lines of code, definitions, proofs and documents that have more than 160 characters."""
+"""tools/wide_lines.py: prints the lines of code, definitions, proofs and documents that have more than 160 characters."""
 import pathlib
 import subprocess
 import sys

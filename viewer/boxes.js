@@ -77,8 +77,8 @@ class BoxView {
   /** The arrow from a leaf to the one that starts after it. */
   makeThen({ client, server, points }) {
     const size = this.plan.scale, { nodes } = this.run, [[x, y]] = points, group = makeSvg("g", { class: "then" });
-    const told = makeSvg("title", {}, `${nodes[server].name} starts after ${nodes[client].name}`), d = wayPath(points, 7 * size);
-    group.append(told, makeSvg("path", { class: "reach", d }), makeSvg("path", { class: "way", d }), makeTip(points, size, 0.75));
+    const title = makeSvg("title", {}, `${nodes[server].name} starts after ${nodes[client].name}`), d = wayPath(points, 7 * size);
+    group.append(title, makeSvg("path", { class: "reach", d }), makeSvg("path", { class: "way", d }), makeTip(points, size, 0.75));
     const down = points.at(-1)[0] === x, place = down ? `translate(${x + 7 * size} ${(y + points.at(-1)[1]) / 2 + 4 * size})` : `translate(${x + 5} ${y - 4})`;
     group.append(makeSvg("text", { transform: `${place} scale(${size})`, class: "soft" }, "then"));
     return { group, client, server };
@@ -113,8 +113,8 @@ class BoxView {
     }
     this.svg.classList.toggle("choosing", chosen !== undefined && this.run.nodes[chosen].leaf);
     const turn = this.run.events.turn[state.event];
-    const told = `${counted(this.run.nodes.length, "component")} and ${counted(state.sessions.length, "open session")} at turn ${grouped(turn)}`;
-    setAttributes(this.svg, { "aria-label": told });
+    const summary = `${counted(this.run.nodes.length, "component")} and ${counted(state.sessions.length, "open session")} at turn ${grouped(turn)}`;
+    setAttributes(this.svg, { "aria-label": summary });
   }
   /** Scrolls to a box, where the drawing is higher than its panel. */
   show(node) {
@@ -156,24 +156,24 @@ class BoxView {
     setText(part.title, facts.join("\n"));
   }
   updateWay(part, sessions, mine) {
-    const told = sessions.find(s => s.stage === AT_HAND) ?? sessions.find(s => s.stage === WAITS) ?? sessions[0];
-    const kind = !told ? "closed" : ["", "idle", "waits", "hand"][told.stage];
-    setAttributes(part.path, { class: `way ${kind}${mine}`, style: told ? `stroke:${part.colour}` : "" });
-    setAttributes(part.tip, { class: `tip${mine}`, display: told ? "inline" : "none" });
-    setText(part.title, told ? `${part.name}\n${sessions.map(s => sessionTold(this.run, s)).join("\n")}` : `${part.name}, not open`);
+    const labelled = sessions.find(s => s.stage === AT_HAND) ?? sessions.find(s => s.stage === WAITS) ?? sessions[0];
+    const kind = !labelled ? "closed" : ["", "idle", "waits", "hand"][labelled.stage];
+    setAttributes(part.path, { class: `way ${kind}${mine}`, style: labelled ? `stroke:${part.colour}` : "" });
+    setAttributes(part.tip, { class: `tip${mine}`, display: labelled ? "inline" : "none" });
+    setText(part.title, labelled ? `${part.name}\n${sessions.map(s => sessionText(this.run, s)).join("\n")}` : `${part.name}, not open`);
     setText(part.label.firstChild, part.title.textContent);
-    setAttributes(part.label, { class: `label${told ? "" : " closed"}${mine}${part.whole ? " whole" : ""}` });
-    Object.assign(part, { sessions, told });
+    setAttributes(part.label, { class: `label${labelled ? "" : " closed"}${mine}${part.whole ? " whole" : ""}` });
+    Object.assign(part, { sessions, labelled });
     this.labelWay(part);
   }
   /** The label of a way: as long as there is room for, or whole. */
-  labelWay({ way, whole, above, below, sessions, told }) {
-    const room = whole ? Infinity : way.room / this.plan.scale, asked = told?.stage > IDLE;
-    setText(above, firstFit(labelsOf(way.service, sessions.length, told), room, asked ? BOLD_FONT : TEXT_FONT));
+  labelWay({ way, whole, above, below, sessions, labelled }) {
+    const room = whole ? Infinity : way.room / this.plan.scale, asked = labelled?.stage > IDLE;
+    setText(above, firstFit(labelsOf(way.service, sessions.length, labelled), room, asked ? BOLD_FONT : TEXT_FONT));
     setAttributes(above, { class: asked ? "asked" : "" });
     if (!below) return;
     const sum = { lends: sessions.reduce((total, s) => total + s.lends, 0), caps: sessions.reduce((total, s) => total + s.caps, 0) };
-    setText(below, told ? firstFit([`lends ${lent(this.run, sum)}`, lent(this.run, sum)], room) : "");
+    setText(below, labelled ? firstFit([`lends ${lent(this.run, sum)}`, lent(this.run, sum)], room) : "");
   }
 }
 
@@ -204,8 +204,8 @@ function makeTip(points, scale, part = 1) {
   return makeSvg("path", { class: "tip", d: `M${x} ${y}L${x - dx - dy / 2} ${y - dy + dx / 2}L${x - dx + dy / 2} ${y - dy - dx / 2}Z` });
 }
 
-/** All that the trace tells of a session. */
-function sessionTold(run, session) {
+/** All that the trace has of a session. */
+function sessionText(run, session) {
   const request = session.request ? `, ${session.request} ${STAGES[session.stage]}` : "";
   return `session ${session.number} at level ${session.level}, lends ${counted(session.lends, "byte")}${run.two ? ` and ${caps(session.caps)}` : ""}${request}`;
 }

@@ -53,7 +53,7 @@ const fit = (text, width, font) => shortened(text, width, part => widthOf(part, 
 /** The first of several texts that is not wider than so many pixels; the last one is shortened. */
 const firstFit = (texts, width, font) => firstOf(texts, width, text => widthOf(text, font));
 
-// A shape for each phase, in a square of 10, so that no phase is told by its colour alone.
+// A shape for each phase, in a square of 10, so that no phase is known by its colour alone.
 const GLYPHS = {
   pending: "M1 9V1H9V9Z M3 5H7",
   running: "M2 .5L9.5 5L2 9.5Z",

@@ -49,11 +49,11 @@ function shortened(text, width, measure) {
 /** The first of several texts that is not wider than so many pixels; the last one is shortened. */
 const firstOf = (texts, width, measure) => texts.find(text => measure(text) <= width) ?? shortened(texts.at(-1), width, measure);
 
-/** What the label of a way says of its open sessions, the longest text first; `told` is the one that matters most, undefined where none is open. */
-function labelsOf(service, count, told) {
-  if (!told) return [service];
-  const name = count > 1 ? `${count} × ${service}` : service, level = `${name} L${told.level}`;
-  if (told.stage === IDLE) return [level, name, service];
-  const request = `${told.request} ${STAGES[told.stage]}`;
-  return [`${level} ${request}`, `${name} ${request}`, `${name} ${told.request}`, name, service];
+/** What the label of a way says of its open sessions, the longest text first; `shown` is the one that matters most, undefined where none is open. */
+function labelsOf(service, count, shown) {
+  if (!shown) return [service];
+  const name = count > 1 ? `${count} × ${service}` : service, level = `${name} L${shown.level}`;
+  if (shown.stage === IDLE) return [level, name, service];
+  const request = `${shown.request} ${STAGES[shown.stage]}`;
+  return [`${level} ${request}`, `${name} ${request}`, `${name} ${shown.request}`, name, service];
 }

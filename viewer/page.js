@@ -180,7 +180,7 @@ function start(title, tree, trace) {
   resize();
 }
 /** Says something in place of a run. */
-function tell(text) {
+function showNotice(text) {
   page.run = undefined;
   byId("pick").hidden = false;
   byId("app").hidden = true;
@@ -188,13 +188,13 @@ function tell(text) {
 }
 /** Starts with texts that are still to come, or says why they aren't a run. */
 async function attempt(title, texts) {
-  tell("reading …");
+  showNotice("reading …");
   try {
     const [tree, trace] = await Promise.all(texts);
     await new Promise(drawn => { setTimeout(drawn, 20); });
     start(title, tree, trace);
   } catch (fault) {
-    tell(fault instanceof Malformed ? fault.message : `These texts can't be shown: ${fault.message}`);
+    showNotice(fault instanceof Malformed ? fault.message : `These texts can't be shown: ${fault.message}`);
     if (!(fault instanceof Malformed)) throw fault;
   }
 }
@@ -210,7 +210,7 @@ function listen() {
   byId("kind").addEventListener("change", () => { page.kind = byId("kind").value; drawPlot(); });
   const canvas = document.querySelector("#plot canvas");
   canvas.addEventListener("click", event => go(page.plot.eventUnder(event.offsetX)));
-  canvas.addEventListener("mousemove", event => setTitle(canvas, page.plot.told(event.offsetX, event.offsetY)));
+  canvas.addEventListener("mousemove", event => setTitle(canvas, page.plot.described(event.offsetX, event.offsetY)));
   byId("time").addEventListener("scroll", () => page.plot && drawPlot());
   addEventListener("keydown", onKey);
   addEventListener("resize", () => {

@@ -103,7 +103,7 @@ class Plot {
   /** The event under a place of the pointer. */
   eventUnder(x) { return eventAt(this.run, this.axis, this.view[0] + x / this.width * (this.view[1] - this.view[0])); }
   /** What is said of a place of the pointer: the account there. */
-  told(x, y) {
+  described(x, y) {
     const row = this.rows.findLast(r => r.y <= y + this.scrolled && y >= ROW.top), event = this.eventUnder(x);
     if (!row) return "";
     const node = this.run.nodes[row.node], account = accountAt(this.run, row.node, event), hidden = node.mostSessions - node.lanes.length;

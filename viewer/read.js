@@ -1,8 +1,8 @@
 "use strict";
 // Reading: the texts of `trade tree` and `trade trace` become a run. Pure functions; nothing here touches the page.
 //
-// A run can have a million events, so what a trace tells is kept in columns of plain numbers (a Table) and not as an object for each line. Everything
-// that changes has rows: a row says at which event it came and what holds from there on. An event is the start (0), a told turn, a setting of an
+// A run can have a million events, so what a trace has is kept in columns of plain numbers (a Table) and not as an object for each line. Everything
+// that changes has rows: a row says at which event it came and what holds from there on. An event is the start (0), a turn of the trace, a setting of an
 // input, or the end (the last one).
 
 const PHASES = ["pending", "running", "blocked", "serving", "handling", "exited"];

@@ -11,7 +11,7 @@ function lastUpTo(rows, eventOf, event) {
   return low;
 }
 
-/** The account of a row; the row stands in it, so that what shows it can tell whether it is shown already. */
+/** The account of a row; the row stands in it, so that what shows it knows whether it is shown already. */
 function accountOf({ accounts: t }, row) {
   return { row, quota: t.quota[row], used: t.used[row], caps: t.caps[row], taken: t.taken[row], steps: t.steps[row], phase: PHASES[t.phase[row]] };
 }
@@ -66,11 +66,11 @@ function accountLine(run, node, account) {
 const linesUpTo = (run, event) => run.lines.at[event + 1];
 const lineText = (run, line) => decoder.decode(run.bytes.subarray(run.lines.from[line], run.lines.to[line]));
 
-/** The rows of a table that an event told. */
+/** The rows of a table that an event reported. */
 const rowsAt = (table, event) => Array.from({ length: table.at[event + 1] - table.at[event] }, (_, i) => table.at[event] + i);
 
 const INIT_FIELDS = ["quota", "caps"], LEAF_FIELDS = ["phase", "quota", "used", "caps", "taken"];
-/** What an event changes in accounts: { node, field, before, after } each. Steps are left out: a trace tells them only beside another change. */
+/** What an event changes in accounts: { node, field, before, after } each. Steps are left out: a trace has them only beside another change. */
 function accountChanges(run, event) {
   if (event === 0) return [];
   return rowsAt(run.accounts, event).flatMap(row => {
@@ -157,8 +157,8 @@ function sentence(run, event) {
 
 /** The values of all inputs after an event, in words; empty where no component has inputs. */
 function inputsTold(run, event) {
-  const told = run.nodes.filter(n => n.inputs?.length).map(n => `${n.name} ${inputsAt(run, n.number, event).map(grouped).join(" ")}`);
-  return told.length ? `Inputs: ${told.join(" · ")}` : "";
+  const settings = run.nodes.filter(n => n.inputs?.length).map(n => `${n.name} ${inputsAt(run, n.number, event).map(grouped).join(" ")}`);
+  return settings.length ? `Inputs: ${settings.join(" · ")}` : "";
 }
 
 /** A change in words. */

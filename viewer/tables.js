@@ -1,11 +1,11 @@
 "use strict";
-// The table of accounts, the lines that were written, the open sessions: what is told in words and numbers.
+// The table of accounts, the lines that were written, the open sessions: in words and numbers.
 
 const SHOWN_LINES = 300, SHOWN_SESSIONS = 200;
 const COLUMNS = [
   ["component", 0, "the component; a colour marks the servers"], ["phase", 94, "what a leaf does at this event"],
   ["used", 80, "bytes that a leaf holds"], ["quota", 80, "bytes that a leaf may hold; of an init, what it has not handed out"],
-  ["caps", 68, "capabilities: taken / quota; of an init, what it has not handed out"], ["steps", 62, "steps taken, as of the last line that tells them"],
+  ["caps", 68, "capabilities: taken / quota; of an init, what it has not handed out"], ["steps", 62, "steps taken, as of the last line that has them"],
 ];
 
 class AccountTable {
@@ -85,7 +85,7 @@ function sessionCard(run, session, changed) {
   const request = session.request ? make("b", {}, ` · ${session.request} ${STAGES[session.stage]}`) : "";
   const head = make("div", {}, make("b", {}, `${number} ${service}`), ` level ${level}`, request);
   const ends = make("div", {}, `${name(client)} → ${name(server)} `, make("span", { class: "soft" }, `lends ${lent(run, session)}`));
-  const title = `${run.nodes[client].label}\nwith ${run.nodes[server].label}\n${sessionTold(run, session)}`;
+  const title = `${run.nodes[client].label}\nwith ${run.nodes[server].label}\n${sessionText(run, session)}`;
   const colour = `border-left-color:${serverColour(run, server)}`;
   return make("div", { class: `card ${changed ? "now" : ""}`, style: colour, title }, head, ends);
 }

@@ -137,7 +137,7 @@ for (const { name, tree, trace } of pairs) {
     assert.deepEqual(before.sessions, end.sessions);
   });
 
-  test(`${name}: at each event accounts and sessions fit together, and the event is told in words`, () => {
+  test(`${name}: at each event accounts and sessions fit together, and the event is put in words`, () => {
     let before = [];
     for (let k = 0; k <= run.last; k++) {
       const state = v.stateAt(run, k);
@@ -340,17 +340,17 @@ test("a client of all servers that there can be: each has a colour of its own", 
 });
 
 test("labels are as long as there is room for", () => {
-  const measure = label => 6 * label.length, told = (level, stage, request) => ({ level, stage: v.STAGES.indexOf(stage), request });
+  const measure = label => 6 * label.length, labelled = (level, stage, request) => ({ level, stage: v.STAGES.indexOf(stage), request });
   assert.equal(v.shortened("file_system", 66, measure), "file_system");
   assert.equal(v.shortened("file_system", 65, measure), "file_syst…");
   assert.equal(v.shortened("file_system", 12, measure), "f…");
   assert.equal(v.shortened("file_system", 11, measure), "");
   assert.deepEqual(v.labelsOf("log", 0, undefined), ["log"]);
-  assert.deepEqual(v.labelsOf("log", 1, told(2, "idle", "")), ["log L2", "log", "log"]);
+  assert.deepEqual(v.labelsOf("log", 1, labelled(2, "idle", "")), ["log L2", "log", "log"]);
   const long = ["3 × log L0 call 0 at hand", "3 × log call 0 at hand", "3 × log call 0", "3 × log", "log"];
-  assert.deepEqual(v.labelsOf("log", 3, told(0, "at hand", "call 0")), long);
+  assert.deepEqual(v.labelsOf("log", 3, labelled(0, "at hand", "call 0")), long);
   for (let room = 6; room < 200; room++) {
-    const texts = v.labelsOf("database", 2, told(1, "waits", "up 1")), shown = v.firstOf(texts, room, measure);
+    const texts = v.labelsOf("database", 2, labelled(1, "waits", "up 1")), shown = v.firstOf(texts, room, measure);
     assert.ok(measure(shown) <= room);
     const fits = texts.find(label => measure(label) <= room);
     assert.ok(fits === undefined ? "database".startsWith(shown.replace("…", "")) : shown === fits);
@@ -530,16 +530,16 @@ test("a million turns of 64 leaves are read, and the state in their middle is ma
 
 test("settings are events between turns, and the values of inputs hold from there on", () => {
   const tree = text(join(viewer, "tests", "settings.tree")), trace = text(join(viewer, "tests", "settings.trace"));
-  const nodes = v.readTree(tree), run = v.readTrace(trace, nodes), values = new Map(), told = [];
+  const nodes = v.readTree(tree), run = v.readTrace(trace, nodes), values = new Map(), sentences = [];
   const named = new Map(nodes.filter(n => n.leaf).map(n => [n.name, n.number]));
   let event = 0;
   for (const line of trace.split("\n")) {
     const set = /^input (?:\S+ -> )*(\S+)\.(\d) = (\d+)$/.exec(line);
     if (set) {
       values.set(`${named.get(set[1])} ${set[2]}`, Number(set[3]));
-      told.push(v.sentence(run, ++event)[0]);
+      sentences.push(v.sentence(run, ++event)[0]);
       assert.equal(v.inputsAt(run, named.get(set[1]), event)[Number(set[2])], Number(set[3]));
-      assert.equal(told.at(-1), `From outside: input ${set[2]} of ${set[1]} is ${Number(set[3]).toLocaleString("en")} from here on`);
+      assert.equal(sentences.at(-1), `From outside: input ${set[2]} of ${set[1]} is ${Number(set[3]).toLocaleString("en")} from here on`);
     } else if (/^turn /.test(line)) event++;
     for (const { number, inputs } of nodes.filter(n => n.leaf)) {
       const exited = v.accountAt(run, number, event).phase === "exited";
@@ -547,7 +547,7 @@ test("settings are events between turns, and the values of inputs hold from ther
       assert.deepEqual(v.inputsAt(run, number, event), inputs.map((_, i) => exited ? 0 : values.get(`${number} ${i}`) ?? 0));
     }
   }
-  assert.ok(told.length > 2);
+  assert.ok(sentences.length > 2);
   assert.match(v.inputsTold(run, event), /^Inputs: drv /);
   assert.throws(() => v.readTrace(trace.replace(".0 = ", ".7 = "), nodes), v.Malformed);
 });

@@ -81,7 +81,7 @@ function settle(node, parent, nodes) {
   node.caps = sum("caps") + 8;
   node.quota = node.quantum - sum("quantum");
   node.capQuota = node.caps - sum("caps");
-  node.told = node.quota;
+  node.reported = node.quota;
 }
 
 function treeText(nodes) {
@@ -97,7 +97,7 @@ function treeText(nodes) {
   return lines.join("\n") + "\n";
 }
 
-/** A run of a system: `turn` takes a leaf's step and writes what is told of it. */
+/** A run of a system: `turn` takes a leaf's step and writes its lines. */
 class Simulation {
   constructor(nodes, all) { Object.assign(this, { nodes, all, sessions: [], out: [], turns: 0 }); }
   canRun(n) { return n.phase === "running" || n.phase === "handling" || n.phase === "serving" && n.queue.length > 0; }
@@ -120,7 +120,7 @@ class Simulation {
   }
   /** A leaf's next step; answers the nodes that changed, the session that did, and the line that it wrote. */
   step(n) {
-    const touched = new Set(), told = { touched };
+    const touched = new Set(), reported = { touched };
     n.steps++;
     if (n.phase === "serving") {
       const s = n.queue.shift();
@@ -128,12 +128,12 @@ class Simulation {
       s.stage = "at hand";
       if (s.request === "open") { n.used += PAGE; n.taken++; }
       touched.add(n);
-      return { ...told, at: `${n.section} at 0`, session: s };
+      return { ...reported, at: `${n.section} at 0`, session: s };
     }
     const body = n.program[n.section];
     if (n.section === "main" && n.place === body.length && --n.rounds > 0) n.place = 0;
     const o = body[n.place++], at = `${n.section} at ${n.place}${o ? ` ${o.text}` : ""}`;
-    return { ...told, at, ...(o ? this.statement(n, o, touched) : this.endOf(n, touched)) };
+    return { ...reported, at, ...(o ? this.statement(n, o, touched) : this.endOf(n, touched)) };
   }
   statement(n, o, touched) {
     const slot = o.slot ?? 0, pages = o.pages ?? 1, own = n.slots[slot];
@@ -187,8 +187,8 @@ class Simulation {
     if (!this.all && line === undefined && !touched.size && !session) return;
     this.out.push(`turn ${this.turns} ${n.label} ${at}`);
     if (line !== undefined) this.out.push(`[${n.label}] ${line}`);
-    for (const m of [...touched].filter(m => m.leaf || m.told !== m.quota).sort((a, b) => a.number - b.number)) {
-      m.told = m.quota;
+    for (const m of [...touched].filter(m => m.leaf || m.reported !== m.quota).sort((a, b) => a.number - b.number)) {
+      m.reported = m.quota;
       this.out.push(this.account(m));
     }
     if (session) this.out.push(this.session(session));
