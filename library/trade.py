@@ -251,18 +251,18 @@ class World:
 
     def account(self, node: int) -> Account:
         """The account of a node. IndexError if there is no such node."""
-        told = _Account()
-        if not _calls().trade_read_account(ctypes.byref(self._held), _number(node, "node"), ctypes.byref(told)):
+        read = _Account()
+        if not _calls().trade_read_account(ctypes.byref(self._held), _number(node, "node"), ctypes.byref(read)):
             raise IndexError(f"no node {node}")
-        phase = None if told.phase == _NONE else Phase(told.phase)
-        return Account(told.quota, told.used, told.caps, told.taken, told.steps, told.budget, phase)
+        phase = None if read.phase == _NONE else Phase(read.phase)
+        return Account(read.quota, read.used, read.caps, read.taken, read.steps, read.budget, phase)
 
     def budget(self, leaf: int) -> Budget:
         """The verified bounds of a leaf. IndexError if there is no such leaf."""
-        told = _Budget()
-        if not _calls().trade_read_budget(ctypes.byref(self._held), _number(leaf, "leaf"), ctypes.byref(told)):
+        read = _Budget()
+        if not _calls().trade_read_budget(ctypes.byref(self._held), _number(leaf, "leaf"), ctypes.byref(read)):
             raise IndexError(f"no leaf {leaf}")
-        return Budget(told.own, told.own_caps, told.steps)
+        return Budget(read.own, read.own_caps, read.steps)
 
     def set_input(self, leaf: int, input: int, number: int) -> None:
         """Gives an input of a leaf another value, from here on. InputError if there is no such leaf or input, or if the number is too large for it."""
