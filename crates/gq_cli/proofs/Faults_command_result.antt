@@ -41,7 +41,7 @@ module _ (path text : List ℕ) (before after : Option (List ℕ)) where
       by (Ok s) h = absurd h
       by (Err fault) h = ap Err (ap refused_with (sym h) ∙ sym e)
 
-  pub refused_ends : (f : LoadFault) (r : unreported.Fault) (m n : ℕ) → Prints f (refusal_of (loaded text)) → WritesFaults path (fault_lines text) before after
+  pub refused_ends : (f : LoadFault) (r : unreported.CommandFault) (m n : ℕ) → Prints f (refusal_of (loaded text)) → WritesFaults path (fault_lines text) before after
       → (r ≡ Write) ⊎ IsReportedAs (faults.Load f) r → IsKnown {A = Unit {0}} (Err r)
       → EndedFaults {A = Unit {0}} (Err r) before after m n (Of_faults path text None)
   refused_ends f (Refused line) m n h w (inl e) known = absurd cc
@@ -76,7 +76,7 @@ module _ (path other text turns : List ℕ) (before after : Option (List ℕ)) w
       by (Ok s) (answers.Scenario f) h e = absurd h
       by (Ok s) (answers.Turns f k) h e = turns_line (turned s turns) f k line h e
 
-  pub both_ends : (w : why.Refused) (r : unreported.Fault) (m n : ℕ) → Answers (Some w) (loaded text) turns
+  pub both_ends : (w : why.Refused) (r : unreported.CommandFault) (m n : ℕ) → Answers (Some w) (loaded text) turns
       → WritesFaults (reported_of (loaded text) path other) (lines_of_both text turns) before after → (r ≡ Write) ⊎ IsReportedAs (refusal_fault w) r
       → IsKnown {A = Unit {0}} (Err r) → EndedFaults {A = Unit {0}} (Err r) before after m n (Of_faults path text (Some (other, turns)))
   both_ends w (Refused line) m n h f (inl e) known = absurd cc
@@ -129,7 +129,7 @@ whole_prefix path faults before after h =
     record { text = h.text; reported = h.reported; written = (length h.text, subst (Appends before after) (sym (take-length h.text)) h.written) }
 
 -- who does not write all of it was refused host memory, or a write failed
-pub unreported_ends : (error : ReportError) (r : unreported.Fault) (asked : Asked) (before after : Option (List ℕ)) (m n : ℕ) → IsUntold error r
+pub unreported_ends : (error : ReportError) (r : unreported.CommandFault) (asked : Asked) (before after : Option (List ℕ)) (m n : ℕ) → IsUntold error r
     → ReportsPrefix asked before after → EndsEarly error m n → IsKnown {A = Unit {0}} (Err r) → EndedFaults {A = Unit {0}} (Err r) before after m n asked
 unreported_ends error (Refused line) asked before after m n h prefix ends known = absurd (never error h)
   where

@@ -116,7 +116,7 @@ code_found ops longs body (Some other) e h = subst (λ (b : Statements). IsCodeO
 
 -- the service of an `open` that stands in the code of a section is one that the leaf opens
 pub opened : IsStatedLaw → (c : Component) (code : ProgramCode) → IsCodeOfProgram code c.node.program.sections
-    → (section : Section) (ops : List Operation) (body : Statements) (p number : ℕ) (at : declared.Place) (name : List ℕ) (n : ℕ)
+    → (section : Section) (ops : List Operation) (body : Statements) (p number : ℕ) (at : declared.OperandSlot) (name : List ℕ) (n : ℕ)
     → code_in section code.sections ≡ Some ops → section_in section c.node.program.sections ≡ Some body → slice_get ops p ≡ Some (operation.Long number)
     → slice_get code.longs number ≡ Some (Open at name n) → any_of (text_eq name) (services c) ≡ true
 opened law c code is section ops body p number at name n found has stands long = by (any_of (text_eq name) (services c)) refl
