@@ -70,7 +70,7 @@ g = record { session = 0; section = Opening }
 abbrev s : Session
 s = the (record {
   client = 0;
-  line_column = In_object 0;
+  slot_id = In_object 0;
   server = 0;
   service = [];
   level = 0;
