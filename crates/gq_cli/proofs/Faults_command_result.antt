@@ -41,7 +41,8 @@ module _ (path text : List ℕ) (before after : Option (List ℕ)) where
       by (Ok s) h = absurd h
       by (Err fault) h = ap Err (ap refused_with (sym h) ∙ sym e)
 
-  pub refused_ends : (f : LoadFault) (r : unreported.CommandFault) (m n : ℕ) → Prints f (refusal_of (loaded text)) → WritesFaults path (fault_lines text) before after
+  pub refused_ends : (f : LoadFault) (r : unreported.CommandFault) (m n : ℕ) → Prints f (refusal_of (loaded text))
+      → WritesFaults path (fault_lines text) before after
       → (r ≡ Write) ⊎ IsReportedAs (faults.Load f) r → IsKnown {A = Unit {0}} (Err r)
       → EndedFaults {A = Unit {0}} (Err r) before after m n (Of_faults path text None)
   refused_ends f (Refused line) m n h w (inl e) known = absurd cc
