@@ -10,7 +10,7 @@ use Rattle.gq_model.specs.texts.Text.{OpenBlock, Reading, Read, line_read, lines
 use Rattle.gq_model.specs.declared.fault.TextFault.{TextFault}
 use Rattle.gq_asm.specs.Pieces.{prefix_line, past_feed, line_before, line_at}
 use Rattle.gq_asm.specs.Usual.{IsUsual}
-use Rattle.gq_asm.proofs.Text_pieces.{by_test, lines_of, lines-split}
+use Rattle.gq_asm.proofs.Pieces_at_start.{by_test, lines_of, lines-split}
 use Rattle.gq_asm.specs.Assembly_faults as faults
 use Rattle.gq_asm.specs.Assembly_faults.{Assembles}
 use Rattle.gq_asm.specs.declared.asm_fault.LineError.{LineError}

@@ -20,7 +20,7 @@ use Rattle.gq_asm.specs.Word_prefixes.{is_plain, BeginsWith}
 use Rattle.gq_asm.specs.Pieces.{prefix_word, prefix_line, past_feed, fed_line}
 use Rattle.gq_asm.specs.Usual.{IsUsual}
 use Rattle.gq_asm.specs.internal.Words_operands.{IsLastWord, Completes}
-use Rattle.gq_asm.proofs.Text_pieces.{by_test, ne_test, next}
+use Rattle.gq_asm.proofs.Pieces_at_start.{by_test, ne_test, next}
 
 -- PLAIN BYTES
 

@@ -1,4 +1,4 @@
 mod Text_value_changes
-mod Fault_words
+mod Lines_without_feed
 mod Made_again
 mod Fitted_text_written

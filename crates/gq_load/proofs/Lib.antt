@@ -4,7 +4,7 @@ pub mod Five_part_texts
 pub mod Step_counted_leaves
 pub mod Saturated_step_budgets
 pub mod First_refusal_reason
-mod Leaves_over_limit
+mod Over_limit_lists
 pub mod Unsized_faults
 pub mod Sound_programs
 pub mod Read_service_resources

@@ -8,6 +8,6 @@ pub mod Matching_list_items
 pub mod Each_once
 pub mod Opened_service_lists
 pub mod Mapped_list_growth
-pub mod Name_keys
+pub mod Keyed_names_found
 pub mod Names_by_key
 pub mod Node_table_rows

@@ -4,7 +4,7 @@ pub mod Table_words
 mod Listed_operands
 mod Listed_instructions
 mod Listed_reads
-mod Listed_statements
+mod Statement_lines_read_back
 mod Listed_sections
 mod Listed_programs
 mod Listed_printed

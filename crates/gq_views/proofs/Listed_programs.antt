@@ -21,7 +21,7 @@ use Rattle.gq_views.specs.Listing.{listing, listing_lines, locals_lines, section
 use Rattle.gq_views.proofs.Listed_numbers.{number_of_32}
 use Rattle.gq_views.proofs.Listed_lines.{AllPrinted, is_solid, lines_joined, word_alone, word_first}
 use Rattle.gq_views.proofs.Listed_operands.{number_word}
-use Rattle.gq_views.proofs.Listed_statements.{LeadsAt, at, leads_both, leads_none, leads_one, leads_to, opened, statements_lead}
+use Rattle.gq_views.proofs.Statement_lines_read_back.{LeadsAt, at, leads_both, leads_none, leads_one, leads_to, opened, statements_lead}
 use Rattle.gq_views.proofs.Listed_sections.{Sections, differ, first_of, onto, sections_back}
 
 -- SECTIONS

@@ -1,5 +1,5 @@
 use Rattle.std.proofs.Common.{sym, ◌∙◌}
-use Rattle.gq_asm.proofs.Text_pieces.{next, no_length, some_length}
+use Rattle.gq_asm.proofs.Pieces_at_start.{next, no_length, some_length}
 use Rattle.gq_asm.proofs.line_words.next_word.Goals as goal
 
 pub returns-then-is_empty : goal.returns-then-is_empty

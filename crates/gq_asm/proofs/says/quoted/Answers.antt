@@ -1,6 +1,6 @@
 use Rattle.std.proofs.Common.{◌∙◌, sym, arith, length, ◌≡◌}
 use Rattle.std.proofs.lemmas.List.{take_rest}
-use Rattle.gq_asm.proofs.Text_pieces.{quoted_found, quoted_more, quoted_step, quoted_end}
+use Rattle.gq_asm.proofs.Pieces_at_start.{quoted_found, quoted_more, quoted_step, quoted_end}
 use Rattle.gq_asm.proofs.says.quoted.Goals as goal
 
 pub returns-then-is_all_blank : goal.returns-then-is_all_blank

@@ -1,4 +1,4 @@
-use Rattle.gq_asm.proofs.Text_pieces.{feed_there, feed_first, feed_none}
+use Rattle.gq_asm.proofs.Pieces_at_start.{feed_there, feed_first, feed_none}
 use Rattle.gq_asm.proofs.source_lines.first_feed.Goals as goal
 
 pub returns-clause-there : goal.returns-clause-there

@@ -1,6 +1,6 @@
 use Rattle.std.proofs.Common.{◌+◌, add-one}
 use Rattle.std.proofs.lemmas.List.{take_rest}
-use Rattle.gq_asm.proofs.Text_pieces.{line_ends, line_only}
+use Rattle.gq_asm.proofs.Pieces_at_start.{line_ends, line_only}
 use Rattle.gq_asm.proofs.source_lines.split_line.Goals as goal
 
 pub returns-in-Some-clause-line : goal.returns-in-Some-clause-line

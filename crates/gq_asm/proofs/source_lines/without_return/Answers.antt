@@ -1,5 +1,5 @@
 use Rattle.std.proofs.Common.{sym, ◌∙◌}
-use Rattle.gq_asm.proofs.Text_pieces.{return_there, return_absent, return_empty}
+use Rattle.gq_asm.proofs.Pieces_at_start.{return_there, return_absent, return_empty}
 use Rattle.gq_asm.proofs.source_lines.without_return.Goals as goal
 use Rattle.gq_asm.proofs.source_lines.without_return.Goals.{else-not-is_empty-via-then-not-is_empty+else-line-eq13, else-not-is_empty-via-else-not-is_empty}
 

@@ -1,5 +1,5 @@
 use Rattle.std.proofs.Common.{◌∙◌, ap}
-use Rattle.gq_asm.proofs.Section_order.{order_some, order_none}
+use Rattle.gq_asm.proofs.Sections_taken_out.{order_some, order_none}
 use Rattle.gq_asm.proofs.text.in_order.Goals as goal
 use Rattle.gq_asm.proofs.text.in_order.Goals.{in-Some+in_ok-push, in_default}
 

@@ -1,5 +1,5 @@
 use Rattle.std.proofs.Common.{sym, ◌∙◌}
-use Rattle.gq_asm.proofs.Section_order.{first_here}
+use Rattle.gq_asm.proofs.Sections_taken_out.{first_here}
 use Rattle.gq_asm.proofs.text.place_of.Goals as goal
 
 pub returns-then-same_section : goal.returns-then-same_section

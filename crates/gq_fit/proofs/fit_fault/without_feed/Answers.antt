@@ -1,4 +1,4 @@
-use Rattle.gq_fit.proofs.Fault_words.{bad_text, ok_text}
+use Rattle.gq_fit.proofs.Lines_without_feed.{bad_text, ok_text}
 use Rattle.gq_fit.proofs.fit_fault.without_feed.Goals as goal
 
 pub returns-in-Ok : goal.returns-in-Ok

@@ -2,7 +2,7 @@ use Rattle.std.proofs.Common.{◌∙◌, Option, arith, subst, sym}
 use Rattle.gq_model.specs.rules.Accept.{Refusal}
 use Rattle.gq_load.specs.Load_faults.{Prints}
 use Rattle.gq_load.specs.Load.{refused}
-use Rattle.gq_load.proofs.Leaves_over_limit.{over_end, over_here, over_next}
+use Rattle.gq_load.proofs.Over_limit_lists.{over_end, over_here, over_next}
 use Rattle.gq_load.proofs.over.check_over.Goals as goal
 
 pub loop-place-preserved : goal.loop-place-preserved

@@ -1,7 +1,7 @@
 use Rattle.std.proofs.Common.{ℕ, List, map, sym, ◌∙◌}
 use Rattle.gq_program.specs.Name_keys.{key_of}
 use Rattle.gq_resolve.proofs.Names_by_key.{length_keys}
-use Rattle.gq_resolve.proofs.Name_keys.{first_among, last_among}
+use Rattle.gq_resolve.proofs.Keyed_names_found.{first_among, last_among}
 use Rattle.gq_resolve.proofs.opened_services.is_among.Goals as goal
 
 pub loop-place-init : goal.loop-place-init

@@ -5,7 +5,7 @@ use Rattle.gq_program.specs.Name_keys.{key_of}
 use Rattle.gq_resolve.specs.Routing.{led_found}
 use Rattle.gq_resolve.specs.internal.Search_keys.{keys_of, AreReportedOf}
 use Rattle.gq_scenario.specs.Component_trees.{nodes_of}
-use Rattle.gq_resolve.proofs.Name_keys.{length_keys, first_providers, last_providers}
+use Rattle.gq_resolve.proofs.Keyed_names_found.{length_keys, first_providers, last_providers}
 use Rattle.gq_resolve.proofs.router.only_by.Goals as goal
 
 pub loop-place-init : goal.loop-place-init

@@ -4,7 +4,7 @@ use Rattle.gq_program.specs.Name_keys.{AreWithin}
 use Rattle.gq_scenario.specs.Component_trees.{nodes_of}
 use Rattle.gq_scenario.specs.declared.scenario.Node.{Node}
 use Rattle.gq_resolve.specs.internal.Search_keys.{keys_of}
-use Rattle.gq_resolve.proofs.Name_keys.{all_taken, as_many, keys_more}
+use Rattle.gq_resolve.proofs.Keyed_names_found.{all_taken, as_many, keys_more}
 use Rattle.gq_resolve.proofs.search_keys.places_of.Goals as goal
 
 pub loop-place-preserved : goal.loop-place-preserved

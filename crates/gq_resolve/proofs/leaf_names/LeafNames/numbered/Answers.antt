@@ -3,7 +3,7 @@ use Rattle.gq_model.specs.machine.Scenario.{Component}
 use Rattle.gq_program.specs.Name_keys.{AreWithin, key_of}
 use Rattle.gq_resolve.specs.internal.Search_keys.{name_keys}
 use Rattle.gq_resolve.proofs.Names_by_key.{length_keys}
-use Rattle.gq_resolve.proofs.Name_keys.{first_number, last_number}
+use Rattle.gq_resolve.proofs.Keyed_names_found.{first_number, last_number}
 use Rattle.gq_resolve.proofs.leaf_names.LeafNames.numbered.Goals as goal
 
 pub loop-place-init : goal.loop-place-init

@@ -2,7 +2,7 @@ use Rattle.std.proofs.Common.{arith, ◌≡◌, ℕ, List, length, ap, sym, subs
 use Rattle.gq_program.specs.Name_keys.{AreWithin, key_of}
 use Rattle.gq_resolve.specs.internal.Search_keys.{route_keys}
 use Rattle.gq_resolve.proofs.Names_by_key.{length_keys}
-use Rattle.gq_resolve.proofs.Name_keys.{first_route, last_route}
+use Rattle.gq_resolve.proofs.Keyed_names_found.{first_route, last_route}
 use Rattle.gq_resolve.proofs.routes.LeafRoutes.server.Goals as goal
 
 pub loop-place-init : goal.loop-place-init

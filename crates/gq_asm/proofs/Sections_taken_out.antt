@@ -7,7 +7,7 @@ use Rattle.gq_model.specs.declared.program.Section.TheVariants.{Main}
 use Rattle.gq_model.specs.machine.Program.{Statements, same_section, section_in}
 use Rattle.gq_model.specs.texts.Text.{section_entry, in_order}
 use Rattle.gq_asm.specs.internal.Section_order.{without, IsFirstAt, differs_from, is_distinct}
-use Rattle.gq_asm.proofs.Text_pieces.{by_test}
+use Rattle.gq_asm.proofs.Pieces_at_start.{by_test}
 use Rattle.gq_model.proofs.Rules_laws.{same_section_is}
 
 pub first_here : (s : Section) (given : List (Section × Statements)) (i : ℕ) (x : Section × Statements) → i < length given → x ≡ get_or given i x →
