@@ -16,7 +16,7 @@ use Rattle.gq_contents.specs.Contents.{seen}
 use Rattle.gq_trade.specs.declared.session.Session.{Session}
 use Rattle.gq_trade.specs.declared.session.SlotId.TheVariants.{InLeaf}
 use Rattle.gq_trade.specs.Trading as trading
-use Rattle.gq_trade.specs.Trading.{Accepts, Begins, Trading, asked, fresh, opened, session_at, session_in, with_ask, with_requests, with_session}
+use Rattle.gq_trade.specs.Trading.{Accepts, Begins, Trading, asked, fresh, opened, session_at, session_in, with_requests}
 use Rattle.gq_trade.specs.Waiting.{IsIdle, clients_in, AreOther}
 use Rattle.gq_tariff.specs.declared.amount.Amount.{Amount}
 use Rattle.gq_trade.specs.Balances.{node_at}
@@ -149,7 +149,7 @@ opened_one t u v q r none client server slots e a =
         taken = subst (λ ss. IsTaken ss k) (sym sessions) (taken_set u.sessions k (opened (session_at u k) o.object) k taken);
         client = ap (λ (y : Session). y.client) its ∙ client;
         server = ap (λ (y : Session). y.server) its ∙ server;
-        object = λ z. not_slice (trading.store_of (trading.with_memory u v.memory) (trading.server_of u k)) o.object (trading.object_size u k)
+        object = λ z. not_slice (trading.store_of (trading.with_ledger u v.ledger) (trading.server_of u k)) o.object (trading.object_size u k)
             (replicate (trading.object_size u k) 0) o.makes.seen (ap (λ (y : Session). y.object) (sym its) ∙ z);
         empty = λ i lt. ap (λ (y : Session). get_or y.slots i Empty) its ∙ ap (λ ts. get_or ts i Empty) slots ∙ get_or-replicate 8 i Empty Empty lt;
       };

@@ -1,2 +1,1 @@
 pub mod Session_rounds
-pub mod Accesses

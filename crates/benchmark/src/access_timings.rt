@@ -1,18 +1,16 @@
 // Bytes of a space, by its slot and by their addresses, and of a dataspace.
-ghost use Rattle.std.specs.Prelude.{◌≡◌, ◌≤◌, length};
+ghost use Rattle.std.specs.Prelude.{◌≡◌, length};
 ghost use Rattle.gq_dataspace.specs.Dataspaces.{content_of};
 ghost use Rattle.gq_trade.specs.declared.session.SlotId.TheVariants.{InLeaf};
-ghost use Rattle.gq_contents.specs.Contents.{size_of};
 ghost use Rattle.gq_trade.specs.Trades.{IsLive};
-ghost use Rattle.gq_slots.specs.Slots.{IsPaidBy, IsSlotId, content_at};
-ghost use Rattle.benchmark.specs.Accesses.{IsNoLink};
+ghost use Rattle.gq_slots.specs.Slots.{IsSlotId};
 ghost use Rattle.benchmark.specs.Session_rounds.{HasRoom};
 
 use crate::measure_fault::MeasureFault;
 use crate::session_timings::market;
 use crate::timing::report;
-use gq_contents::Content;
 use gq_dataspace::DsId;
+use gq_model::program::Width;
 use gq_ram::Accounts;
 use gq_region::region_addresses;
 use gq_slots::{Addresses, Slots};
@@ -90,7 +88,6 @@ fn in_slots(
     requires { HasRoom 0 slots.old }
 {
     slots.laws();
-    slots.pay_by(1);
     let slot = SlotId::InLeaf(1, 0);
     if !slots.content(slot).is_empty() {
         return Err(MeasureFault::Account);
@@ -101,56 +98,54 @@ fn in_slots(
 
 fn both(
     rt: &HostRuntime,
-    slots: &mut Slots,
+    slots: &Slots,
     addresses: &Addresses,
     times: u32,
 ) -> Result<usize, MeasureFault>
-    requires live { IsLive slots.old.trades 1 }
-    requires there { IsSlotId slots.old (InLeaf 1 0) }
-    requires paid { IsPaidBy slots.old 1 }
+    requires live { IsLive slots.now.trades 1 }
+    requires there { IsSlotId slots.now (InLeaf 1 0) }
 {
-    match slots.content(SlotId::InLeaf(1, 0)) {
-        Content::Space(_, size) => {
-            if size < SIZE {
-                return Err(MeasureFault::Account);
-            }
-        }
-        _ => return Err(MeasureFault::Account),
-    }
     let start = Instant::now(rt);
     let one = by_slot(slots, times);
     report(rt, "byte by slot", u64::from(times), start)?;
     let start = Instant::now(rt);
     let other = by_address(slots, addresses, times);
     report(rt, "byte by address", u64::from(times), start)?;
-    match other {
-        Some(other) => Ok(usize::from(one ^ other)),
-        None => Err(MeasureFault::Account),
+    match (one, other) {
+        (Some(one), Some(other)) => Ok((one ^ other) as usize),
+        _ => Err(MeasureFault::Account),
     }
 }
 
-// All bytes that are read, one after the other, as one.
-fn by_slot(slots: &Slots, times: u32) -> u8
-    requires there { IsSlotId slots.now (InLeaf 1 0) }
-    requires paid { IsPaidBy slots.now 1 }
-    requires size { 16384 ≤ size_of (content_at slots.now (InLeaf 1 0)) }
+// All bytes that are read, one after the other, as one. `None` where one is not there.
+fn by_slot(slots: &Slots, times: u32) -> Option<u32>
+    requires { IsSlotId slots.now (InLeaf 1 0) }
 {
     let mut sum = 0;
     for index in 0..times {
-        sum ^= slots.load(SlotId::InLeaf(1, 0), index % SIZE);
+        sum ^= in_slot(slots, index % SIZE)?;
     }
-    sum
+    Some(sum)
+}
+
+fn in_slot(slots: &Slots, index: u32) -> Option<u32>
+    requires { IsSlotId slots.now (InLeaf 1 0) }
+{
+    let extent = slots.extent(SlotId::InLeaf(1, 0))?;
+    if u64::from(index) < extent.length {
+        Some(slots.read(extent, Width::Byte, index))
+    } else {
+        None
+    }
 }
 
 // The same, each found by its address. `None` where one is not there.
-fn by_address(slots: &mut Slots, addresses: &Addresses, times: u32) -> Option<u8>
-    requires live { IsLive slots.old.trades 1 }
-    requires paid { IsPaidBy slots.old 1 }
-    requires plain { IsNoLink (content_at slots.old (InLeaf 1 0)) }
+fn by_address(slots: &Slots, addresses: &Addresses, times: u32) -> Option<u32>
+    requires { IsLive slots.now.trades 1 }
 {
     let mut sum = 0;
     for index in 0..times {
-        sum ^= region_addresses::load(addresses, slots, 1, index % SIZE)?;
+        sum ^= region_addresses::load(addresses, slots, 1, Width::Byte, index % SIZE)?;
     }
     Some(sum)
 }

@@ -6,9 +6,12 @@ use crate::measure_fault::MeasureFault;
 use crate::timing::{report_all, since};
 use gq_heap::{Heap, Place};
 use gq_list_store::ListStore;
-use gq_store::ByteStore;
+use gq_store::{AccountNo, ByteStore};
 use std::alloc::AllocError;
 use std::time::Instant;
+
+// The account that pays.
+const ACCOUNT: AccountNo = AccountNo(0);
 
 // The pages of the store, and its bytes.
 const PAGES: u32 = 64;
@@ -82,7 +85,7 @@ fn measured_in<S: ByteStore>(
     count: u32,
 ) -> Result<[u128; 3], MeasureFault>
     requires size { (1 ≤ size) × (size ≤ 2048) }
-    requires kept { AreInUse heap.old (S.state store.old) places.old.items }
+    requires kept { AreInUse heap.old (S.state store.old 0) places.old.items }
 {
     let first = timed_allocs(rt, heap, store, places, size, count)?;
     let start = Instant::now(rt);
@@ -102,8 +105,8 @@ fn timed_allocs<S: ByteStore>(
     count: u32,
 ) -> Result<u128, MeasureFault>
     requires size { (1 ≤ size) × (size ≤ 2048) }
-    requires kept { AreInUse heap.old (S.state store.old) places.old.items }
-    ensures { OnOk result (AreInUse heap.new (S.state store.new) places.new.items) }
+    requires kept { AreInUse heap.old (S.state store.old 0) places.old.items }
+    ensures { OnOk result (AreInUse heap.new (S.state store.new 0) places.new.items) }
 {
     let start = Instant::now(rt)?;
     alloc_all(heap, store, places, size, count)?;
@@ -119,11 +122,11 @@ fn alloc_all<S: ByteStore>(
     count: u32,
 ) -> Result<(), MeasureFault>
     requires size { (1 ≤ size) × (size ≤ 2048) }
-    requires kept { AreInUse heap.old (S.state store.old) places.old.items }
-    ensures { OnOk result (AreInUse heap.new (S.state store.new) places.new.items) }
+    requires kept { AreInUse heap.old (S.state store.old 0) places.old.items }
+    ensures { OnOk result (AreInUse heap.new (S.state store.new 0) places.new.items) }
 {
     for _ in 0..count {
-        let place = heap.alloc(store, size)?;
+        let place = heap.alloc(store, ACCOUNT, size)?;
         keep(places, place)?;
     }
     Ok(())
@@ -139,8 +142,8 @@ fn keep(places: &mut Vec<Place>, place: Place) -> Result<(), AllocError>
 
 // Frees all of them, last to first.
 fn free_all<S: ByteStore>(heap: &mut Heap, store: &mut S, places: &mut Vec<Place>)
-    requires { AreInUse heap.old (S.state store.old) places.old.items }
-    ensures { AreInUse heap.new (S.state store.new) places.new.items }
+    requires { AreInUse heap.old (S.state store.old 0) places.old.items }
+    ensures { AreInUse heap.new (S.state store.new 0) places.new.items }
 {
     for _ in 0..places.len() {
         free_last(heap, store, places);
@@ -149,13 +152,13 @@ fn free_all<S: ByteStore>(heap: &mut Heap, store: &mut S, places: &mut Vec<Place
 
 // Frees the last one, where there is one.
 fn free_last<S: ByteStore>(heap: &mut Heap, store: &mut S, places: &mut Vec<Place>)
-    requires { AreInUse heap.old (S.state store.old) places.old.items }
-    ensures { AreInUse heap.new (S.state store.new) places.new.items }
+    requires { AreInUse heap.old (S.state store.old 0) places.old.items }
+    ensures { AreInUse heap.new (S.state store.new 0) places.new.items }
 {
     let Some(place) = places.pop() else {
         return;
     };
-    heap.free(store, place);
+    heap.free(store, ACCOUNT, place);
 }
 
 // Beside so many blocks, one is made and freed over and over.
@@ -189,7 +192,7 @@ fn pairs_in<S: ByteStore>(
     times: u32,
 ) -> Result<u128, MeasureFault>
     requires size { (1 ≤ size) × (size ≤ 2048) }
-    requires kept { AreInUse heap.old (S.state store.old) places.old.items }
+    requires kept { AreInUse heap.old (S.state store.old 0) places.old.items }
 {
     alloc_all(heap, store, places, size, count)?;
     let start = Instant::now(rt)?;
@@ -205,12 +208,12 @@ fn alloc_and_free<S: ByteStore>(
     size: u32,
 ) -> Result<(), MeasureFault>
     requires size { (1 ≤ size) × (size ≤ 2048) }
-    requires kept { IsHeap heap.old (S.state store.old) }
-    ensures { OnOk result (IsHeap heap.new (S.state store.new)) }
+    requires kept { IsHeap heap.old (S.state store.old 0) }
+    ensures { OnOk result (IsHeap heap.new (S.state store.new 0)) }
 {
     for _ in 0..PAIRS {
-        let place = heap.alloc(store, size)?;
-        heap.free(store, place);
+        let place = heap.alloc(store, ACCOUNT, size)?;
+        heap.free(store, ACCOUNT, place);
     }
     Ok(())
 }

@@ -9,8 +9,11 @@ use gq_heap::Heap;
 use gq_list_store::ListStore;
 use gq_pool::Pool;
 use gq_sliced::Sliced;
-use gq_store::ByteStore;
+use gq_store::{AccountNo, ByteStore};
 use std::time::Instant;
+
+// The account that pays.
+const ACCOUNT: AccountNo = AccountNo(0);
 
 // The pages of the store.
 const PAGES: u32 = 64;
@@ -56,8 +59,8 @@ fn alloc_and_free<S: ByteStore>(store: &mut S, size: u32) -> Result<(), MeasureF
 {
     let sliced = Sliced::new();
     for _ in 0..PAIRS {
-        let slice = sliced.alloc(store, size)?;
-        sliced.free(store, slice);
+        let slice = sliced.alloc(store, ACCOUNT, size)?;
+        sliced.free(store, ACCOUNT, slice);
     }
     Ok(())
 }
@@ -95,7 +98,7 @@ fn measured_in<S: ByteStore>(
     store: &mut S,
     heap: &mut Heap,
 ) -> Result<[u128; 3], MeasureFault>
-    requires { IsHeap heap.old (S.state store.old) }
+    requires { IsHeap heap.old (S.state store.old 0) }
 {
     let pool = made(store, heap)?;
     let first = timed_takes(rt, &pool, store, heap)?;
@@ -113,9 +116,9 @@ fn timed_takes<S: ByteStore>(
     store: &mut S,
     heap: &mut Heap,
 ) -> Result<u128, MeasureFault>
-    requires kept { IsPool pool.now heap.old (S.state store.old) }
+    requires kept { IsPool pool.now heap.old (S.state store.old 0) }
     requires count { count_of pool.now ≡ 1024 }
-    ensures { OnOk result (IsPool pool.now heap.new (S.state store.new)) }
+    ensures { OnOk result (IsPool pool.now heap.new (S.state store.new 0)) }
 {
     let start = Instant::now(rt)?;
     take_all(pool, store, heap)?;
@@ -123,31 +126,31 @@ fn timed_takes<S: ByteStore>(
 }
 
 fn made<S: ByteStore>(store: &mut S, heap: &Heap) -> Result<Pool, MeasureFault>
-    requires { IsHeap heap.now (S.state store.old) }
-    ensures kept { IfOk result (λ pool. IsPool pool heap.now (S.state store.new)) }
+    requires { IsHeap heap.now (S.state store.old 0) }
+    ensures kept { IfOk result (λ pool. IsPool pool heap.now (S.state store.new 0)) }
     ensures count { IfOk result (λ pool. count_of pool ≡ 1024) }
 {
-    let pool = Pool::new(store, ENTRY, ENTRIES)?;
+    let pool = Pool::new(store, ACCOUNT, ENTRY, ENTRIES)?;
     Ok(pool)
 }
 
 fn take_all<S: ByteStore>(pool: &Pool, store: &mut S, heap: &mut Heap) -> Result<(), MeasureFault>
-    requires kept { IsPool pool.now heap.old (S.state store.old) }
+    requires kept { IsPool pool.now heap.old (S.state store.old 0) }
     requires count { count_of pool.now ≡ 1024 }
-    ensures { OnOk result (IsPool pool.now heap.new (S.state store.new)) }
+    ensures { OnOk result (IsPool pool.now heap.new (S.state store.new 0)) }
 {
     for index in 0..ENTRIES {
-        pool.take(store, heap, index)?;
+        pool.take(store, heap, ACCOUNT, index)?;
     }
     Ok(())
 }
 
 fn give_all<S: ByteStore>(pool: &Pool, store: &mut S, heap: &mut Heap)
-    requires kept { IsPool pool.now heap.old (S.state store.old) }
+    requires kept { IsPool pool.now heap.old (S.state store.old 0) }
     requires count { count_of pool.now ≡ 1024 }
-    ensures { IsPool pool.now heap.new (S.state store.new) }
+    ensures { IsPool pool.now heap.new (S.state store.new 0) }
 {
     for index in 0..ENTRIES {
-        pool.give(store, heap, index);
+        pool.give(store, heap, ACCOUNT, index);
     }
 }

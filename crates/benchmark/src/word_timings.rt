@@ -7,6 +7,7 @@ use crate::measure_fault::MeasureFault;
 use crate::timing::{report, report_all, since};
 use gq_dataspace::DsId;
 use gq_ram::{AccountNo, Accounts};
+use gq_tariff::Amount;
 use std::alloc::{AllocError, Global};
 use std::io;
 use std::time::Instant;
@@ -177,7 +178,7 @@ fn endow(accounts: &mut Accounts, member: AccountNo)
     ensures { IsOpen accounts.new.accounts member.0 }
 {
     let root = accounts.root();
-    let _moved = accounts.transfer(root, member, SIZE);
+    let _moved = accounts.transfer(root, member, Amount { ram: SIZE, caps: 0 });
 }
 
 // The account makes a dataspace of one page.

@@ -9,7 +9,7 @@ use Rattle.gq_heap.specs.declared.heap.Place.TheVariants.{Small, Large}
 use Rattle.gq_heap.specs.Heap.{IsInUse, IsFor, room_of}
 use Rattle.gq_heap.proofs.Heap_cell_lists.{up_pos, up_least}
 use Rattle.gq_heap.proofs.ClassLaws.{size_is}
-use Rattle.gq_sliced.specs.Slices.{HasByte, HasWord, HasSize, IsInUse as IsSlice}
+use Rattle.gq_sliced.specs.Slices.{HasSize, IsInUse as IsSlice}
 use Rattle.gq_pool.specs.declared.pool.Pool as pool
 use Rattle.gq_pool.specs.Pools.{IsPool, held_of}
 use Rattle.gq_contents.specs.declared.content.Content.TheVariants.{Empty, Block, Slice, Space, Pool}
@@ -37,32 +37,14 @@ block_in_use heap st p n a =
 pub block_room : (heap : Heap) (st : Store) (p : Place) (n : ℕ) → IsAmong heap st (Block p n) → n ≤ room_of p
 block_room heap st p n a = (is_content heap st (Block p n) a).1
 
-pub block_byte_inside : (heap : Heap) (st : Store) (p : Place) (n i : ℕ) → IsAmong heap st (Block p n) → i < n → i < room_of p
-block_byte_inside heap st p n i a lt = omega (arith, block_room heap st p n a)
-
-pub block_word_inside : (heap : Heap) (st : Store) (p : Place) (n i : ℕ) → IsAmong heap st (Block p n) → i + 4 ≤ n → i + 4 ≤ room_of p
-block_word_inside heap st p n i a lt = omega (arith, block_room heap st p n a)
-
 pub slice_has_size : (heap : Heap) (st : Store) (k n : ℕ) → IsAmong heap st (Slice k n) → HasSize st k n
 slice_has_size heap st k n a = is_content heap st (Slice k n) a
-
-pub slice_has_byte : (heap : Heap) (st : Store) (k n i : ℕ) → IsAmong heap st (Slice k n) → i < n → HasByte st k i
-slice_has_byte heap st k n i a lt = record { size = n; has = is_content heap st (Slice k n) a; inside = lt }
-
-pub slice_has_word : (heap : Heap) (st : Store) (k n i : ℕ) → IsAmong heap st (Slice k n) → i + 4 ≤ n → HasWord st k i
-slice_has_word heap st k n i a lt = record { size = n; has = is_content heap st (Slice k n) a; inside = lt }
 
 pub slice_there : (heap : Heap) (st : Store) (k n : ℕ) → IsAmong heap st (Slice k n) → IsSlice st k
 slice_there heap st k n a = record { size = n; has = is_content heap st (Slice k n) a }
 
 pub is_space : (heap : Heap) (st : Store) (k n : ℕ) → IsAmong heap st (Space k n) → IsSpace st k n
 is_space heap st k n a = is_content heap st (Space k n) a
-
-pub space_has_byte : (heap : Heap) (st : Store) (k n i : ℕ) → IsAmong heap st (Space k n) → i < up n → i < st.size k
-space_has_byte heap st k n i a lt = omega (arith, (is_space heap st k n a).pages)
-
-pub space_has_word : (heap : Heap) (st : Store) (k n i : ℕ) → IsAmong heap st (Space k n) → i + 4 ≤ up n → i + 4 ≤ st.size k
-space_has_word heap st k n i a lt = omega (arith, (is_space heap st k n a).pages)
 
 pub space_there : (heap : Heap) (st : Store) (k n : ℕ) → IsAmong heap st (Space k n) → 0 < st.size k
 space_there heap st k n a = let is = is_space heap st k n a in omega (arith, is.pages, up_pos n (omega (arith, is.some)))

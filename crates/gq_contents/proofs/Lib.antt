@@ -8,3 +8,4 @@ pub mod Content_cell_counts
 pub mod Content_heap_peaks
 pub mod Slot_pool_entries
 pub mod Content_caller_facts
+mod Extent_bytes

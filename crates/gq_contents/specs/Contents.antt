@@ -3,10 +3,11 @@ use Rattle.std.specs.Prelude.{◌≡◌, ℕ, ◌+◌, ◌≤◌, List, [], ◌�
 use Rattle.gq_tariff.specs.Prices.{up}
 use Rattle.gq_model.specs.declared.program.Form.TheVariants as form
 use Rattle.gq_model.specs.machine.World as world
+use Rattle.gq_store.specs.declared.extent.Extent.{Extent}
 use Rattle.gq_store.specs.Store.{Store}
 use Rattle.gq_store.specs.Chunk_bytes.{listed}
 use Rattle.gq_heap.specs.declared.heap.Place.{Place}
-use Rattle.gq_heap.specs.Heap.{IsFor, room_of, block_bytes}
+use Rattle.gq_heap.specs.Heap.{IsFor, chunk_of, offset_of, room_of, block_bytes}
 use Rattle.gq_sliced.specs.Slices.{HasSize, slice_bytes}
 use Rattle.gq_pool.specs.Pools.{IsTable, places_of, held_of, entries_of}
 use Rattle.gq_contents.specs.declared.content.Content.{Content}
@@ -81,6 +82,16 @@ size_of (Space k n) = up n
 size_of (Pool p) = 0
 size_of (Link k) = 0
 size_of (Waiting k) = 0
+
+-- where these bytes lie
+abbrev pub extent_of : Content → Option Extent
+extent_of Empty = None
+extent_of (Block p n) = Some (record { chunk = chunk_of p; start = offset_of p; length = n })
+extent_of (Slice k n) = Some (record { chunk = k; start = 32; length = n })
+extent_of (Space k n) = Some (record { chunk = k; start = 0; length = up n })
+extent_of (Pool p) = None
+extent_of (Link k) = None
+extent_of (Waiting k) = None
 
 -- how many entries it has, and of how many bytes
 abbrev pub entry_count : Content → ℕ

@@ -1,3 +1,4 @@
 pub mod Contents
 pub mod Contents_invariant
 pub mod Paid
+pub mod Touches

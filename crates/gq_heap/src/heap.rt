@@ -6,7 +6,7 @@ use crate::bin::{Bin, give, take};
 use crate::cell_class::{
     cell_position, class_for_size, class_index, place_bits, place_size, places_per_chunk,
 };
-use gq_store::{ByteStore, ChunkNo, GrowFault};
+use gq_store::{AccountNo, ByteStore, ChunkNo, Extent, GrowFault};
 use gq_tariff::price::{GREATEST_PLACE, PAGE};
 use gq_tariff::{Class, price_class, round_up};
 
@@ -49,6 +49,18 @@ impl Place {
             Place::Large(_, _) => 0,
         }
     }
+
+    /// Where its first `length` bytes lie.
+    #[inline(always)]
+    pub fn extent(&self, length: u64) -> Extent
+        ensures { result ≡ record { chunk = chunk_of self.now; start = offset_of self.now; length = length } }
+    {
+        Extent {
+            chunk: self.chunk(),
+            start: self.offset(),
+            length,
+        }
+    }
 }
 
 /// A heap in a store of chunks.
@@ -74,8 +86,7 @@ impl Heap {
     ghost use Rattle.gq_model.specs.machine.Amounts.{Ram};
     ghost use Rattle.gq_model.specs.machine.Resource_prices.{heap as class_prices};
     ghost use Rattle.gq_tariff.specs.declared.class.Class.{Class};
-    ghost use Rattle.gq_model.specs.machine.Program.{spelled};
-    ghost use Rattle.gq_store.specs.Store.{Store, word};
+    ghost use Rattle.gq_store.specs.Store.{Store};
     ghost use Rattle.gq_heap.specs.Heap.{KeepsPlaces, IsHeap, IsInUse, Allocates, Frees, PutsInBlock, peaks, peak_of, rise, charge, charge_caps, room_of};
     ghost use Rattle.gq_heap.specs.Heap.{byte_of};
 
@@ -133,44 +144,55 @@ impl Heap {
         total
     }
 
-    /// A block of `size` bytes, which read 0. Its place was not in use.
+    /// A block of `size` bytes, which read 0, in chunks that the account pays for. Its place was not in use.
     ///
     /// Refused as `Exceeded` where the charge must rise by more than can be paid, else as `CapsExceeded` where it must rise and there is no
     /// capability left; then nothing has changed.
     #[inline(always)]
-    pub fn alloc<S: ByteStore>(&mut self, store: &mut S, size: u32) -> Result<Place, GrowFault>
+    pub fn alloc<S: ByteStore>(
+        &mut self,
+        store: &mut S,
+        account: AccountNo,
+        size: u32,
+    ) -> Result<Place, GrowFault>
         requires size { (1 ≤ size) × (size ≤ 67108864) }
-        requires kept { IsHeap self.old (S.state store.old) }
-        ensures ok { IfOk result (λ p. Allocates self.old self.new (S.state store.old) (S.state store.new) size p) }
-        ensures exceeded { IsErrOf result GrowFault.Exceeded ↔ ((S.state store.old).left < rise self.old size) }
+        requires kept { IsHeap self.old (S.state store.old account.0) }
+        ensures ok { IfOk result (λ p. Allocates self.old self.new (S.state store.old account.0) (S.state store.new account.0) size p) }
+        ensures exceeded { IsErrOf result GrowFault.Exceeded ↔ ((S.state store.old account.0).left < rise self.old size) }
         ensures caps { IsErrOf result GrowFault.CapsExceeded
-            ↔ ((0 < rise self.old size) × (rise self.old size ≤ (S.state store.old).left) × ((S.state store.old).caps ≡ Some 0)) }
+            ↔ ((0 < rise self.old size) × (rise self.old size ≤ (S.state store.old account.0).left) × ((S.state store.old account.0).caps ≡ Some 0)) }
         ensures err { OnErr result ((self.new ≡ self.old) × (store.new ≡ store.old)) }
-        ensures kept { IsHeap self.new (S.state store.new) }
-        ensures in_use { IfOk result (λ p. IsInUse self.new (S.state store.new) p) }
-        ensures rest { S.same_rest store.old store.new }
+        ensures kept { IsHeap self.new (S.state store.new account.0) }
+        ensures in_use { IfOk result (λ p. IsInUse self.new (S.state store.new account.0) p) }
+        ensures rest { S.same_rest account.0 store.old store.new }
     {
         if u64::from(size) <= GREATEST_PLACE {
-            self.alloc_small(store, size)
+            self.alloc_small(store, account, size)
         } else {
-            self.alloc_large(store, size)
+            self.alloc_large(store, account, size)
         }
     }
 
-    fn alloc_small<S: ByteStore>(&mut self, store: &mut S, size: u32) -> Result<Place, GrowFault>
+    fn alloc_small<S: ByteStore>(
+        &mut self,
+        store: &mut S,
+        account: AccountNo,
+        size: u32,
+    ) -> Result<Place, GrowFault>
         requires size { (1 ≤ size) × (size ≤ 2048) }
-        requires kept { IsHeap self.old (S.state store.old) }
-        ensures ok { IfOk result (λ p. Allocates self.old self.new (S.state store.old) (S.state store.new) size p) }
-        ensures exceeded { IsErrOf result GrowFault.Exceeded ↔ ((S.state store.old).left < rise self.old size) }
+        requires kept { IsHeap self.old (S.state store.old account.0) }
+        ensures ok { IfOk result (λ p. Allocates self.old self.new (S.state store.old account.0) (S.state store.new account.0) size p) }
+        ensures exceeded { IsErrOf result GrowFault.Exceeded ↔ ((S.state store.old account.0).left < rise self.old size) }
         ensures caps { IsErrOf result GrowFault.CapsExceeded
-            ↔ ((0 < rise self.old size) × (rise self.old size ≤ (S.state store.old).left) × ((S.state store.old).caps ≡ Some 0)) }
+            ↔ ((0 < rise self.old size) × (rise self.old size ≤ (S.state store.old account.0).left) × ((S.state store.old account.0).caps ≡ Some 0)) }
         ensures err { OnErr result ((self.new ≡ self.old) × (store.new ≡ store.old)) }
-        ensures rest { S.same_rest store.old store.new }
+        ensures rest { S.same_rest account.0 store.old store.new }
     {
         let class = class_for_size(size);
         let mut bin = self.bins[class_index(class)];
         let number = take(
             store,
+            account,
             &mut bin,
             place_size(class),
             places_per_chunk(class),
@@ -180,17 +202,22 @@ impl Heap {
         Ok(Place::Small(class, number))
     }
 
-    fn alloc_large<S: ByteStore>(&mut self, store: &mut S, size: u32) -> Result<Place, GrowFault>
+    fn alloc_large<S: ByteStore>(
+        &mut self,
+        store: &mut S,
+        account: AccountNo,
+        size: u32,
+    ) -> Result<Place, GrowFault>
         requires size { (2048 < size) × (size ≤ 67108864) }
-        requires kept { IsHeap self.old (S.state store.old) }
-        ensures ok { IfOk result (λ p. Allocates self.old self.new (S.state store.old) (S.state store.new) size p) }
-        ensures exceeded { IsErrOf result GrowFault.Exceeded ↔ ((S.state store.old).left < rise self.old size) }
+        requires kept { IsHeap self.old (S.state store.old account.0) }
+        ensures ok { IfOk result (λ p. Allocates self.old self.new (S.state store.old account.0) (S.state store.new account.0) size p) }
+        ensures exceeded { IsErrOf result GrowFault.Exceeded ↔ ((S.state store.old account.0).left < rise self.old size) }
         ensures caps { IsErrOf result GrowFault.CapsExceeded
-            ↔ ((0 < rise self.old size) × (rise self.old size ≤ (S.state store.old).left) × ((S.state store.old).caps ≡ Some 0)) }
+            ↔ ((0 < rise self.old size) × (rise self.old size ≤ (S.state store.old account.0).left) × ((S.state store.old account.0).caps ≡ Some 0)) }
         ensures err { OnErr result ((self.new ≡ self.old) × (store.new ≡ store.old)) }
-        ensures rest { S.same_rest store.old store.new }
+        ensures rest { S.same_rest account.0 store.old store.new }
     {
-        let chunk = store.grow(pages_of(size))?;
+        let chunk = store.grow(account, pages_of(size))?;
         self.large += round_up(u64::from(size));
         self.large_count += 1;
         Ok(Place::Large(chunk.number(), size))
@@ -198,22 +225,23 @@ impl Heap {
 
     /// Makes the place of a block free. A large block's chunk goes back to the store, a chunk of a class stays the heap's.
     #[inline(always)]
-    pub fn free<S: ByteStore>(&mut self, store: &mut S, place: Place)
-        requires { IsInUse self.old (S.state store.old) place }
-        ensures frees { Frees self.old self.new (S.state store.old) (S.state store.new) place }
-        ensures kept { IsHeap self.new (S.state store.new) }
-        ensures rest { S.same_rest store.old store.new }
+    pub fn free<S: ByteStore>(&mut self, store: &mut S, account: AccountNo, place: Place)
+        requires { IsInUse self.old (S.state store.old account.0) place }
+        ensures frees { Frees self.old self.new (S.state store.old account.0) (S.state store.new account.0) place }
+        ensures kept { IsHeap self.new (S.state store.new account.0) }
+        ensures rest { S.same_rest account.0 store.old store.new }
     {
         match place {
             Place::Small(class, number) => self.free_small(store, class, number),
-            Place::Large(number, size) => self.free_large(store, number, size),
+            Place::Large(number, size) => self.free_large(store, account, number, size),
         }
     }
 
     fn free_small<S: ByteStore>(&mut self, store: &mut S, class: Class, number: u32)
-        requires { IsInUse self.old (S.state store.old) (Place.Small class number) }
-        ensures frees { Frees self.old self.new (S.state store.old) (S.state store.new) (Place.Small class number) }
-        ensures rest { S.same_rest store.old store.new }
+        requires { (a : ℕ) × IsInUse self.old (S.state store.old a) (Place.Small class number) }
+        ensures frees { (a : ℕ) → IsInUse self.old (S.state store.old a) (Place.Small class number)
+            → Frees self.old self.new (S.state store.old a) (S.state store.new a) (Place.Small class number) }
+        ensures rest { (a : ℕ) → IsInUse self.old (S.state store.old a) (Place.Small class number) → S.same_rest a store.old store.new }
     {
         let mut bin = self.bins[class_index(class)];
         give(
@@ -227,54 +255,41 @@ impl Heap {
         self.bins[class_index(class)] = bin;
     }
 
-    fn free_large<S: ByteStore>(&mut self, store: &mut S, number: u32, size: u32)
-        requires { IsInUse self.old (S.state store.old) (Place.Large number size) }
-        ensures frees { Frees self.old self.new (S.state store.old) (S.state store.new) (Place.Large number size) }
-        ensures rest { S.same_rest store.old store.new }
+    fn free_large<S: ByteStore>(
+        &mut self,
+        store: &mut S,
+        account: AccountNo,
+        number: u32,
+        size: u32,
+    )
+        requires { IsInUse self.old (S.state store.old account.0) (Place.Large number size) }
+        ensures frees { Frees self.old self.new (S.state store.old account.0) (S.state store.new account.0) (Place.Large number size) }
+        ensures rest { S.same_rest account.0 store.old store.new }
     {
-        store.shrink(ChunkNo::new(number));
+        store.shrink(account, ChunkNo::new(number));
         self.large -= round_up(u64::from(size));
         self.large_count -= 1;
     }
 
     /// The byte of a block at an index.
     pub fn load<S: ByteStore>(&self, store: &S, place: Place, index: u32) -> u8
-        requires kept { IsInUse self.now (S.state store.now) place }
+        requires kept { (a : ℕ) × IsInUse self.now (S.state store.now a) place }
         requires inside { index < room_of place }
-        ensures { result ≡ byte_of (S.state store.now) place index }
+        ensures { (a : ℕ) → IsInUse self.now (S.state store.now a) place → result ≡ byte_of (S.state store.now a) place index }
     {
         store.load(place.chunk(), place.offset() + index)
     }
 
     /// Sets the byte of a block at an index.
     pub fn store<S: ByteStore>(&self, store: &mut S, place: Place, index: u32, value: u8)
-        requires kept { IsInUse self.now (S.state store.old) place }
+        requires kept { (a : ℕ) × IsInUse self.now (S.state store.old a) place }
         requires inside { index < room_of place }
-        ensures puts { PutsInBlock self.now (S.state store.old) (S.state store.new) place index (value ∷ []) }
-        ensures in_use { IsInUse self.now (S.state store.new) place }
-        ensures rest { S.same_rest store.old store.new }
+        ensures puts { (a : ℕ) → IsInUse self.now (S.state store.old a) place
+            → PutsInBlock self.now (S.state store.old a) (S.state store.new a) place index (value ∷ []) }
+        ensures in_use { (a : ℕ) → IsInUse self.now (S.state store.old a) place → IsInUse self.now (S.state store.new a) place }
+        ensures rest { (a : ℕ) → IsInUse self.now (S.state store.old a) place → S.same_rest a store.old store.new }
     {
         store.store(place.chunk(), place.offset() + index, value);
-    }
-
-    /// The number in the four bytes of a block from an index on, the lowest first.
-    pub fn load4<S: ByteStore>(&self, store: &S, place: Place, index: u32) -> u32
-        requires kept { IsInUse self.now (S.state store.now) place }
-        requires inside { index + 4 ≤ room_of place }
-        ensures { result ≡ word (byte_of (S.state store.now) place) index }
-    {
-        store.load4(place.chunk(), place.offset() + index)
-    }
-
-    /// Writes a number to the four bytes of a block from an index on, the lowest first.
-    pub fn store4<S: ByteStore>(&self, store: &mut S, place: Place, index: u32, value: u32)
-        requires kept { IsInUse self.now (S.state store.old) place }
-        requires inside { index + 4 ≤ room_of place }
-        ensures puts { PutsInBlock self.now (S.state store.old) (S.state store.new) place index (spelled 4 value) }
-        ensures in_use { IsInUse self.now (S.state store.new) place }
-        ensures rest { S.same_rest store.old store.new }
-    {
-        store.store4(place.chunk(), place.offset() + index, value);
     }
 }
 

@@ -7,10 +7,10 @@
 //!
 //! let mut store = ListStore::new(rt.alloc(), 4, None)?;
 //! let mut heap = Heap::new();
-//! let place = heap.alloc(&mut store, 100)?;
+//! let place = heap.alloc(&mut store, account, 100)?;
 //! heap.store(&mut store, place, 99, 7);
 //! assert_eq!(rt; heap.load(&store, place, 99), 7);
-//! heap.free(&mut store, place);
+//! heap.free(&mut store, account, place);
 //! ```
 #![tactic(auto)]
 
@@ -19,6 +19,6 @@ mod cell_class;
 mod chain;
 mod heap;
 
-pub use gq_store::{ByteStore, ChunkNo, GrowFault};
+pub use gq_store::{AccountNo, ByteStore, ChunkNo, GrowFault};
 pub use gq_tariff::Class;
 pub use heap::{Heap, Place};

@@ -107,7 +107,7 @@ impl Leaf {
         requires due { IsDue self.old (operation.Upgrade place bytes) }
         requires asks { CanAsk slots.old (record { leaf = number; current = self.old.state.current }) }
         requires linked { OwnsLinks slots.old number }
-        requires counted { slots.old.trades.trading.memory.ledger.price ≡ 0 → donation.caps ≡ 0 }
+        requires counted { slots.old.trades.trading.ledger.price ≡ 0 → donation.caps ≡ 0 }
         ensures step { (bs : List ℕ) → UpgradesTo number bs place bytes donation self.old self.new slots.old slots.new (done result) }
         ensures waits { BlocksWith result self.old self.new slots.old slots.new self.old.state.registers.operands }
     {

@@ -2,13 +2,15 @@
 //!
 //! ```rust
 //! use gq_list_store::ListStore;
-//! use gq_store::ByteStore;
+//! use gq_store::{AccountNo, ByteStore};
 //!
+//! // All accounts share what a list store can pay.
+//! let account = AccountNo(0);
 //! let mut store = ListStore::new(rt.alloc(), 4, None)?;
-//! let chunk = store.grow(1)?;
+//! let chunk = store.grow(account, 1)?;
 //! store.store4(chunk, 4092, 7);
 //! assert_eq!(rt; store.load4(chunk, 4092), 7);
-//! store.shrink(chunk);
+//! store.shrink(account, chunk);
 //! ```
 //!
 //! [`share`] is an example of allocators that share a store: two pools of one class, a block and a slice, each of which keeps what it has while the others are
@@ -17,18 +19,18 @@
 //! ```rust
 //! use gq_list_store::share;
 //!
-//! assert_eq!(rt; share(&mut heap, &mut store)?, (7, 9, 5));
+//! assert_eq!(rt; share(&mut heap, &mut store, account)?, (7, 9, 5));
 //! ```
 #![tactic(auto)]
 
 mod sharing;
 
-ghost use Rattle.std.specs.Prelude.{◌≡◌, ℕ, ◌+◌, ◌-◌, ◌*◌, ◌%◌, ◌<◌, ◌≤◌, ◌↔◌, ◌⊎◌, Option, Some, None, IfOk, OnErr, IsErrOf, MatchOption, IsTrue, length};
+ghost use Rattle.std.specs.Prelude.{◌≡◌, ℕ, ◌+◌, ◌-◌, ◌*◌, ◌%◌, ◌<◌, ◌≤◌, ◌↔◌, ◌⊎◌, Option, Some, None, IfOk, MatchOption, IsTrue, length};
 ghost use Rattle.std.specs.Prelude.{slice_index};
 ghost use Rattle.gq_store.specs.Store.{one_more};
 ghost use Rattle.gq_list_store.specs.Chunk_layout.{AreSlots, caps_or_none};
 
-use gq_store::{ByteStore, ChunkNo, GrowFault};
+use gq_store::{AccountNo, ByteStore, ChunkNo, GrowFault};
 use gq_tariff::price;
 pub use sharing::share;
 use std::alloc::{AllocError, Global};
@@ -134,11 +136,11 @@ fn clear(bytes: &mut [u8], start: usize, n: usize)
 impl ByteStore for ListStore {
     ghost use Rattle.gq_list_store.specs.View.{store_of, Any};
 
-    ghost state = { store_of };
+    ghost state = { λ s a. store_of s };
 
-    ghost same_rest = { Any };
+    ghost same_rest = { λ n. Any };
 
-    fn grow(&mut self, pages: u32) -> Result<ChunkNo, GrowFault> {
+    fn grow(&mut self, _account: AccountNo, pages: u32) -> Result<ChunkNo, GrowFault> {
         let size = pages * PAGE;
         if self.left < size {
             return Err(GrowFault::Exceeded);
@@ -156,7 +158,7 @@ impl ByteStore for ListStore {
         Ok(ChunkNo::new(k as u32))
     }
 
-    fn shrink(&mut self, chunk: ChunkNo) {
+    fn shrink(&mut self, _account: AccountNo, chunk: ChunkNo) {
         let k = chunk.number() as usize;
         self.left += self.sizes[k];
         self.sizes[k] = 0;
@@ -194,7 +196,7 @@ impl ByteStore for ListStore {
         clear(&mut self.bytes, position, size as usize);
     }
 
-    ghost rest_refl = { λ a. tt };
+    ghost rest_refl = { λ n a. tt };
 
-    ghost rest_trans = { λ a b c h k. tt };
+    ghost rest_trans = { λ n a b c h k. tt };
 }

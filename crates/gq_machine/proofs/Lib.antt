@@ -26,5 +26,8 @@ pub mod Resting_phases
 pub mod Machine_unchanged_world
 pub mod Turn_line_texts
 pub mod Machine_session_reads
+pub mod Machine_slot_bytes
+pub mod Machine_entry_lengths
+pub mod Machine_register_reads
 pub mod Many_machine_turns
 pub mod Machine_input_setting

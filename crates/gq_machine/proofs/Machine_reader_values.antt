@@ -1,7 +1,7 @@
 -- What the readers of a machine report.
 use Rattle.std.proofs.Common.{◌≡◌, ◌<◌, ◌≤◌, ℕ, zero, suc, ◌+◌, ◌*◌, ◌⊎◌, inl, inr, Bool, true, false, cond}
-use Rattle.std.proofs.Common.{List, [], ◌∷◌, length, map, get_or, Option, Some, None, IfSome, refl, sym, ap, subst, ◌∙◌, arith}
-use Rattle.std.specs.Prelude.{slice_get, sum_by, ◌==◌}
+use Rattle.std.proofs.Common.{List, [], ◌∷◌, length, get_or, Option, Some, None, IfSome, refl, sym, ap, subst, ◌∙◌, arith}
+use Rattle.std.specs.Prelude.{slice_get, sum_by}
 use Rattle.std.proofs.lemmas.List.{length-map}
 use Rattle.std.proofs.lemmas.List.Sums.{sum_by-cons}
 use Rattle.gq_tariff.specs.declared.amount.Amount.{Amount}
@@ -26,7 +26,7 @@ use Rattle.gq_ram.specs.Account_tree.{account_of}
 use Rattle.gq_trade.specs.declared.session.Session.{Session}
 use Rattle.gq_trade.specs.Trading.{account_of as account_no, its_account, node_of, session_in}
 use Rattle.gq_trade.specs.declared.trade_node.NodeState.{NodeState}
-use Rattle.gq_trade.specs.declared.trade_node.Stage.TheVariants.{Pending, Live, Ended}
+use Rattle.gq_trade.specs.declared.trade_node.Stage.TheVariants.{Live, Ended}
 use Rattle.gq_trade.specs.Balances.{node_at, received_for, while_live}
 use Rattle.gq_trade.specs.Trades.{HasAccount, Trades}
 use Rattle.gq_trade.proofs.Balances_after_trades.{for_other}
@@ -56,7 +56,7 @@ from_some None P a e h = absurd (none_some e)
 from_some (Some b) P a e h = subst P (some_same e) h
 
 -- what the slots and the heap of a leaf do not report is as in the frame
-seen_at : {A : Type 0} (g : world.Leaf → A) → ((leaf : world.Leaf) (st : Store) (ts : List Content) (h : Heap) → g (leaf_seen leaf st ts h) ≡ g leaf)
+pub seen_at : {A : Type 0} (g : world.Leaf → A) → ((leaf : world.Leaf) (st : Store) (ts : List Content) (h : Heap) → g (leaf_seen leaf st ts h) ≡ g leaf)
     → (leaf : ℕ → world.Leaf) (st : ℕ → Store) (own : List (List Content)) (hs : List Heap) (x : ℕ) (l : world.Leaf)
     → slice_get (leaves_seen leaf st own hs) x ≡ Some l → g l ≡ g (leaf x)
 seen_at g same leaf st [] hs x l e = absurd (none_some e)
@@ -97,8 +97,8 @@ none_given f leaves ns i (Some s ∷ ss) live ended =
 
 -- its account has nothing
 pub ended_none : (t : Slots) → AreLawful t → (i : ℕ) → i < length t.trades.trading.tree.parents → (node_at t.trades.nodes i).stage ≡ Ended
-    → ((account_of t.trades.trading.tree t.trades.trading.memory.ledger i).quota.ram ≡ 0)
-    × ((account_of t.trades.trading.tree t.trades.trading.memory.ledger i).quota.caps ≡ 0)
+    → ((account_of t.trades.trading.tree t.trades.trading.ledger i).quota.ram ≡ 0)
+    × ((account_of t.trades.trading.tree t.trades.trading.ledger i).quota.caps ≡ 0)
 ended_none t l i less ended =
     let w = t.trades.trading in
     let ns = t.trades.nodes in
@@ -277,7 +277,7 @@ module _ (i : Inside) (w : Machine) (e : machine_seen i ≡ w) (h : Holds i.fixe
 
   module _ (l : AreLawful i.state.slots) where
     -- the stored quota of a node is that of its account
-    pub quota_read : (reported : List ℕ) (n r : ℕ) → r ≡ (account_of t.trades.trading.tree t.trades.trading.memory.ledger n).quota.ram
+    pub quota_read : (reported : List ℕ) (n r : ℕ) → r ≡ (account_of t.trades.trading.tree t.trades.trading.ledger n).quota.ram
         → IfSome (slice_get (accounts w.scenario w.world reported) n) (λ a. r ≡ a.quota.ram)
     quota_read reported n r is =
         subst (λ (v : Machine). IfSome (slice_get (accounts v.scenario v.world reported) n) (λ a. r ≡ a.quota.ram)) e
@@ -286,8 +286,8 @@ module _ (i : Inside) (w : Machine) (e : machine_seen i ≡ w) (h : Holds i.fixe
         (quota_stored i.fixed.table (frame_of i.fixed.table i.state.leaves.items) t reported n a h.ready l h.of h.nodes g))))
 
     caps_read : (reported : List ℕ) (n r : ℕ)
-        → r ≡ (amount_in i.fixed.table.version (account_of t.trades.trading.tree t.trades.trading.memory.ledger n).quota.ram
-        (account_of t.trades.trading.tree t.trades.trading.memory.ledger n).quota.caps).caps
+        → r ≡ (amount_in i.fixed.table.version (account_of t.trades.trading.tree t.trades.trading.ledger n).quota.ram
+        (account_of t.trades.trading.tree t.trades.trading.ledger n).quota.caps).caps
         → IfSome (slice_get (accounts w.scenario w.world reported) n) (λ a. r ≡ a.quota.caps)
     caps_read reported n r is =
         subst (λ (v : Machine). IfSome (slice_get (accounts v.scenario v.world reported) n) (λ a. r ≡ a.quota.caps)) e
@@ -297,25 +297,25 @@ module _ (i : Inside) (w : Machine) (e : machine_seen i ≡ w) (h : Holds i.fixe
 
     -- where there are none, or none is counted, it is 0
     pub no_caps_read : (reported : List ℕ) (n : ℕ)
-        → (counts_caps i.fixed.table.version ≡ false) ⊎ ((account_of t.trades.trading.tree t.trades.trading.memory.ledger n).quota.caps ≡ 0)
+        → (counts_caps i.fixed.table.version ≡ false) ⊎ ((account_of t.trades.trading.tree t.trades.trading.ledger n).quota.caps ≡ 0)
         → IfSome (slice_get (accounts w.scenario w.world reported) n) (λ a. 0 ≡ a.quota.caps)
     no_caps_read reported n (inl one) =
-        let a = account_of t.trades.trading.tree t.trades.trading.memory.ledger n in
+        let a = account_of t.trades.trading.tree t.trades.trading.ledger n in
         caps_read reported n 0 (sym (no_caps i.fixed.table.version a.quota.ram a.quota.caps one))
     no_caps_read reported n (inr none) =
-        let a = account_of t.trades.trading.tree t.trades.trading.memory.ledger n in
+        let a = account_of t.trades.trading.tree t.trades.trading.ledger n in
         caps_read reported n 0 (sym (no_caps_of i.fixed.table.version a.quota.ram a.quota.caps none))
 
     pub all_caps_read : (reported : List ℕ) (n r : ℕ) → counts_caps i.fixed.table.version ≡ true
-        → r ≡ (account_of t.trades.trading.tree t.trades.trading.memory.ledger n).quota.caps
+        → r ≡ (account_of t.trades.trading.tree t.trades.trading.ledger n).quota.caps
         → IfSome (slice_get (accounts w.scenario w.world reported) n) (λ a. r ≡ a.quota.caps)
     all_caps_read reported n r two is =
-        let a = account_of t.trades.trading.tree t.trades.trading.memory.ledger n in
+        let a = account_of t.trades.trading.tree t.trades.trading.ledger n in
         caps_read reported n r (is ∙ sym (all_caps i.fixed.table.version a.quota.ram a.quota.caps two))
 
     pub none_left : (n : ℕ) → n < length (node_rows w.scenario) → (node_at t.trades.nodes n).stage ≡ Ended
-        → ((account_of t.trades.trading.tree t.trades.trading.memory.ledger n).quota.ram ≡ 0)
-        × ((account_of t.trades.trading.tree t.trades.trading.memory.ledger n).quota.caps ≡ 0)
+        → ((account_of t.trades.trading.tree t.trades.trading.ledger n).quota.ram ≡ 0)
+        × ((account_of t.trades.trading.tree t.trades.trading.ledger n).quota.caps ≡ 0)
     none_left n less gone = ended_none t l n (node_below n less) gone
 
     pub used_read : (x r : ℕ) → r ≡ (its_account t.trades.trading x).used.ram → IfSome (slice_get w.world.leaves x) (λ leaf. r ≡ held Ram w.world x leaf)
@@ -367,7 +367,7 @@ module _ (i : Inside) (w : Machine) (e : machine_seen i ≡ w) (h : Holds i.fixe
         (subst (λ j. IfSome (slice_get w.world.leaves j) (λ y. used ≡ held Ram w.world j y)) at reported) in
         let stored = used_is ∙ ap (λ (v : Machine). held Ram v.world n leaf.0) (sym e)
         ∙ ram_used i.fixed.table frame t n leaf.0 h.ready l h.of h.nodes leaf.1 in
-        let ledger = t.trades.trading.memory.ledger in
+        let ledger = t.trades.trading.ledger in
         let within = l.balanced.within (account_no t.trades.trading n) in
         let whole = account_within (λ a. a.quota.ram) refl ledger.accounts (account_no t.trades.trading n) in
         let total = l.balanced.quotas in

@@ -20,9 +20,10 @@ use Rattle.gq_contents.specs.Contents.{seen}
 use Rattle.gq_trade.specs.Numbers.{IsTaken}
 use Rattle.gq_trade.specs.Queues.{IsOldest, oldest_to}
 use Rattle.gq_trade.specs.Queues as queue
+use Rattle.gq_trade.proofs.Sessions_kept.{between_some}
 use Rattle.gq_trade.specs.Seen_sessions.{seen_in, session_seen, slot_id_seen}
 use Rattle.gq_trade.specs.Seen_requests.{AreServed, ask_seen, request_seen, taken_seen}
-use Rattle.gq_trade.specs.Trading.{AreBetween, AreOf, IsBetween, found, session_at}
+use Rattle.gq_trade.specs.Trading.{AreOf, found, session_at}
 use Rattle.gq_trade.specs.Trades.{Trades}
 use Rattle.gq_trade.specs.declared.requests.Request.{Request}
 use Rattle.gq_trade.specs.declared.session.Session.{Session}
@@ -70,14 +71,6 @@ taken_there g [] k h = cc
 taken_there g (None ∷ ss) zero h = h
 taken_there g (Some s ∷ ss) zero h = h
 taken_there g (s ∷ ss) (suc k) h = taken_there g ss k h
-
-between_at : (n m : ℕ) (ss : List (Option Session)) (k : ℕ) (q : Session) → AreBetween n m ss → get_or ss k None ≡ Some q → IsBetween n m q
-between_at n m [] zero q b e = absurd (none_some e)
-between_at n m [] (suc k) q b e = absurd (none_some e)
-between_at n m (None ∷ ss) zero q b e = absurd (none_some e)
-between_at n m (None ∷ ss) (suc k) q b e = between_at n m ss k q b e
-between_at n m (Some s ∷ ss) zero q b e = subst (IsBetween n m) (some_same e) b.0
-between_at n m (Some s ∷ ss) (suc k) q b e = between_at n m ss k q b.1 e
 
 -- PEAKS
 
@@ -202,7 +195,7 @@ module _ (i : Inside) (w : Machine) (e : machine_seen i ≡ w) (h : Holds i.fixe
       } → IsReportedOf w k reported
   session_read v same k o q is one reported as_reported =
       let at = ap (λ (y : Trades). get_or y.trading.sessions k None) (sym same) ∙ sym is ∙ one in
-      let between = between_at (length t.trades.trading.leaves) (length t.trades.trading.objects) t.trades.trading.sessions k q l.trading.between at in
+      let between = between_some (length t.trades.trading.leaves) (length t.trades.trading.objects) t.trades.trading.sessions k q l.trading.between at in
       let taken : IsTaken t.trades.trading.sessions k = subst (λ (z : Option Session). IsTrue (is_some z)) (sym at) refl in
       let level = subst (λ (z : Option Session). (found z).level ≤ 3) at (l.trades.given k taken).level in
       let leaves = l.count in

@@ -1,5 +1,5 @@
 -- The machine at the start of a scenario.
-use Rattle.std.proofs.Common.{◌≡◌, ◌==◌, ◌<◌, ℕ, zero, suc, Bool, true, false, cond, List, [], ◌∷◌, length, replicate, map, get_or, Option, Some, None}
+use Rattle.std.proofs.Common.{◌≡◌, ◌<◌, ℕ, zero, suc, Bool, true, false, cond, List, [], ◌∷◌, length, replicate, map, get_or, Option, Some, None}
 use Rattle.std.proofs.Common.{refl, sym, ap, subst, ◌∙◌, arith}
 use Rattle.std.specs.Prelude.{is_some, slice_get}
 use Rattle.gq_model.specs.declared.program.Section.TheVariants.{Main}
@@ -192,7 +192,7 @@ holds_first f m ready first empty prepared services =
       room_is = empty.trades.room;
       of = record {
         count = own_count s ls t first empty;
-        counted = counted_first s.version t.trades.trading.memory.ledger.price nodes.price;
+        counted = counted_first s.version t.trades.trading.ledger.price nodes.price;
         quanta = λ x c e. quantum_of s t.trades x c ready nodes e;
         stages = λ x less.
             (let count = own_count s ls t first empty in

@@ -1,13 +1,11 @@
 -- What holds of a machine holds where its world stays.
-use Rattle.std.proofs.Common.{◌≡◌, ℕ, Result, Ok, Err, length, refl, sym, ap, subst, ◌∙◌}
+use Rattle.std.proofs.Common.{◌≡◌, Result, Ok, Err, length, sym, ap, subst, ◌∙◌}
 use Rattle.std.specs.Prelude.{OnErr, OnOk, slice_get}
 use Rattle.gq_model.specs.declared.fault.Wrong.{Wrong}
 use Rattle.gq_model.specs.machine.Scenario.{system}
 use Rattle.gq_laws.specs.Session_links.{IsLinkedWorld}
 use Rattle.gq_laws.specs.Room.{IsRoomy}
 use Rattle.gq_laws.specs.Leaf_phases.{AreReady}
-use Rattle.gq_trade.specs.Trading.{account_no, with_memory}
-use Rattle.gq_trade.specs.Trades.{with_trading}
 use Rattle.gq_slots.specs.Slots.{Slots}
 use Rattle.gq_statements.specs.Systems.{IsOf}
 use Rattle.gq_prepared.specs.Account_nodes.{AreNodesOf}
@@ -16,7 +14,6 @@ use Rattle.gq_machine.specs.declared.machine_state.Fixed.{Fixed}
 use Rattle.gq_machine.specs.declared.machine_state.MachineState.{MachineState}
 use Rattle.gq_machine.specs.internal.Machine_invariant.{Holds}
 use Rattle.gq_machine.proofs.Machine_invariant_step.{SameCodes, prepared_with}
-use Rattle.gq_machine.proofs.Slot_system_kept.{nodes_kept}
 
 -- the same leaves and slots
 pub holds_same : (f : Fixed) (m n : MachineState) → n.leaves.items ≡ m.leaves.items → n.slots ≡ m.slots → Holds f m → Holds f n
@@ -51,41 +48,6 @@ holds_still f m n codes g of w h =
       nodes = subst (λ (t : Slots). AreNodesOf f.table t.trades) (sym g) h.nodes;
       room_is = ap (λ (t : Slots). t.trades.trading.room) g ∙ h.room_is;
       of = of;
-      linked = subst (IsLinkedWorld (system f.table)) (sym w) h.linked;
-      roomy = subst IsRoomy (sym w) h.roomy;
-      phases = subst (AreReady (system f.table)) (sym w) h.phases;
-    }
-
--- WHO PAYS
-
-abbrev pub paid_by : Slots → ℕ → Slots
-paid_by t x = record {
-  trades = with_trading t.trades (with_memory t.trades.trading (record {
-    ledger = t.trades.trading.memory.ledger;
-    payer = account_no t.trades.trading x;
-  }));
-  own = t.own;
-  heaps = t.heaps;
-}
-
--- another leaf pays
-pub holds_paid : (f : Fixed) (m n : MachineState) (x : ℕ) → n.leaves.items ≡ m.leaves.items → n.slots ≡ paid_by m.slots x → Holds f m → Holds f n
-holds_paid f m n x e g h =
-    let w : world_of f.table n.leaves.items n.slots ≡ world_of f.table m.leaves.items m.slots = λ i. world_of f.table (e i) (g i) in
-    let t = paid_by m.slots x in
-    let of : IsOf (system f.table) (frame_of f.table m.leaves.items) t =
-    record { count = h.of.count; counted = h.of.counted; quanta = h.of.quanta; stages = h.of.stages } in
-    record {
-      ready = h.ready;
-      services = h.services;
-      count = ap length e ∙ h.count;
-      count_prepared = h.count_prepared;
-      prepared = λ y c l p ec el ep. h.prepared y c l p ec (ap (λ ls. slice_get ls y) (sym e) ∙ el) ep;
-      nodes = subst (λ (u : Slots). AreNodesOf f.table u.trades) (sym g) (nodes_kept f.table m.slots t
-          (record { nodes = refl; parents = refl; leaves = refl; objects = refl; room = refl; price = refl }) h.nodes);
-      room_is = ap (λ (u : Slots). u.trades.trading.room) g ∙ h.room_is;
-      of = subst (λ (u : Slots). IsOf (system f.table) (frame_of f.table n.leaves.items) u) (sym g)
-          (subst (λ ls. IsOf (system f.table) (frame_of f.table ls) t) (sym e) of);
       linked = subst (IsLinkedWorld (system f.table)) (sym w) h.linked;
       roomy = subst IsRoomy (sym w) h.roomy;
       phases = subst (AreReady (system f.table)) (sym w) h.phases;

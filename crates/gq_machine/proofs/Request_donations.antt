@@ -1,6 +1,5 @@
 -- What is given with a request.
-use Rattle.std.proofs.Common.{◌≡◌, ◌<◌, ℕ, Bool, true, false, if◌then◌else◌, List, [], length, get_or, Option, Some, None, refl, sym, ap, subst, ◌∙◌, arith}
-use Rattle.std.specs.Prelude.{slice_get, ◌==◌}
+use Rattle.std.proofs.Common.{◌≡◌, ℕ, Bool, true, false, if◌then◌else◌, List, [], length, get_or, Option, Some, None, refl, sym, ap, ◌∙◌, arith}
 use Rattle.gq_model.specs.machine.Scenario.{Interface, Scenario, interface_in, open_caps, upgrade_caps}
 use Rattle.gq_model.specs.machine.World as world
 use Rattle.gq_model.proofs.Small_facts.{some_same}
@@ -8,7 +7,7 @@ use Rattle.gq_trade.specs.Numbers.{IsTaken}
 use Rattle.gq_trade.specs.Trading.{session_at}
 use Rattle.gq_trade.proofs.Sessions_kept.{between_at}
 use Rattle.gq_statements.specs.Systems.{AreLawful}
-use Rattle.gq_statements.proofs.Asking_keeps_sessions.{its_session, session_found}
+use Rattle.gq_statements.proofs.Asking_keeps_sessions.{session_found}
 use Rattle.gq_laws.specs.Ready.{IsUncounted}
 use Rattle.gq_prepared.specs.Prepared.{caps_at, names_of}
 use Rattle.gq_machine.specs.Machine_world.{frame_of, world_of}
@@ -24,8 +23,8 @@ version_one : (b : Bool) (price : ℕ) → price ≡ (if b then 1 else 0) → pr
 version_one true price e none = cc
 version_one false price e none = refl
 
-pub uncounted : (f : Fixed) (m : MachineState) → Holds f m → m.slots.trades.trading.memory.ledger.price ≡ 0 → IsUncounted f.table
-uncounted f m h none = h.ready.read.uncounted (version_one (counts_caps f.table.version) m.slots.trades.trading.memory.ledger.price h.nodes.price none)
+pub uncounted : (f : Fixed) (m : MachineState) → Holds f m → m.slots.trades.trading.ledger.price ≡ 0 → IsUncounted f.table
+uncounted f m h none = h.ready.read.uncounted (version_one (counts_caps f.table.version) m.slots.trades.trading.ledger.price h.nodes.price none)
 
 pub no_open_caps : (s : Scenario) → IsUncounted s → (name : List ℕ) → open_caps (interface_in name s.interfaces) ≡ 0
 no_open_caps s u name = by (interface_in name s.interfaces) refl
@@ -63,5 +62,5 @@ module _ (f : Fixed) (m : MachineState) (h : Holds f m) (l : AreLawful m.slots) 
       next_caps ∙ ap (λ (p : world.Session). upgrade_caps (interface_in p.service f.table.interfaces) p.level)
       (some_same (sym (session_found (frame_of f.table m.leaves.items) m.slots k taken) ∙ e))
 
-  pub session_uncounted : m.slots.trades.trading.memory.ledger.price ≡ 0 → caps_at f.services service level ≡ 0
+  pub session_uncounted : m.slots.trades.trading.ledger.price ≡ 0 → caps_at f.services service level ≡ 0
   session_uncounted none = next_caps ∙ no_upgrade_caps f.table (uncounted f m h none) (get_or (names_of f.table) service []) level

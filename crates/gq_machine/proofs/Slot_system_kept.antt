@@ -59,7 +59,7 @@ record SameTrading (w v : Trading) : Type 0 where
   pub leaves : v.leaves ≡ w.leaves
   pub objects : v.objects ≡ w.objects
   pub room : v.room ≡ w.room
-  pub price : v.memory.ledger.price ≡ w.memory.ledger.price
+  pub price : v.ledger.price ≡ w.ledger.price
 
 begun_same : (a : Ask) (w v : Trading) (k : ℕ) → trading.Begins a w (with_requests v w.requests) k → SameTrading w v
 begun_same Open w v k b =
@@ -77,7 +77,7 @@ begun_same Upgrade w v k b =
       leaves = ap (λ (t : Trading). t.leaves) b;
       objects = ap (λ (t : Trading). t.objects) b;
       room = ap (λ (t : Trading). t.room) b;
-      price = ap (λ (t : Trading). t.memory.ledger.price) b;
+      price = ap (λ (t : Trading). t.ledger.price) b;
     }
 begun_same Close w v k b =
     record {
@@ -85,7 +85,7 @@ begun_same Close w v k b =
       leaves = ap (λ (t : Trading). t.leaves) b;
       objects = ap (λ (t : Trading). t.objects) b;
       room = ap (λ (t : Trading). t.room) b;
-      price = ap (λ (t : Trading). t.memory.ledger.price) b;
+      price = ap (λ (t : Trading). t.ledger.price) b;
     }
 begun_same (Call n) w v k b =
     record {
@@ -93,7 +93,7 @@ begun_same (Call n) w v k b =
       leaves = ap (λ (t : Trading). t.leaves) b;
       objects = ap (λ (t : Trading). t.objects) b;
       room = ap (λ (t : Trading). t.room) b;
-      price = ap (λ (t : Trading). t.memory.ledger.price) b;
+      price = ap (λ (t : Trading). t.ledger.price) b;
     }
 
 pub scene_taken : (t u : Slots) (x : ℕ) (r : Request) → TakesOldest t u x r → SameScene t u
@@ -113,7 +113,7 @@ scene_ended t u k b =
       leaves = b.leaves;
       objects = ap (λ (w : Trading). w.objects) is;
       room = ap (λ (w : Trading). w.room) is;
-      price = ap (λ (w : Trading). w.memory.ledger.price) is ∙ same.0;
+      price = ap (λ (w : Trading). w.ledger.price) is ∙ same.0;
     }
 
 -- WHAT IT KEEPS

@@ -30,7 +30,7 @@ fn gift(
 ) -> Amount
     requires does { CanDo fixed.now state.now number (operation.Upgrade place bytes) }
     ensures gift { IsGift fixed.now state.now number place bytes result }
-    ensures counted { state.now.slots.trades.trading.memory.ledger.price ≡ 0 → result.caps ≡ 0 }
+    ensures counted { state.now.slots.trades.trading.ledger.price ≡ 0 → result.caps ≡ 0 }
 {
     let _table = &fixed.table;
     lawful(&state.slots);
@@ -56,7 +56,7 @@ fn next_caps(fixed: &Fixed, state: &MachineState, session: usize) -> u64
     requires there { IsTaken state.now.slots.trades.trading.sessions session }
     ensures caps { IfSome (world.session_at (world_of fixed.now.table state.now.leaves.items state.now.slots) session)
         (λ q. result ≡ upgrade_caps (interface_in q.service fixed.now.table.interfaces) q.level) }
-    ensures counted { state.now.slots.trades.trading.memory.ledger.price ≡ 0 → result ≡ 0 }
+    ensures counted { state.now.slots.trades.trading.ledger.price ≡ 0 → result ≡ 0 }
 {
     let _table = &fixed.table;
     lawful(&state.slots);

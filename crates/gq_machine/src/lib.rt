@@ -13,10 +13,11 @@
 //! Module `machine_state` has what is fixed at load and what changes. Modules `leaf_statements`, `donating_requests`, `taken_requests`, `section_replies` and
 //! `main_end` have what each kind of step makes of it. Each is a step of the abstract machine that keeps what holds between two steps. `machine_steps` has one
 //! turn of a leaf, `bursts` many of them in one go, and `output` the lines that they give. `input_settings` gives inputs other values. `world_reads` has what
-//! is reported of leaves, sessions, requests and slots between two steps.
+//! is reported of leaves, sessions, requests and slots between two steps, and `contents` what reports worlds apart beside.
 #![tactic(auto)]
 
 mod bursts;
+pub mod contents;
 pub mod donating_requests;
 pub mod event;
 pub mod input_settings;

@@ -30,6 +30,7 @@ use gq_scenario::node_numbers::NodeNo;
 use gq_scenario::scenario::LeafNo;
 use gq_slots::Slots;
 use gq_statements::paid_laws::lawful;
+use gq_tariff::Amount;
 use gq_tariff::price::PAGE;
 use gq_trade::Stage;
 use std::alloc::{AllocError, Global};
@@ -253,63 +254,43 @@ impl Machine {
         self.state.leaves[leaf.index()].steps()
     }
 
-    /// The RAM quota of a node, in bytes.
-    pub fn quota(&self, node: NodeNo) -> u64
+    /// The quota of a node. Capabilities are not counted in version 1, and are 0 there.
+    pub fn quota(&self, node: NodeNo) -> Amount
         requires { node < length (node_rows self.now.scenario) }
-        ensures { (reported : List ℕ) → IfSome (slice_get (accounts self.now.scenario self.now.world reported) node) (λ a. result ≡ a.quota.ram) }
+        ensures ram { (reported : List ℕ) → IfSome (slice_get (accounts self.now.scenario self.now.world reported) node) (λ a. result.ram ≡ a.quota.ram) }
+        ensures caps { (reported : List ℕ) → IfSome (slice_get (accounts self.now.scenario self.now.world reported) node) (λ a. result.caps ≡ a.quota.caps) }
     {
         lawful(&self.state.slots);
         let trades = self.state.slots.trades();
         match trades.stage(node.index()) {
-            Stage::Ended => 0,
-            Stage::Pending | Stage::Live => trades.quota(node.index()),
-        }
-    }
-
-    /// The quota of capabilities of a node: none is counted in version 1.
-    pub fn caps(&self, node: NodeNo) -> u64
-        requires { node < length (node_rows self.now.scenario) }
-        ensures { (reported : List ℕ) → IfSome (slice_get (accounts self.now.scenario self.now.world reported) node) (λ a. result ≡ a.quota.caps) }
-    {
-        lawful(&self.state.slots);
-        let trades = self.state.slots.trades();
-        match trades.stage(node.index()) {
-            Stage::Ended => 0,
+            Stage::Ended => Amount { ram: 0, caps: 0 },
             Stage::Pending | Stage::Live => {
+                let quota = trades.quota(node.index());
                 if self.fixed.table.scenario().version().counts_caps() {
-                    trades.caps(node.index())
+                    quota
                 } else {
-                    0
+                    Amount {
+                        ram: quota.ram,
+                        caps: 0,
+                    }
                 }
             }
         }
     }
 
-    /// What a leaf holds, in bytes.
-    pub fn used(&self, leaf: LeafNo) -> u64
+    /// What a leaf holds: bytes, and capabilities in version 2, where they are counted. In version 1 nothing is promised of capabilities.
+    pub fn used(&self, leaf: LeafNo) -> Amount
         requires { leaf < length (components self.now.scenario) }
-        ensures { IfSome (slice_get self.now.world.leaves leaf) (λ l. result ≡ held Ram self.now.world leaf l) }
+        ensures ram { IfSome (slice_get self.now.world.leaves leaf) (λ l. result.ram ≡ held Ram self.now.world leaf l) }
+        ensures caps { counts_caps self.now.scenario.version ≡ true
+            → IfSome (slice_get self.now.world.leaves leaf) (λ l. result.caps ≡ held Caps self.now.world leaf l) }
     {
         let place = leaf.index();
         lawful(&self.state.slots);
         let trades = self.state.slots.trades();
         match self.state.leaves[place].phase() {
-            Phase::Exited => 0,
+            Phase::Exited => Amount { ram: 0, caps: 0 },
             _ => trades.used(self.fixed.table.node(leaf).index()),
-        }
-    }
-
-    /// The capabilities that a leaf holds, in version 2, where they are counted. In version 1 nothing is promised of the answer.
-    pub fn caps_used(&self, leaf: LeafNo) -> u64
-        requires { leaf < length (components self.now.scenario) }
-        ensures { counts_caps self.now.scenario.version ≡ true → IfSome (slice_get self.now.world.leaves leaf) (λ l. result ≡ held Caps self.now.world leaf l) }
-    {
-        let place = leaf.index();
-        lawful(&self.state.slots);
-        let trades = self.state.slots.trades();
-        match self.state.leaves[place].phase() {
-            Phase::Exited => 0,
-            _ => trades.caps_used(self.fixed.table.node(leaf).index()),
         }
     }
 
@@ -322,7 +303,7 @@ impl Machine {
         let _leaves = self.fixed.table.leaf_count();
         let mut sum = 0;
         for number in 0..end {
-            sum += self.used(LeafNo::new(number as u32));
+            sum += self.used(LeafNo::new(number as u32)).ram;
         }
         sum
     }

@@ -34,7 +34,7 @@ fn scenario_laws(fixed: &Fixed, number: usize)
 // Whether capabilities are counted.
 fn counts_caps(fixed: &Fixed, state: &MachineState) -> bool
     requires holds { Holds fixed.now state.now }
-    ensures { result ≡ not (nat_eq state.now.slots.trades.trading.memory.ledger.price 0) }
+    ensures { result ≡ not (nat_eq state.now.slots.trades.trading.ledger.price 0) }
 {
     fixed.table.scenario().version().counts_caps()
 }

@@ -15,7 +15,7 @@ use Rattle.gq_contents.proofs.Content_caller_facts.{empty_kept}
 use Rattle.gq_model.specs.declared.program.Form.TheVariants as form
 use Rattle.gq_model.specs.machine.World as world
 use Rattle.gq_trade.specs.declared.session.Session.{Session}
-use Rattle.gq_trade.specs.Trading.{Trading, Accepts, Begins, Makes, Opens, asked, object_size, opened, session_at, session_in, store_of, with_memory}
+use Rattle.gq_trade.specs.Trading.{Trading, Accepts, Begins, Makes, Opens, asked, object_size, opened, session_at, session_in, store_of, with_ledger}
 use Rattle.gq_trade.specs.Trading.{with_requests}
 use Rattle.gq_trade.specs.Trades.{Trades, with_trading}
 use Rattle.gq_memory_rows.specs.Markets.{HasAsked, HasOne, IsQuiet, request_of, session_of}
@@ -68,8 +68,8 @@ opened_one w v (Some r) heap kept h none some =
       sessions = ap (λ (x : Trading). x.sessions) o.is ∙ (λ k. slice_set (h.sessions k) 0 (Some (opened (same k) o.object)));
       requests = it.0;
       slice = subst (λ st. IsSlice st o.object) (sym (ap (λ (x : Trading). store_of x 0) o.is))
-          (made_slice w.trading (with_memory w.trading v.trading.memory) (object_size w.trading 0) o.object heap kept
-          (subst (λ x. Makes w.trading (with_memory w.trading v.trading.memory) x (object_size w.trading 0) o.object)
+          (made_slice w.trading (with_ledger w.trading v.trading.ledger) (object_size w.trading 0) o.object heap kept
+          (subst (λ x. Makes w.trading (with_ledger w.trading v.trading.ledger) x (object_size w.trading 0) o.object)
           (ap (λ (s : Session). s.server) same) o.makes));
     }
 

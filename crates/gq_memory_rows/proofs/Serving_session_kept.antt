@@ -3,14 +3,13 @@ use Rattle.std.proofs.Common.{◌≡◌, ℕ, ◌<◌, length, get_or, Bool, fal
 use Rattle.std.specs.Prelude.{is_some}
 use Rattle.gq_tariff.specs.declared.amount.Amount.{Amount}
 use Rattle.gq_model.specs.machine.World as world
-use Rattle.gq_ram.specs.declared.account.AccountNo.{AccountNo}
 use Rattle.gq_trade.specs.Numbers.{added, free_number}
 use Rattle.gq_trade.specs.declared.requests.Request.{Request}
 use Rattle.gq_trade.specs.declared.session.SlotId.{SlotId}
 use Rattle.gq_trade.specs.declared.session.SlotId.TheVariants.{InLeaf, InSession}
-use Rattle.gq_trade.specs.Trading.{asked, fresh, session_in, with_memory}
+use Rattle.gq_trade.specs.Trading.{asked, fresh, session_in}
 use Rattle.gq_trade.specs.Balances.{node_at}
-use Rattle.gq_trade.specs.Trades.{IsLive, Trades, with_trading}
+use Rattle.gq_trade.specs.Trades.{IsLive, Trades}
 use Rattle.gq_slots.specs.Slots.{Slots, IsSlotId, holder}
 use Rattle.gq_slots.specs.Calls.{PutsSlot, SameBeside}
 use Rattle.gq_slots.specs.Session_calls.{TakesOldest, with_trades}
@@ -31,25 +30,6 @@ serves_beside old new k r v = record {
   server = live_then old.trades new.trades 0 r.nodes r.accounts.leaves v.server;
   client = live_then old.trades new.trades 1 r.nodes r.accounts.leaves v.client;
 }
-
--- another leaf pays
-abbrev paid_by : Slots → AccountNo → Slots
-paid_by s a = record {
-  trades = with_trading s.trades (with_memory s.trades.trading (record { ledger = s.trades.trading.memory.ledger; payer = a }));
-  own = s.own;
-  heaps = s.heaps;
-}
-
-pub serves_paid : (s n : Slots) (a : AccountNo) (k : ℕ) → n ≡ paid_by s a → Serves s k → Serves n k
-serves_paid s n a k e v =
-    subst (λ y. Serves y k) (sym e) (record {
-      small = v.small;
-      first = v.first;
-      own = v.own;
-      holder = v.holder;
-      server = record { there = v.server.there; live = v.server.live };
-      client = record { there = v.client.there; live = v.client.live };
-    })
 
 not_true : IsTrue false → ⊥
 not_true t = cc

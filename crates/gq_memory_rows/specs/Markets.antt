@@ -1,7 +1,7 @@
 -- Scenarios of whose leaves the first serves the others: before there is a session, and with one.
 use Rattle.std.specs.Prelude.{◌≡◌, ℕ, ◌<◌, List, [], ◌∷◌, Some, None, length, get_or}
 use Rattle.gq_tariff.specs.declared.amount.Amount.{Amount}
-use Rattle.gq_ram.specs.declared.account.AccountNo.{AccountNo}
+use Rattle.gq_store.specs.declared.AccountNo.{AccountNo}
 use Rattle.gq_ram.specs.Account_tree.{Tree, number}
 use Rattle.gq_trade.specs.declared.requests.Ask.TheVariants.{Open}
 use Rattle.gq_trade.specs.declared.requests.Request.{Request}

@@ -1,8 +1,7 @@
 -- What no call on a slot changes of the others.
 use Rattle.gq_trade.specs.declared.session.SlotId.{SlotId}
-use Rattle.gq_slots.specs.Slots.{Slots, IsPaidBy, IsSlotId, holder}
+use Rattle.gq_slots.specs.Slots.{Slots, IsSlotId}
 
--- each slot stays, and who pays for it
+-- each slot stays
 pub record Stays (old new : Slots) : Type 0 where
   pub slot_ids : (q : SlotId) → IsSlotId old q → IsSlotId new q
-  pub paid : (q : SlotId) → IsPaidBy old (holder old q) → IsPaidBy new (holder new q)

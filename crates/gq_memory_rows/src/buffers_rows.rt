@@ -1,10 +1,11 @@
 // A buffer that a server shares with its client.
-ghost use Rattle.std.specs.Prelude.{◌≡◌, IfOk, IfSome, IsTrue};
+ghost use Rattle.std.specs.Prelude.{◌<◌, IfOk, IfSome, IsTrue};
 ghost use Rattle.gq_memory_rows.specs.Serves.{IsMarket, Serves};
 
 use crate::trade_rows::{live, plan};
 use crate::used::used;
 use gq_contents::Content;
+use gq_model::program::Width;
 use gq_region::region_addresses;
 use gq_slots::{Addresses, Slots, sessions};
 use gq_tariff::Amount;
@@ -41,7 +42,6 @@ fn make_buffer(slots: &mut Slots, session: usize) -> bool
     ensures { IsTrue result → Serves slots.new session }
 {
     let buffer = SlotId::InSession(session, 0);
-    slots.pay_by(0);
     if !slots.content(buffer).is_empty() {
         return false;
     }
@@ -66,59 +66,48 @@ fn link(slots: &mut Slots, session: usize) -> bool
     }
 }
 
-// The client writes to its address 3, and says whether a byte lies there.
-fn write(slots: &mut Slots, addresses: &Addresses, session: usize, value: u8) -> bool
-    requires { Serves slots.old session }
+// The client writes to an address, and says whether the bytes of this width lie there.
+fn write(
+    slots: &mut Slots,
+    addresses: &Addresses,
+    session: usize,
+    width: Width,
+    address: u32,
+    value: u32,
+) -> bool
+    requires serves { Serves slots.old session }
+    requires near { address < 67108864 }
     ensures { IsTrue result → Serves slots.new session }
 {
-    slots.pay_by(1);
     match slots.content(SlotId::InLeaf(1, 0)) {
         Content::Link(other) if other as usize == session => {
-            region_addresses::store(addresses, slots, 1, 3, value)
-        }
-        _ => false,
-    }
-}
-
-// The client writes a number to the four bytes from its address 8 on, and says whether they lie there.
-fn write_number(slots: &mut Slots, addresses: &Addresses, session: usize, value: u32) -> bool
-    requires { Serves slots.old session }
-    ensures { IsTrue result → Serves slots.new session }
-{
-    slots.pay_by(1);
-    match slots.content(SlotId::InLeaf(1, 0)) {
-        Content::Link(other) if other as usize == session => {
-            region_addresses::store4(addresses, slots, 1, 8, value)
+            region_addresses::store(addresses, slots, 1, width, address, value)
         }
         _ => false,
     }
 }
 
 // What the client reads at its addresses: the byte at 3, the number in the four bytes from 8 on, and the byte behind the page of the buffer.
-fn read_back(slots: &mut Slots, addresses: &Addresses, session: usize) -> [Option<u32>; 3]
-    requires { Serves slots.old session }
-    ensures { Serves slots.new session }
+fn read_back(slots: &Slots, addresses: &Addresses, session: usize) -> [Option<u32>; 3]
+    requires { Serves slots.now session }
 {
-    slots.pay_by(1);
     match slots.content(SlotId::InLeaf(1, 0)) {
-        Content::Link(other) if other as usize == session => {
-            let byte = region_addresses::load(addresses, slots, 1, 3);
-            let number = region_addresses::load4(addresses, slots, 1, 8);
-            let behind = region_addresses::load(addresses, slots, 1, 4096);
-            [byte.map(u32::from), number, behind.map(u32::from)]
-        }
+        Content::Link(other) if other as usize == session => [
+            region_addresses::load(addresses, slots, 1, Width::Byte, 3),
+            region_addresses::load(addresses, slots, 1, Width::Word, 8),
+            region_addresses::load(addresses, slots, 1, Width::Byte, 4096),
+        ],
         _ => [None, None, None],
     }
 }
 
 // What the server reads in the byte 3 of its buffer.
-fn read(slots: &mut Slots, session: usize) -> Option<u8>
-    requires { Serves slots.old session }
+fn read(slots: &Slots, session: usize) -> Option<u32>
+    requires { Serves slots.now session }
 {
-    let buffer = SlotId::InSession(session, 0);
-    slots.pay_by(0);
-    if slots.content(buffer).size() > 3 {
-        Some(slots.load(buffer, 3))
+    let bytes = slots.extent(SlotId::InSession(session, 0))?;
+    if bytes.length > 3 {
+        Some(slots.read(bytes, Width::Byte, 3))
     } else {
         None
     }
@@ -126,7 +115,7 @@ fn read(slots: &mut Slots, session: usize) -> Option<u8>
 
 // What the client and the server read in the buffer once the client has written 77 and 1000 there, and how many pages are free then. Nothing where a step
 // fails.
-fn share(slots: &mut Slots, addresses: &Addresses) -> Option<([Option<u32>; 3], Option<u8>, u32)>
+fn share(slots: &mut Slots, addresses: &Addresses) -> Option<([Option<u32>; 3], Option<u32>, u32)>
     requires { IsMarket slots.old }
 {
     let session = opened(slots)?;
@@ -136,10 +125,10 @@ fn share(slots: &mut Slots, addresses: &Addresses) -> Option<([Option<u32>; 3], 
     if !link(slots, session) {
         return None;
     }
-    if !write(slots, addresses, session, 77) {
+    if !write(slots, addresses, session, Width::Byte, 3, 77) {
         return None;
     }
-    if !write_number(slots, addresses, session, 1000) {
+    if !write(slots, addresses, session, Width::Word, 8, 1000) {
         return None;
     }
     let seen = read_back(slots, addresses, session);
@@ -148,7 +137,7 @@ fn share(slots: &mut Slots, addresses: &Addresses) -> Option<([Option<u32>; 3], 
 }
 
 // The same by addresses of its own, over one service with a buffer of 16 bytes.
-fn shared(alloc: Global) -> Result<Option<([Option<u32>; 3], Option<u8>, u32)>, AllocError> {
+fn shared(alloc: Global) -> Result<Option<([Option<u32>; 3], Option<u32>, u32)>, AllocError> {
     let addresses = Addresses::new(vec![in alloc; 16]?);
     let seen = used(market(alloc), |slots| share(slots, &addresses));
     drop(addresses);

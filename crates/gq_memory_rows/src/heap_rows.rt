@@ -5,18 +5,19 @@ ghost use Rattle.gq_heap.specs.Heap.{IsHeap, AreInUse};
 use crate::used::used;
 use gq_heap::{Class, Heap, Place};
 use gq_list_store::ListStore;
-use gq_store::{ByteStore, GrowFault};
+use gq_store::{AccountNo, ByteStore, GrowFault};
 
 fn make_three<S: ByteStore>(
     heap: &mut Heap,
     store: &mut S,
+    account: AccountNo,
 ) -> Result<(Place, Place, Place), GrowFault>
-    requires { IsHeap heap.old (S.state store.old) }
-    ensures { IfOk result (λ p. AreInUse heap.new (S.state store.new) (p.0 ∷ p.1 ∷ p.2 ∷ [])) }
+    requires { IsHeap heap.old (S.state store.old account.0) }
+    ensures { IfOk result (λ p. AreInUse heap.new (S.state store.new account.0) (p.0 ∷ p.1 ∷ p.2 ∷ [])) }
 {
-    let a = heap.alloc(store, 16)?;
-    let b = heap.alloc(store, 16)?;
-    let c = heap.alloc(store, 16)?;
+    let a = heap.alloc(store, account, 16)?;
+    let b = heap.alloc(store, account, 16)?;
+    let c = heap.alloc(store, account, 16)?;
     Ok((c, b, a))
 }
 
@@ -24,21 +25,29 @@ fn make_three<S: ByteStore>(
 fn write_three<S: ByteStore>(
     heap: &Heap,
     store: &mut S,
+    account: AccountNo,
     a: Place,
     b: Place,
     c: Place,
 ) -> (u8, u8, u8)
-    requires { AreInUse heap.now (S.state store.old) (a ∷ b ∷ c ∷ []) }
-    ensures { AreInUse heap.now (S.state store.new) (a ∷ b ∷ c ∷ []) }
+    requires { AreInUse heap.now (S.state store.old account.0) (a ∷ b ∷ c ∷ []) }
+    ensures { AreInUse heap.now (S.state store.new account.0) (a ∷ b ∷ c ∷ []) }
 {
     heap.store(store, a, 0, 7);
     heap.store(store, b, 0, 8);
     heap.store(store, c, 0, 9);
-    read_three(heap, store, a, b, c)
+    read_three(heap, store, account, a, b, c)
 }
 
-fn read_three<S: ByteStore>(heap: &Heap, store: &S, a: Place, b: Place, c: Place) -> (u8, u8, u8)
-    requires { AreInUse heap.now (S.state store.now) (a ∷ b ∷ c ∷ []) }
+fn read_three<S: ByteStore>(
+    heap: &Heap,
+    store: &S,
+    account: AccountNo,
+    a: Place,
+    b: Place,
+    c: Place,
+) -> (u8, u8, u8)
+    requires { AreInUse heap.now (S.state store.now account.0) (a ∷ b ∷ c ∷ []) }
 {
     (
         heap.load(store, a, 0),
@@ -47,60 +56,81 @@ fn read_three<S: ByteStore>(heap: &Heap, store: &S, a: Place, b: Place, c: Place
     )
 }
 
-fn free_three<S: ByteStore>(heap: &mut Heap, store: &mut S, a: Place, b: Place, c: Place)
-    requires { AreInUse heap.old (S.state store.old) (a ∷ b ∷ c ∷ []) }
-    ensures { IsHeap heap.new (S.state store.new) }
+fn free_three<S: ByteStore>(
+    heap: &mut Heap,
+    store: &mut S,
+    account: AccountNo,
+    a: Place,
+    b: Place,
+    c: Place,
+)
+    requires { AreInUse heap.old (S.state store.old account.0) (a ∷ b ∷ c ∷ []) }
+    ensures { IsHeap heap.new (S.state store.new account.0) }
 {
-    heap.free(store, a);
-    heap.free(store, b);
-    heap.free(store, c);
+    heap.free(store, account, a);
+    heap.free(store, account, b);
+    heap.free(store, account, c);
 }
 
-fn make_two<S: ByteStore>(heap: &mut Heap, store: &mut S) -> Result<(Place, Place), GrowFault>
-    requires { IsHeap heap.old (S.state store.old) }
-    ensures { IfOk result (λ p. AreInUse heap.new (S.state store.new) (p.0 ∷ p.1 ∷ [])) }
+fn make_two<S: ByteStore>(
+    heap: &mut Heap,
+    store: &mut S,
+    account: AccountNo,
+) -> Result<(Place, Place), GrowFault>
+    requires { IsHeap heap.old (S.state store.old account.0) }
+    ensures { IfOk result (λ p. AreInUse heap.new (S.state store.new account.0) (p.0 ∷ p.1 ∷ [])) }
 {
-    let a = heap.alloc(store, 16)?;
-    let b = heap.alloc(store, 16)?;
+    let a = heap.alloc(store, account, 16)?;
+    let b = heap.alloc(store, account, 16)?;
     Ok((b, a))
 }
 
 // Writes 7 to the first byte of one block and 9 to that of the other, and gives what both read then.
-fn write_two<S: ByteStore>(heap: &Heap, store: &mut S, a: Place, b: Place) -> (u8, u8)
-    requires { AreInUse heap.now (S.state store.old) (a ∷ b ∷ []) }
+fn write_two<S: ByteStore>(
+    heap: &Heap,
+    store: &mut S,
+    account: AccountNo,
+    a: Place,
+    b: Place,
+) -> (u8, u8)
+    requires { AreInUse heap.now (S.state store.old account.0) (a ∷ b ∷ []) }
 {
     heap.store(store, a, 0, 7);
     heap.store(store, b, 0, 9);
     (heap.load(store, a, 0), heap.load(store, b, 0))
 }
 
-fn free_two<S: ByteStore>(heap: &mut Heap, store: &mut S, a: Place, b: Place)
-    requires { AreInUse heap.old (S.state store.old) (a ∷ b ∷ []) }
-    ensures { IsHeap heap.new (S.state store.new) }
+fn free_two<S: ByteStore>(heap: &mut Heap, store: &mut S, account: AccountNo, a: Place, b: Place)
+    requires { AreInUse heap.old (S.state store.old account.0) (a ∷ b ∷ []) }
+    ensures { IsHeap heap.new (S.state store.new account.0) }
 {
-    heap.free(store, a);
-    heap.free(store, b);
+    heap.free(store, account, a);
+    heap.free(store, account, b);
 }
 
 // What two blocks read once each is written, where two others were freed before, and what the heap costs then.
-fn read_again<S: ByteStore>(heap: &mut Heap, store: &mut S) -> Result<((u8, u8), u64), GrowFault>
-    requires { IsHeap heap.old (S.state store.old) }
+fn read_again<S: ByteStore>(
+    heap: &mut Heap,
+    store: &mut S,
+    account: AccountNo,
+) -> Result<((u8, u8), u64), GrowFault>
+    requires { IsHeap heap.old (S.state store.old account.0) }
 {
-    let (a, b) = make_two(heap, store)?;
-    free_two(heap, store, a, b);
-    let (c, d) = make_two(heap, store)?;
-    let read = write_two(heap, store, c, d);
+    let (a, b) = make_two(heap, store, account)?;
+    free_two(heap, store, account, a, b);
+    let (c, d) = make_two(heap, store, account)?;
+    let read = write_two(heap, store, account, c, d);
     Ok((read, heap.charge()))
 }
 
 // Makes so many blocks of 16 bytes, and says whether each was made.
-fn fill<S: ByteStore>(heap: &mut Heap, store: &mut S, count: u32) -> bool
-    requires { IsHeap heap.old (S.state store.old) }
-    ensures { IsHeap heap.new (S.state store.new) }
+fn fill<S: ByteStore>(heap: &mut Heap, store: &mut S, account: AccountNo, count: u32) -> bool
+    requires { IsHeap heap.old (S.state store.old account.0) }
+    ensures { IsHeap heap.new (S.state store.new account.0) }
 {
     let mut all = true;
     for _ in 0..count {
-        if heap.alloc(store, 16).is_err() {
+        if heap.alloc(store, account, 16).is_err() {
             all = false;
         }
     }
@@ -111,37 +141,49 @@ fn fill<S: ByteStore>(heap: &mut Heap, store: &mut S, count: u32) -> bool
 fn read_last<S: ByteStore>(
     heap: &mut Heap,
     store: &mut S,
+    account: AccountNo,
 ) -> Result<((u8, u8, u8), bool, (u8, u8, u8)), GrowFault>
-    requires { IsHeap heap.old (S.state store.old) }
+    requires { IsHeap heap.old (S.state store.old account.0) }
 {
-    let (a, b, c) = make_three(heap, store)?;
-    let written = write_three(heap, store, a, b, c);
-    free_three(heap, store, a, b, c);
-    let (d, e, f) = make_three(heap, store)?;
+    let (a, b, c) = make_three(heap, store, account)?;
+    let written = write_three(heap, store, account, a, b, c);
+    free_three(heap, store, account, a, b, c);
+    let (d, e, f) = make_three(heap, store, account)?;
     let are_apart = d != e && d != f && e != f;
-    Ok((written, are_apart, read_three(heap, store, d, e, f)))
+    Ok((
+        written,
+        are_apart,
+        read_three(heap, store, account, d, e, f),
+    ))
 }
 
 // What the heap costs in bytes and capabilities with a large block, without it, and once a small one is made and freed after it.
-fn charges<S: ByteStore>(heap: &mut Heap, store: &mut S) -> Result<[(u64, u64); 4], GrowFault>
-    requires { IsHeap heap.old (S.state store.old) }
-    ensures { IsHeap heap.new (S.state store.new) }
+fn charges<S: ByteStore>(
+    heap: &mut Heap,
+    store: &mut S,
+    account: AccountNo,
+) -> Result<[(u64, u64); 4], GrowFault>
+    requires { IsHeap heap.old (S.state store.old account.0) }
+    ensures { IsHeap heap.new (S.state store.new account.0) }
 {
-    let large = heap.alloc(store, 2049)?;
+    let large = heap.alloc(store, account, 2049)?;
     let with_large = (heap.charge(), heap.charge_caps());
-    heap.free(store, large);
+    heap.free(store, account, large);
     let without = (heap.charge(), heap.charge_caps());
-    let small = heap.alloc(store, 2048)?;
+    let small = heap.alloc(store, account, 2048)?;
     let with_small = (heap.charge(), heap.charge_caps());
-    heap.free(store, small);
+    heap.free(store, account, small);
     let last = (heap.charge(), heap.charge_caps());
     Ok([with_large, without, with_small, last])
 }
 
 // The same in a heap of its own.
-fn reuse_two<S: ByteStore>(store: &mut S) -> Result<((u8, u8), u64), GrowFault> {
+fn reuse_two<S: ByteStore>(
+    store: &mut S,
+    account: AccountNo,
+) -> Result<((u8, u8), u64), GrowFault> {
     let mut heap = Heap::new();
-    let read = read_again(&mut heap, store);
+    let read = read_again(&mut heap, store, account);
     drop(heap);
     read
 }
@@ -150,6 +192,7 @@ fn reuse_two<S: ByteStore>(store: &mut S) -> Result<((u8, u8), u64), GrowFault> 
 // how many places were in use at most.
 fn reuse_last<S: ByteStore>(
     store: &mut S,
+    account: AccountNo,
 ) -> (
     bool,
     Result<((u8, u8, u8), bool, (u8, u8, u8)), GrowFault>,
@@ -157,8 +200,8 @@ fn reuse_last<S: ByteStore>(
     u32,
 ) {
     let mut heap = Heap::new();
-    let is_full = fill(&mut heap, store, 253);
-    let read = read_last(&mut heap, store);
+    let is_full = fill(&mut heap, store, account, 253);
+    let read = read_last(&mut heap, store, account);
     let charge = heap.charge();
     let peak = heap.peak(Class::Bytes16);
     drop(heap);
@@ -166,10 +209,13 @@ fn reuse_last<S: ByteStore>(
 }
 
 // Whether a page of blocks was made, and why one more of them was not, and one of the next class.
-fn refuse_more<S: ByteStore>(store: &mut S) -> (bool, [Option<GrowFault>; 2]) {
+fn refuse_more<S: ByteStore>(store: &mut S, account: AccountNo) -> (bool, [Option<GrowFault>; 2]) {
     let mut heap = Heap::new();
-    let is_full = fill(&mut heap, store, 256);
-    let refused = [heap.alloc(store, 16).err(), heap.alloc(store, 17).err()];
+    let is_full = fill(&mut heap, store, account, 256);
+    let refused = [
+        heap.alloc(store, account, 16).err(),
+        heap.alloc(store, account, 17).err(),
+    ];
     drop(heap);
     (is_full, refused)
 }
@@ -177,10 +223,14 @@ fn refuse_more<S: ByteStore>(store: &mut S) -> (bool, [Option<GrowFault>; 2]) {
 // What large blocks cost, and why there is no other one then.
 fn give_back<S: ByteStore>(
     store: &mut S,
+    account: AccountNo,
 ) -> (Result<[(u64, u64); 4], GrowFault>, [Option<GrowFault>; 2]) {
     let mut heap = Heap::new();
-    let charges = charges(&mut heap, store);
-    let refused = [heap.alloc(store, 32).err(), heap.alloc(store, 8193).err()];
+    let charges = charges(&mut heap, store, account);
+    let refused = [
+        heap.alloc(store, account, 32).err(),
+        heap.alloc(store, account, 8193).err(),
+    ];
     drop(heap);
     (charges, refused)
 }
@@ -191,9 +241,18 @@ fn uses_places_again(rt: HostRuntime) {
     let alloc = rt.alloc();
     assert_eq!(rt;
         (
-            used(ListStore::new(alloc, 1, None), reuse_two),
-            used(ListStore::new(alloc, 1, None), reuse_last),
-            used(ListStore::new(alloc, 1, None), refuse_more)
+            used(
+                ListStore::new(alloc, 1, None),
+                |store| reuse_two(store, AccountNo(0))
+            ),
+            used(
+                ListStore::new(alloc, 1, None),
+                |store| reuse_last(store, AccountNo(0))
+            ),
+            used(
+                ListStore::new(alloc, 1, None),
+                |store| refuse_more(store, AccountNo(0))
+            )
         ),
         (
             Ok(Ok(((7, 9), 4096))),
@@ -206,7 +265,10 @@ fn uses_places_again(rt: HostRuntime) {
 #[test]
 fn gives_large_blocks_back(rt: HostRuntime) {
     assert_eq!(rt;
-        used(ListStore::new(rt.alloc(), 2, Some(1)), give_back),
+        used(
+            ListStore::new(rt.alloc(), 2, Some(1)),
+            |store| give_back(store, AccountNo(0))
+        ),
         Ok((
             Ok([(4096, 1), (0, 0), (4096, 1), (4096, 1)]),
             [Some(GrowFault::CapsExceeded), Some(GrowFault::Exceeded)]

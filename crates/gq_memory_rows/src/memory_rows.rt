@@ -1,53 +1,46 @@
 // The memory of many accounts: what each has of its own, and refusals in both kinds.
 ghost use Rattle.std.specs.Prelude.{◌≡◌, ◌≢◌, IfOk};
 ghost use Rattle.gq_ram.specs.Account_table.{IsOpen};
-ghost use Rattle.gq_trade.specs.Stores.{store_of};
-ghost use Rattle.gq_trade.specs.Rest.{SameRest};
+ghost use Rattle.gq_ram.specs.Account_stores.{store_at, SameRest};
 
 use crate::ram_rows::{added, moved, moved_caps};
 use gq_ram::{AccountFault, AccountNo, Accounts};
 use gq_store::{ByteStore, ChunkNo, GrowFault};
-use gq_trade::Memory;
 use std::alloc::{AllocError, Global};
 
-// A page whose last byte is `value`.
-fn page_with(memory: &mut Memory, value: u8) -> Result<ChunkNo, GrowFault>
-    ensures size { IfOk result (λ chunk. (store_of memory.new).size chunk ≡ 4096) }
-    ensures rest { SameRest memory.old memory.new }
+// A page of an account whose last byte is `value`.
+fn page_with(accounts: &mut Accounts, account: AccountNo, value: u8) -> Result<ChunkNo, GrowFault>
+    ensures size { IfOk result (λ chunk. (store_at accounts.new account.0).size chunk ≡ 4096) }
+    ensures rest { SameRest account.0 accounts.old accounts.new }
 {
-    let chunk = memory.grow(1)?;
-    memory.store(chunk, 4095, value);
+    let chunk = ByteStore::grow(accounts, account, 1)?;
+    ByteStore::store(accounts, chunk, 4095, value);
     Ok(chunk)
 }
 
 // What each of two accounts reads of its page, once both have one.
 fn read_both(
-    memory: &mut Memory,
+    accounts: &mut Accounts,
     first: AccountNo,
     second: AccountNo,
 ) -> Result<(u8, u8), GrowFault>
-    requires first_open { IsOpen memory.old.ledger.accounts first.0 }
-    requires second_open { IsOpen memory.old.ledger.accounts second.0 }
-    requires apart { first.0 ≢ second.0 }
+    requires { first.0 ≢ second.0 }
 {
-    memory.pay_by(first);
-    let one = page_with(memory, 7)?;
-    memory.pay_by(second);
-    let two = page_with(memory, 9)?;
-    memory.pay_by(first);
-    let of_first = memory.load(one, 4095);
-    memory.pay_by(second);
-    Ok((of_first, memory.load(two, 4095)))
+    let one = page_with(accounts, first, 7)?;
+    let two = page_with(accounts, second, 9)?;
+    let of_first = ByteStore::load(accounts, one, 4095);
+    let of_second = ByteStore::load(accounts, two, 4095);
+    Ok((of_first, of_second))
 }
 
 // What a page reads: a word at its end, and that word once two of its bytes are cleared. Then the page is given back.
-fn read_words(memory: &mut Memory) -> Result<(u32, u32), GrowFault> {
-    let chunk = memory.grow(1)?;
-    memory.store4(chunk, 4092, 67305985);
-    let word = memory.load4(chunk, 4092);
-    memory.clear(chunk, 4093, 2);
-    let cleared = memory.load4(chunk, 4092);
-    memory.shrink(chunk);
+fn read_words(accounts: &mut Accounts, account: AccountNo) -> Result<(u32, u32), GrowFault> {
+    let chunk = ByteStore::grow(accounts, account, 1)?;
+    ByteStore::store4(accounts, chunk, 4092, 67305985);
+    let word = ByteStore::load4(accounts, chunk, 4092);
+    ByteStore::clear(accounts, chunk, 4093, 2);
+    let cleared = ByteStore::load4(accounts, chunk, 4092);
+    ByteStore::shrink(accounts, account, chunk);
     Ok((word, cleared))
 }
 
@@ -69,23 +62,20 @@ fn two_members(
     Ok((a, b, first, second))
 }
 
-// What two accounts read of their pages, whether the second one pays then, what it is answered for another page, and how many pages are free.
+// What two accounts read of their pages, what the second one is answered for another page, and how many pages are free.
 fn two_pages(
-    memory: &mut Memory,
+    accounts: &mut Accounts,
     first: AccountNo,
     second: AccountNo,
-) -> (Result<(u8, u8), GrowFault>, bool, Option<GrowFault>, u32)
-    requires first_open { IsOpen memory.old.ledger.accounts first.0 }
-    requires second_open { IsOpen memory.old.ledger.accounts second.0 }
-    requires apart { first.0 ≢ second.0 }
+) -> (Result<(u8, u8), GrowFault>, Option<GrowFault>, u32)
+    requires { first.0 ≢ second.0 }
 {
-    let read = read_both(memory, first, second);
-    let is_payer = memory.payer() == second;
-    let refused = memory.grow(1).err();
-    (read, is_payer, refused, memory.accounts().free_pages())
+    let read = read_both(accounts, first, second);
+    let refused = ByteStore::grow(accounts, second, 1).err();
+    (read, refused, accounts.free_pages())
 }
 
-// The same in memory of two members, with what the moves of a page to each were answered.
+// The same of two members, with what the moves of a page to each were answered.
 fn keep_pages(
     alloc: Global,
 ) -> Result<
@@ -93,20 +83,17 @@ fn keep_pages(
         (
             Answer,
             Answer,
-            (Result<(u8, u8), GrowFault>, bool, Option<GrowFault>, u32),
+            (Result<(u8, u8), GrowFault>, Option<GrowFault>, u32),
         ),
     >,
     AllocError,
 > {
     let mut accounts = Accounts::new(alloc, 65536, None)?;
-    let members = two_members(&mut accounts);
-    let root = accounts.root();
-    let mut memory = Memory::new(accounts, root);
-    let seen = match members {
-        Ok((a, b, first, second)) => Some((first, second, two_pages(&mut memory, a, b))),
+    let seen = match two_members(&mut accounts) {
+        Ok((a, b, first, second)) => Some((first, second, two_pages(&mut accounts, a, b))),
         Err(_) => None,
     };
-    drop(memory);
+    drop(accounts);
     Ok(seen)
 }
 
@@ -114,11 +101,7 @@ fn keep_pages(
 fn keeps_what_each_account_has(rt: HostRuntime) {
     assert_eq!(rt;
         keep_pages(rt.alloc()),
-        Ok(Some((
-            Ok(()),
-            Ok(()),
-            (Ok((7, 9)), true, Some(GrowFault::Exceeded), 14)
-        )))
+        Ok(Some((Ok(()), Ok(()), (Ok((7, 9)), Some(GrowFault::Exceeded), 14))))
     );
 }
 
@@ -133,37 +116,26 @@ fn one_member(accounts: &mut Accounts) -> Result<(AccountNo, Answer, Answer), Al
     Ok((a, bytes, caps))
 }
 
-// The memory of that member.
-fn of_member(alloc: Global) -> Result<(Memory, Answer, Answer), AllocError> {
-    let mut accounts = Accounts::new(alloc, 65536, Some(2))?;
-    match one_member(&mut accounts) {
-        Ok((a, bytes, caps)) => Ok((Memory::new(accounts, a), bytes, caps)),
-        Err(refused) => {
-            drop(accounts);
-            Err(refused)
-        }
-    }
-}
-
 // What three pages are answered, what words read, and what one page, two pages and one page again are answered.
 fn grown(
-    memory: &mut Memory,
+    accounts: &mut Accounts,
+    account: AccountNo,
 ) -> (
     Option<GrowFault>,
     Result<(u32, u32), GrowFault>,
     [Option<GrowFault>; 3],
 ) {
-    let refused = memory.grow(3).err();
-    let read = read_words(memory);
+    let refused = ByteStore::grow(accounts, account, 3).err();
+    let read = read_words(accounts, account);
     let grown = [
-        memory.grow(1).err(),
-        memory.grow(2).err(),
-        memory.grow(1).err(),
+        ByteStore::grow(accounts, account, 1).err(),
+        ByteStore::grow(accounts, account, 2).err(),
+        ByteStore::grow(accounts, account, 1).err(),
     ];
     (refused, read, grown)
 }
 
-// The same in the memory of that member, with what the moves to it were answered.
+// The same of that member, with what the moves to it were answered.
 fn refuse_pages(
     alloc: Global,
 ) -> Result<
@@ -178,10 +150,13 @@ fn refuse_pages(
     ),
     AllocError,
 > {
-    let (mut memory, bytes, caps) = of_member(alloc)?;
-    let seen = grown(&mut memory);
-    drop(memory);
-    Ok((bytes, caps, seen))
+    let mut accounts = Accounts::new(alloc, 65536, Some(2))?;
+    let seen = match one_member(&mut accounts) {
+        Ok((a, bytes, caps)) => Ok((bytes, caps, grown(&mut accounts, a))),
+        Err(refused) => Err(refused),
+    };
+    drop(accounts);
+    seen
 }
 
 // The bytes 1, 2, 3 and 4 spell 67305985, and 1, 0, 0 and 4 spell 67108865.

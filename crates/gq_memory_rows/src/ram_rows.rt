@@ -5,6 +5,7 @@ ghost use Rattle.gq_ram.specs.Account_table.{IsOpen};
 use crate::used::used;
 use gq_dataspace::DsId;
 use gq_ram::{AccountFault, AccountNo, Accounts};
+use gq_tariff::Amount;
 use std::alloc::AllocError;
 
 // `add`, by which accounts are open.
@@ -17,7 +18,7 @@ fn opened(accounts: &mut Accounts, reference: AccountNo) -> Result<AccountNo, Al
     accounts.add(reference)
 }
 
-// `transfer`, by which accounts are open.
+// `transfer` of bytes, by which accounts are open.
 pub(crate) fn moved(
     accounts: &mut Accounts,
     from: AccountNo,
@@ -28,10 +29,17 @@ pub(crate) fn moved(
     requires to_open { IsOpen accounts.old.accounts to.0 }
     ensures { (k : ℕ) → IsOpen accounts.old.accounts k → IsOpen accounts.new.accounts k }
 {
-    accounts.transfer(from, to, amount)
+    accounts.transfer(
+        from,
+        to,
+        Amount {
+            ram: amount,
+            caps: 0,
+        },
+    )
 }
 
-// `transfer_caps`, by which accounts are open.
+// `transfer` of capabilities, by which accounts are open.
 pub(crate) fn moved_caps(
     accounts: &mut Accounts,
     from: AccountNo,
@@ -42,7 +50,14 @@ pub(crate) fn moved_caps(
     requires to_open { IsOpen accounts.old.accounts to.0 }
     ensures { (k : ℕ) → IsOpen accounts.old.accounts k → IsOpen accounts.new.accounts k }
 {
-    accounts.transfer_caps(from, to, amount)
+    accounts.transfer(
+        from,
+        to,
+        Amount {
+            ram: 0,
+            caps: amount,
+        },
+    )
 }
 
 // `alloc`, by which accounts are open.
@@ -104,10 +119,14 @@ fn trade_bytes(
         made(accounts, a, 4097).err(),
         made(accounts, a, 1).err(),
     ];
-    let held = (accounts.used(a), accounts.avail(a), accounts.free_pages());
+    let held = (
+        accounts.used(a).ram,
+        accounts.avail(a).ram,
+        accounts.free_pages(),
+    );
     let end = closed(accounts, a);
     let root = accounts.root();
-    let left = (accounts.quota(root), accounts.free_pages());
+    let left = (accounts.quota(root).ram, accounts.free_pages());
     Ok((moves, refusals, held, end, left))
 }
 
@@ -140,10 +159,10 @@ fn trade_capabilities(
         moved(accounts, root, a, 8192),
     ];
     let refusals = [made(accounts, a, 1).err(), made(accounts, a, 1).err()];
-    let used = accounts.caps_used(a);
+    let used = accounts.used(a).caps;
     let end = closed(accounts, a);
     let root = accounts.root();
-    Ok((moves, refusals, used, end, accounts.caps(root)))
+    Ok((moves, refusals, used, end, accounts.quota(root).caps))
 }
 
 // Bytes and capabilities move between an account and its members alone, and come back with the end of an account; one that has members does not end.

@@ -2,12 +2,12 @@
 use crate::used::used;
 use gq_heap::Heap;
 use gq_list_store::{ListStore, share};
-use gq_store::{ByteStore, GrowFault};
+use gq_store::{AccountNo, ByteStore, GrowFault};
 
 // What each reads in a heap of its own.
 fn shared<S: ByteStore>(store: &mut S) -> Result<(u8, u8, u8), GrowFault> {
     let mut heap = Heap::new();
-    let read = share(&mut heap, store);
+    let read = share(&mut heap, store, AccountNo(0));
     drop(heap);
     read
 }

@@ -2,37 +2,39 @@
 use crate::used::used;
 use gq_list_store::ListStore;
 use gq_sliced::Sliced;
-use gq_store::{ByteStore, GrowFault};
+use gq_store::{AccountNo, ByteStore, GrowFault};
 
 // What is seen of a slice of a page: its last byte before and after a write, its size, and what a second slice is answered beside it.
 fn see_a_page<S: ByteStore>(
     sliced: &Sliced,
     store: &mut S,
+    account: AccountNo,
 ) -> Result<(u8, u8, u32, Option<GrowFault>), GrowFault> {
-    let slice = sliced.alloc(store, 4064)?;
+    let slice = sliced.alloc(store, account, 4064)?;
     let before = sliced.load(store, slice, 4063);
     sliced.store(store, slice, 4063, 7);
     let after = sliced.load(store, slice, 4063);
     let size = sliced.size(store, slice);
-    let second = sliced.alloc(store, 1);
-    sliced.free(store, slice);
+    let second = sliced.alloc(store, account, 1);
+    sliced.free(store, account, slice);
     Ok((before, after, size, second.err()))
 }
 
 // The same, and then what slices of 4065 bytes and of one byte are answered.
 fn see_pages<S: ByteStore>(
     store: &mut S,
+    account: AccountNo,
 ) -> (
     Result<(u8, u8, u32, Option<GrowFault>), GrowFault>,
     [Option<GrowFault>; 2],
 ) {
     let sliced = Sliced::new();
-    let seen = see_a_page(&sliced, store);
+    let seen = see_a_page(&sliced, store, account);
     (
         seen,
         [
-            sliced.alloc(store, 4065).err(),
-            sliced.alloc(store, 1).err(),
+            sliced.alloc(store, account, 4065).err(),
+            sliced.alloc(store, account, 1).err(),
         ],
     )
 }
@@ -40,7 +42,10 @@ fn see_pages<S: ByteStore>(
 #[test]
 fn gives_slices_back_whole(rt: HostRuntime) {
     assert_eq!(rt;
-        used(ListStore::new(rt.alloc(), 1, Some(1)), see_pages),
+        used(
+            ListStore::new(rt.alloc(), 1, Some(1)),
+            |store| see_pages(store, AccountNo(0))
+        ),
         Ok((
             Ok((0, 7, 4064, Some(GrowFault::Exceeded))),
             [Some(GrowFault::Exceeded), None]
@@ -49,13 +54,17 @@ fn gives_slices_back_whole(rt: HostRuntime) {
 }
 
 // What slices of so many bytes are answered in turn.
-fn answers<S: ByteStore>(store: &mut S, sizes: [u16; 3]) -> [Option<GrowFault>; 3] {
+fn answers<S: ByteStore>(
+    store: &mut S,
+    account: AccountNo,
+    sizes: [u16; 3],
+) -> [Option<GrowFault>; 3] {
     let sliced = Sliced::new();
     let [first, second, third] = sizes;
     [
-        sliced.alloc(store, u32::from(first)).err(),
-        sliced.alloc(store, u32::from(second)).err(),
-        sliced.alloc(store, u32::from(third)).err(),
+        sliced.alloc(store, account, u32::from(first)).err(),
+        sliced.alloc(store, account, u32::from(second)).err(),
+        sliced.alloc(store, account, u32::from(third)).err(),
     ]
 }
 
@@ -69,15 +78,15 @@ fn takes_whole_pages(rt: HostRuntime) {
         [
             used(
                 ListStore::new(alloc, 2, None),
-                |store| answers(store, [4064, 4065, 4064])
+                |store| answers(store, AccountNo(0), [4064, 4065, 4064])
             ),
             used(
                 ListStore::new(alloc, 2, None),
-                |store| answers(store, [4065, 0, 0])
+                |store| answers(store, AccountNo(0), [4065, 0, 0])
             ),
             used(
                 ListStore::new(alloc, 2, Some(1)),
-                |store| answers(store, [0, 0, 4065])
+                |store| answers(store, AccountNo(0), [0, 0, 4065])
             )
         ],
         [

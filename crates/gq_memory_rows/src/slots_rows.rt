@@ -2,11 +2,12 @@
 ghost use Rattle.std.specs.Prelude.{◌≡◌, ◌≤◌, length, IfOk};
 ghost use Rattle.gq_trade.specs.declared.session.SlotId.TheVariants.{InLeaf};
 ghost use Rattle.gq_trade.specs.Trades.{IsLive};
-ghost use Rattle.gq_slots.specs.Slots.{IsPaidBy, IsSlot, IsSlotId, holder};
+ghost use Rattle.gq_slots.specs.Slots.{IsSlot, IsSlotId};
 ghost use Rattle.gq_memory_rows.specs.Stays.{Stays};
 
 use crate::trade_rows::{live, plan};
 use crate::used::used;
+use gq_model::program::Width;
 use gq_slots::Slots;
 use gq_trade::SlotId;
 use std::alloc::{AllocError, Global};
@@ -25,7 +26,6 @@ fn two_leaves(alloc: Global) -> Result<Slots, AllocError>
 fn make(slots: &mut Slots, slot_id: SlotId, size: u32) -> bool
     requires slot { IsSlot slot_id }
     requires there { IsSlotId slots.old slot_id }
-    requires paid { IsPaidBy slots.old (holder slots.old slot_id) }
     requires size { size ≤ 67108864 }
     ensures { Stays slots.old slots.new }
 {
@@ -36,27 +36,27 @@ fn make(slots: &mut Slots, slot_id: SlotId, size: u32) -> bool
 }
 
 // What a byte reads once a value is stored there, or nothing where the slot is too short.
-fn stored(slots: &mut Slots, slot_id: SlotId, index: u32, value: u8) -> Option<u8>
+fn stored(slots: &mut Slots, slot_id: SlotId, index: u32, value: u8) -> Option<u32>
     requires there { IsSlotId slots.old slot_id }
-    requires paid { IsPaidBy slots.old (holder slots.old slot_id) }
     ensures { Stays slots.old slots.new }
 {
-    if slots.content(slot_id).size() <= u64::from(index) {
+    let bytes = slots.extent(slot_id)?;
+    if bytes.length <= u64::from(index) {
         return None;
     }
-    slots.store(slot_id, index, value);
-    if slots.content(slot_id).size() <= u64::from(index) {
+    slots.write(bytes, Width::Byte, index, u32::from(value));
+    let again = slots.extent(slot_id)?;
+    if again.length <= u64::from(index) {
         return None;
     }
-    Some(slots.load(slot_id, index))
+    Some(slots.read(again, Width::Byte, index))
 }
 
 // Whether a leaf with four pages can pay for five in a slot, then for three, then for two more in another slot, and for these once the first slot is free. What
 // the last byte of the three reads once 42 is stored there.
-fn use_leaf(slots: &mut Slots) -> ([bool; 4], Option<u8>)
+fn use_leaf(slots: &mut Slots) -> ([bool; 4], Option<u32>)
     requires first { IsSlotId slots.old (InLeaf 0 3) }
     requires second { IsSlotId slots.old (InLeaf 0 4) }
-    requires paid { IsPaidBy slots.old 0 }
 {
     let first = SlotId::InLeaf(0, 3);
     let second = SlotId::InLeaf(0, 4);
@@ -69,12 +69,10 @@ fn use_leaf(slots: &mut Slots) -> ([bool; 4], Option<u8>)
     ([five, three, two_more, two], read)
 }
 
-// The same, where the leaf does not pay yet.
-fn use_first_leaf(slots: &mut Slots) -> ([bool; 4], Option<u8>)
+// The same of the first of two leaves.
+fn use_first_leaf(slots: &mut Slots) -> ([bool; 4], Option<u32>)
     requires leaves { length slots.old.own ≡ 2 }
-    requires live { IsLive slots.old.trades 0 }
 {
-    slots.pay_by(0);
     use_leaf(slots)
 }
 

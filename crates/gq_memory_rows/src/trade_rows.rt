@@ -43,17 +43,15 @@ struct Caps {
 }
 
 impl Market {
-    fn new(mut trades: Trades) -> Market
+    fn new(trades: Trades) -> Market
         requires ready { AreReady trades }
         requires quiet { IsQuiet trades }
         ensures parties { AreParties result.trades result.server result.client }
         ensures quiet { IsQuiet result.trades }
-        ensures price { result.trades.trading.memory.ledger.price ≡ trades.trading.memory.ledger.price }
+        ensures price { result.trades.trading.ledger.price ≡ trades.trading.ledger.price }
     {
-        trades.pay_by(SERVER);
-        let server = trades.memory().payer();
-        trades.pay_by(CLIENT);
-        let client = trades.memory().payer();
+        let server = trades.leaf_account(SERVER);
+        let client = trades.leaf_account(CLIENT);
         Market {
             trades,
             server,
@@ -65,11 +63,11 @@ impl Market {
     fn ask(&mut self, donation: Amount) -> Result<usize, AccountFault>
         requires parties { AreParties self.old.trades self.old.server self.old.client }
         requires quiet { IsQuiet self.old.trades }
-        requires counted { self.old.trades.trading.memory.ledger.price ≡ 0 → donation.caps ≡ 0 }
+        requires counted { self.old.trades.trading.ledger.price ≡ 0 → donation.caps ≡ 0 }
         ensures parties { AreParties self.new.trades self.new.server self.new.client }
         ensures asked { OnOk result (HasAsked self.new.trades) }
         ensures quiet { OnErr result (IsQuiet self.new.trades) }
-        ensures price { self.new.trades.trading.memory.ledger.price ≡ self.old.trades.trading.memory.ledger.price }
+        ensures price { self.new.trades.trading.ledger.price ≡ self.old.trades.trading.ledger.price }
     {
         self.trades
             .ask(CLIENT, SlotId::InLeaf(CLIENT, 0), SERVER, 0, donation)
@@ -104,11 +102,11 @@ impl Market {
         requires { AreParties self.now.trades self.now.server self.now.client }
     {
         self.trades.laws();
-        let accounts = self.trades.memory().accounts();
+        let accounts = self.trades.accounts();
         Bytes {
-            server: accounts.quota(self.server),
-            used: accounts.used(self.server),
-            client: accounts.quota(self.client),
+            server: accounts.quota(self.server).ram,
+            used: accounts.used(self.server).ram,
+            client: accounts.quota(self.client).ram,
             inits: quotas_above(&self.trades, self.client),
         }
     }
@@ -117,27 +115,27 @@ impl Market {
         requires { AreParties self.now.trades self.now.server self.now.client }
     {
         self.trades.laws();
-        let accounts = self.trades.memory().accounts();
+        let accounts = self.trades.accounts();
         Caps {
-            server: accounts.caps(self.server),
-            used: accounts.caps_used(self.server),
-            client: accounts.caps(self.client),
+            server: accounts.quota(self.server).caps,
+            used: accounts.used(self.server).caps,
+            client: accounts.quota(self.client).caps,
         }
     }
 }
 
 // The quota of the reference account of an account, and so on up to that of the root.
 fn quotas_above(trades: &Trades, account: AccountNo) -> [u64; 3]
-    requires { IsOpen trades.now.trading.memory.ledger.accounts account.0 }
+    requires { IsOpen trades.now.trading.ledger.accounts account.0 }
 {
-    let accounts = trades.memory().accounts();
+    let accounts = trades.accounts();
     accounts.laws();
     let mut quotas = [0; 3];
     let mut below = account;
     for place in 0..3 {
         match accounts.reference(below) {
             Some(above) => {
-                quotas[place] = accounts.quota(above);
+                quotas[place] = accounts.quota(above).ram;
                 below = above;
             }
             None => return quotas,
@@ -203,7 +201,7 @@ fn pair(alloc: Global) -> Result<Market, AllocError>
 fn pair_with_caps(alloc: Global) -> Result<Market, AllocError>
     ensures parties { IfOk result (λ m. AreParties m.trades m.server m.client) }
     ensures quiet { IfOk result (λ m. IsQuiet m.trades) }
-    ensures counted { IfOk result (λ m. m.trades.trading.memory.ledger.price ≡ 1) }
+    ensures counted { IfOk result (λ m. m.trades.trading.ledger.price ≡ 1) }
 {
     let nodes = [live(65536, 10), live(4096, 0), live(16384, 1)];
     let plan = plan(alloc, &[0, 0, 0], &nodes, &[1, 2], 100)?;
@@ -268,18 +266,15 @@ fn line(alloc: Global) -> Result<Trades, AllocError>
 }
 
 // The quotas of a leaf and of the root.
-fn quotas_of(trades: &mut Trades, leaf: usize) -> (u64, u64)
-    requires { IsLive trades.old leaf }
-    ensures nodes { trades.new.nodes ≡ trades.old.nodes }
-    ensures leaves { trades.new.trading.leaves ≡ trades.old.trading.leaves }
-    ensures sessions { trades.new.trading.sessions ≡ trades.old.trading.sessions }
+fn quotas_of(trades: &Trades, leaf: usize) -> (u64, u64)
+    requires { IsLive trades.now leaf }
 {
-    trades.pay_by(leaf);
-    let memory = trades.memory();
-    let accounts = memory.accounts();
+    trades.laws();
+    let account = trades.leaf_account(leaf);
+    let accounts = trades.accounts();
     (
-        accounts.quota(memory.payer()),
-        accounts.quota(accounts.root()),
+        accounts.quota(account).ram,
+        accounts.quota(accounts.root()).ram,
     )
 }
 
@@ -313,7 +308,7 @@ fn trade(market: &mut Market, ram: u64) -> Option<[Bytes; 4]>
 fn trade_caps(market: &mut Market) -> Option<[Caps; 3]>
     requires parties { AreParties market.old.trades market.old.server market.old.client }
     requires quiet { IsQuiet market.old.trades }
-    requires counted { market.old.trades.trading.memory.ledger.price ≡ 1 }
+    requires counted { market.old.trades.trading.ledger.price ≡ 1 }
 {
     let before = market.caps();
     market.ask(Amount { ram: 8192, caps: 1 }).ok()?;
@@ -327,7 +322,7 @@ fn trade_caps(market: &mut Market) -> Option<[Caps; 3]>
 fn refused_asks(market: &mut Market) -> Option<(AccountFault, AccountFault, Bytes, Caps)>
     requires parties { AreParties market.old.trades market.old.server market.old.client }
     requires quiet { IsQuiet market.old.trades }
-    requires counted { market.old.trades.trading.memory.ledger.price ≡ 1 }
+    requires counted { market.old.trades.trading.ledger.price ≡ 1 }
 {
     let Err(lacks_caps) = market.ask(Amount { ram: 8192, caps: 2 }) else {
         return None;

@@ -1,6 +1,8 @@
 -- What the calls of a pool change.
 use Rattle.std.proofs.Common.{◌≡◌, ℕ, zero, suc, ◌+◌, ◌-◌, ◌*◌, ◌/◌, ◌%◌, ◌<◌, ◌≤◌, inl, inr, List, [], ◌∷◌, ◌++◌, length, get_or, set, Option, Some, None}
-use Rattle.std.proofs.Common.{refl, sym, ap, subst, ◌∙◌, arith}
+use Rattle.std.proofs.Common.{refl, sym, ap, subst, ◌∙◌, arith, true, false}
+use Rattle.std.proofs.lemmas.Bool.{lt-ltb}
+use Rattle.std.specs.Prelude.{nat_lt, ◌↔◌}
 use Rattle.std.proofs.lemmas.Bool.Decides.{nat_tests}
 use Rattle.gq_tariff.specs.Prices.{class_size, size_for}
 use Rattle.gq_tariff.specs.declared.class.Class.{Class}
@@ -11,7 +13,8 @@ use Rattle.gq_heap.specs.declared.heap.Heap.{Heap}
 use Rattle.gq_heap.specs.declared.heap.Place.{Place}
 use Rattle.gq_heap.specs.declared.heap.Place.TheVariants.{Small}
 use Rattle.gq_heap.specs.Classes.{index_of, size_at, places_at}
-use Rattle.gq_heap.specs.Heap.{Owns, Inserts, IsInUse, rise_caps, SameBytes, KeepsPlaces as KeepsHeap, Allocates, Frees as FreesBlock, PutsInBlock as PutsBlock}
+use Rattle.gq_heap.specs.Heap.{Owns, Inserts, IsInUse, byte_of, rise_caps, SameBytes, KeepsPlaces as KeepsHeap, Allocates, Frees as FreesBlock}
+use Rattle.gq_heap.specs.Heap.{PutsInBlock as PutsBlock}
 use Rattle.gq_heap.specs.Heap.{KeepsNow as HeapNow, KeepsWithin as HeapWithin}
 use Rattle.std.proofs.Math.Nat.{mod-lt, div-add-mod}
 use Rattle.std.proofs.lemmas.Nat.{mul-le}
@@ -21,7 +24,7 @@ use Rattle.gq_heap.proofs.ClassLaws.{sizes, index_below, size_is, number_is}
 use Rattle.gq_heap.proofs.Heap_call_invariants.{small_chunk}
 use Rattle.gq_heap.proofs.Heap_charge_rises.{plus_none}
 use Rattle.gq_pool.specs.declared.pool.Pool.{Pool}
-use Rattle.gq_pool.specs.Pools.{places_of, entry_byte, IsAbsent, IsTable, KeepsPool, IsPool, OwnsBoth, KeepsNow, KeepsWithin, Adds, Removes, PutsInEntry}
+use Rattle.gq_pool.specs.Pools.{places_of, entry_byte, IsAbsent, IsTable, KeepsPool, IsPool, OwnsBoth, KeepsNow, KeepsWithin, Adds, Removes, PutsInEntry, Reads}
 use Rattle.gq_pool.proofs.Present_entry_cells.{comes, goes, none_at, some_at, table_stays}
 use Rattle.gq_pool.proofs.Heap_call_table_word.{table_there, word_inside, stepped, stepped_owns, spared, old_same, new_same}
 
@@ -73,6 +76,10 @@ pub there_at : (pool : Pool) (heap : Heap) (st : Store) (held : List (Option ℕ
     → n ≡ word (st.byte pool.table) (4 * i) → 0 < n → get_or held i None ≡ Some (n - 1)
 there_at pool heap st held others i n k l e pos = some_at (get_or held i None) n (e ∙ k.table.words i (omega (arith, k.table.count))) pos
 
+-- the word of an entry lies in the table
+pub word_there : (pool : Pool) (heap : Heap) (st : Store) (i : ℕ) → IsPool pool heap st → i < pool.count → 4 * i + 4 ≤ st.size pool.table
+word_there pool heap st i p l = (word_inside pool st p.held i p.keeps.table l).0
+
 pub entry_in_use : (pool : Pool) (heap : Heap) (st : Store) (i n : ℕ) → IsPool pool heap st → i < pool.count → n ≡ word (st.byte pool.table) (4 * i) → 0 < n
     → IsInUse heap st (Small pool.class (n - 1))
 entry_in_use pool heap st i n p l e pos = record {
@@ -81,6 +88,20 @@ entry_in_use pool heap st i n p l e pos = record {
   keeps = p.keeps.blocks;
   has = goes pool.class p.held i (n - 1) p.others (omega (arith, l, p.keeps.table.count)) (there_at pool heap st p.held p.others i n p.keeps l e pos);
 }
+
+-- a word of the table tests whether the entry is absent
+pub absent_tested : (w v : ℕ) → w ≡ v → (nat_lt 0 w ≡ false) ↔ (v ≡ 0)
+absent_tested zero v e = (λ t. sym e, λ t. refl)
+absent_tested (suc w) v e = let set = lt-ltb 0 (suc w) (omega arith) in (λ t. let same : true ≡ false = sym set ∙ t in cc, λ z. absurd (omega (arith, e, z)))
+
+-- what is read of an entry that is absent, and of one that is there
+pub reads_absent : (pool : Pool) (heap : Heap) (st : Store) (i k : ℕ) → i < pool.count → IsAbsent pool st i → Reads pool heap st i k 0
+reads_absent pool heap st i k l absent held others kept = sym (ap (λ e. entry_byte pool st e k) (absent_at pool heap st held others i kept l absent))
+
+pub reads_there : (pool : Pool) (heap : Heap) (st : Store) (i n k b : ℕ) → i < pool.count → n ≡ word (st.byte pool.table) (4 * i) → 0 < n
+    → b ≡ byte_of st (Small pool.class (n - 1)) k → Reads pool heap st i k b
+reads_there pool heap st i n k b l is pos e held others kept =
+    e ∙ sym (ap (λ x. entry_byte pool st x k) (there_at pool heap st held others i n kept l is pos))
 
 -- a place has a number that fits
 pub place_few : (before after : Heap) (old mid : Store) (n q : ℕ) (c : Class) (places : List Place) → KeepsHeap before old places

@@ -169,11 +169,6 @@ pub record RemovesEntry (pool : Pool) (before after : Heap) (old new : Store) (i
 abbrev pub Reads : Pool → Heap → Store → ℕ → ℕ → ℕ → Type 0
 Reads pool heap st i k b = (held : List (Option ℕ)) (others : List Place) → KeepsPool pool heap st held others → b ≡ entry_byte pool st (get_or held i None) k
 
--- The four bytes from k on of the entry i spell b.
-abbrev pub ReadsWord : Pool → Heap → Store → ℕ → ℕ → ℕ → Type 0
-ReadsWord pool heap st i k b = (held : List (Option ℕ)) (others : List Place) → KeepsPool pool heap st held others
-    → b ≡ word (entry_byte pool st (get_or held i None)) k
-
 -- These bytes stand in the entry i from k on now where the entry is there, and no other byte of a block changed; where it is absent nothing changed.
 pub record PutsInEntry (pool : Pool) (heap : Heap) (old new : Store) (i k : ℕ) (bytes : List ℕ) : Type 0 where
   pub absent : IsAbsent pool old i → new ≡ old

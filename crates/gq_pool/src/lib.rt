@@ -8,10 +8,10 @@
 //!
 //! let mut store = ListStore::new(rt.alloc(), 4, None)?;
 //! let mut heap = Heap::new();
-//! let pool = Pool::new(&mut store, 16, 1024)?;
-//! assert!(rt; pool.take(&mut store, &mut heap, 9)?);
+//! let pool = Pool::new(&mut store, account, 16, 1024)?;
+//! assert!(rt; pool.take(&mut store, &mut heap, account, 9)?);
 //! pool.store(&mut store, &heap, 9, 0, 7);
-//! assert!(rt; pool.give(&mut store, &mut heap, 9));
+//! assert!(rt; pool.give(&mut store, &mut heap, account, 9));
 //! ```
 #![tactic(auto)]
 

@@ -1,11 +1,11 @@
 // Pools.
-ghost use Rattle.std.specs.Prelude.{◌≡◌, ℕ, ◌+◌, ◌*◌, ◌<◌, ◌≤◌, ◌↔◌, Some, IfOk, OnErr, IsErrOf, IsTrue};
+ghost use Rattle.std.specs.Prelude.{◌≡◌, ℕ, ◌+◌, ◌*◌, ◌<◌, ◌≤◌, ◌↔◌, Some, IfOk, OnErr, IsErrOf};
 ghost use Rattle.gq_tariff.specs.Prices.{up};
 ghost use Rattle.gq_store.specs.Store.{word};
 ghost use Rattle.gq_heap.specs.Heap.{rise};
 
 use gq_heap::{Heap, Place};
-use gq_store::{ByteStore, ChunkNo, GrowFault};
+use gq_store::{AccountNo, ByteStore, ChunkNo, GrowFault};
 use gq_tariff::price::{PAGE, POOL_ENTRY};
 use gq_tariff::{Class, class_of};
 
@@ -14,7 +14,7 @@ const ENTRY: u32 = POOL_ENTRY as u32;
 
 /// A pool of so many entries of so many bytes. Each entry is absent or there; at first all are absent.
 ///
-/// All calls are given the store and the heap, which the pool holds no part of.
+/// All calls are given the store and the heap, which the pool holds no part of. Calls that pay are given the account of both.
 #[derive(Clone, Copy)]
 pub struct Pool {
     // the chunk of the table
@@ -28,23 +28,28 @@ pub struct Pool {
 }
 
 impl Pool {
-    ghost use Rattle.std.specs.Prelude.{◌≡◌, ℕ, ◌+◌, ◌*◌, ◌<◌, ◌≤◌, ◌↔◌, [], ◌∷◌, Some, IfOk, OnErr, IsErrOf, IsTrue};
-    ghost use Rattle.gq_model.specs.machine.Program.{spelled};
-    ghost use Rattle.gq_pool.specs.Pools.{IsPool, IsAbsent, size_of, count_of, Makes, AddsEntry, RemovesEntry, Reads, ReadsWord, PutsInEntry, Ends};
+    ghost use Rattle.std.specs.Prelude.{◌≡◌, ℕ, ◌+◌, ◌*◌, ◌<◌, ◌≤◌, ◌↔◌, [], ◌∷◌, Some, IfOk, OnErr, IsErrOf, false};
+    ghost use Rattle.gq_pool.specs.Pools.{IsPool, IsAbsent, size_of, count_of, Makes, AddsEntry, RemovesEntry, Reads, PutsInEntry, Ends};
 
     /// A pool of `count` entries of `size` bytes, each absent. It takes whole pages for its table, and one capability.
     ///
     /// Refused as `Exceeded` where the bytes can't be paid, else as `CapsExceeded` where there is no capability left; then nothing has changed.
-    pub fn new<S: ByteStore>(store: &mut S, size: u32, count: u32) -> Result<Pool, GrowFault>
+    pub fn new<S: ByteStore>(
+        store: &mut S,
+        account: AccountNo,
+        size: u32,
+        count: u32,
+    ) -> Result<Pool, GrowFault>
         requires size { (1 ≤ size) × (size ≤ 2048) }
         requires count { (1 ≤ count) × (count ≤ 1024) }
-        ensures ok { IfOk result (λ pool. Makes (S.state store.old) (S.state store.new) size count pool) }
-        ensures exceeded { IsErrOf result GrowFault.Exceeded ↔ ((S.state store.old).left < up (4 * count)) }
-        ensures caps { IsErrOf result GrowFault.CapsExceeded ↔ ((up (4 * count) ≤ (S.state store.old).left) × ((S.state store.old).caps ≡ Some 0)) }
+        ensures ok { IfOk result (λ pool. Makes (S.state store.old account.0) (S.state store.new account.0) size count pool) }
+        ensures exceeded { IsErrOf result GrowFault.Exceeded ↔ ((S.state store.old account.0).left < up (4 * count)) }
+        ensures caps { IsErrOf result GrowFault.CapsExceeded ↔ ((up (4 * count) ≤ (S.state store.old account.0).left) × ((S.state store.old account.0).caps ≡
+            Some 0)) }
         ensures err { OnErr result (store.new ≡ store.old) }
-        ensures rest { S.same_rest store.old store.new }
+        ensures rest { S.same_rest account.0 store.old store.new }
     {
-        let chunk = store.grow(pages_of(count))?;
+        let chunk = store.grow(account, pages_of(count))?;
         Ok(Pool {
             table: chunk.number(),
             class: class_of(u64::from(size)),
@@ -75,23 +80,24 @@ impl Pool {
         &self,
         store: &mut S,
         heap: &mut Heap,
+        account: AccountNo,
         index: u32,
     ) -> Result<bool, GrowFault>
-        requires kept { IsPool self.now heap.old (S.state store.old) }
+        requires kept { IsPool self.now heap.old (S.state store.old account.0) }
         requires inside { index < count_of self.now }
-        ensures ok { IfOk result (λ added. AddsEntry self.now heap.old heap.new (S.state store.old) (S.state store.new) index added) }
+        ensures ok { IfOk result (λ added. AddsEntry self.now heap.old heap.new (S.state store.old account.0) (S.state store.new account.0) index added) }
         ensures exceeded { IsErrOf result GrowFault.Exceeded
-            ↔ (IsAbsent self.now (S.state store.old) index × ((S.state store.old).left < rise heap.old (size_of self.now))) }
-        ensures caps { IsErrOf result GrowFault.CapsExceeded ↔ (IsAbsent self.now (S.state store.old) index × (0 < rise heap.old (size_of self.now))
-            × (rise heap.old (size_of self.now) ≤ (S.state store.old).left) × ((S.state store.old).caps ≡ Some 0)) }
+            ↔ (IsAbsent self.now (S.state store.old account.0) index × ((S.state store.old account.0).left < rise heap.old (size_of self.now))) }
+        ensures caps { IsErrOf result GrowFault.CapsExceeded ↔ (IsAbsent self.now (S.state store.old account.0) index × (0 < rise heap.old (size_of self.now))
+            × (rise heap.old (size_of self.now) ≤ (S.state store.old account.0).left) × ((S.state store.old account.0).caps ≡ Some 0)) }
         ensures err { OnErr result ((heap.new ≡ heap.old) × (store.new ≡ store.old)) }
-        ensures kept { IsPool self.now heap.new (S.state store.new) }
-        ensures rest { S.same_rest store.old store.new }
+        ensures kept { IsPool self.now heap.new (S.state store.new account.0) }
+        ensures rest { S.same_rest account.0 store.old store.new }
     {
         if self.word(store, index) > 0 {
             return Ok(false);
         }
-        let place = heap.alloc(store, self.size)?;
+        let place = heap.alloc(store, account, self.size)?;
         let number = match place {
             Place::Small(_, number) => number,
             Place::Large(_, _) => unreachable!(),
@@ -102,28 +108,44 @@ impl Pool {
 
     /// Removes the entry, and says whether it did: not where it was absent. Its place is free again.
     #[inline(always)]
-    pub fn give<S: ByteStore>(&self, store: &mut S, heap: &mut Heap, index: u32) -> bool
-        requires kept { IsPool self.now heap.old (S.state store.old) }
+    pub fn give<S: ByteStore>(
+        &self,
+        store: &mut S,
+        heap: &mut Heap,
+        account: AccountNo,
+        index: u32,
+    ) -> bool
+        requires kept { IsPool self.now heap.old (S.state store.old account.0) }
         requires inside { index < count_of self.now }
-        ensures gives { RemovesEntry self.now heap.old heap.new (S.state store.old) (S.state store.new) index result }
-        ensures kept { IsPool self.now heap.new (S.state store.new) }
-        ensures rest { S.same_rest store.old store.new }
+        ensures gives { RemovesEntry self.now heap.old heap.new (S.state store.old account.0) (S.state store.new account.0) index result }
+        ensures kept { IsPool self.now heap.new (S.state store.new account.0) }
+        ensures rest { S.same_rest account.0 store.old store.new }
     {
         let word = self.word(store, index);
         if word == 0 {
             return false;
         }
-        heap.free(store, Place::Small(self.class, word - 1));
+        heap.free(store, account, Place::Small(self.class, word - 1));
         store.store4(ChunkNo::new(self.table), ENTRY * index, 0);
         true
+    }
+
+    /// Whether an entry is there.
+    pub fn has_entry<S: ByteStore>(&self, store: &S, heap: &Heap, index: u32) -> bool
+        requires kept { (a : ℕ) × IsPool self.now heap.now (S.state store.now a) }
+        requires inside { index < count_of self.now }
+        ensures { (a : ℕ) → IsPool self.now heap.now (S.state store.now a) → (result ≡ false) ↔ IsAbsent self.now (S.state store.now a) index }
+    {
+        let _heap = heap;
+        self.word(store, index) > 0
     }
 
     /// The byte of an entry, 0 where the entry is absent.
     #[inline(always)]
     pub fn load<S: ByteStore>(&self, store: &S, heap: &Heap, index: u32, offset: u32) -> u8
-        requires kept { IsPool self.now heap.now (S.state store.now) }
+        requires kept { (a : ℕ) × IsPool self.now heap.now (S.state store.now a) }
         requires inside { (index < count_of self.now) × (offset < size_of self.now) }
-        ensures { Reads self.now heap.now (S.state store.now) index offset result }
+        ensures { (a : ℕ) → IsPool self.now heap.now (S.state store.now a) → Reads self.now heap.now (S.state store.now a) index offset result }
     {
         let word = self.word(store, index);
         if word == 0 {
@@ -142,11 +164,12 @@ impl Pool {
         offset: u32,
         value: u8,
     )
-        requires kept { IsPool self.now heap.now (S.state store.old) }
+        requires kept { (a : ℕ) × IsPool self.now heap.now (S.state store.old a) }
         requires inside { (index < count_of self.now) × (offset < size_of self.now) }
-        ensures puts { PutsInEntry self.now heap.now (S.state store.old) (S.state store.new) index offset (value ∷ []) }
-        ensures kept { IsPool self.now heap.now (S.state store.new) }
-        ensures rest { S.same_rest store.old store.new }
+        ensures puts { (a : ℕ) → IsPool self.now heap.now (S.state store.old a)
+            → PutsInEntry self.now heap.now (S.state store.old a) (S.state store.new a) index offset (value ∷ []) }
+        ensures kept { (a : ℕ) → IsPool self.now heap.now (S.state store.old a) → IsPool self.now heap.now (S.state store.new a) }
+        ensures rest { (a : ℕ) → IsPool self.now heap.now (S.state store.old a) → S.same_rest a store.old store.new }
     {
         let word = self.word(store, index);
         if word > 0 {
@@ -154,57 +177,24 @@ impl Pool {
         }
     }
 
-    /// The number in the four bytes of an entry from an offset on, the lowest first, 0 where the entry is absent.
-    pub fn load4<S: ByteStore>(&self, store: &S, heap: &Heap, index: u32, offset: u32) -> u32
-        requires kept { IsPool self.now heap.now (S.state store.now) }
-        requires inside { (index < count_of self.now) × (offset + 4 ≤ size_of self.now) }
-        ensures { ReadsWord self.now heap.now (S.state store.now) index offset result }
-    {
-        let word = self.word(store, index);
-        if word == 0 {
-            return 0;
-        }
-        heap.load4(store, Place::Small(self.class, word - 1), offset)
-    }
-
-    /// Writes a number to the four bytes of an entry from an offset on, the lowest first; where the entry is absent nothing is done.
-    pub fn store4<S: ByteStore>(
-        &self,
-        store: &mut S,
-        heap: &Heap,
-        index: u32,
-        offset: u32,
-        value: u32,
-    )
-        requires kept { IsPool self.now heap.now (S.state store.old) }
-        requires inside { (index < count_of self.now) × (offset + 4 ≤ size_of self.now) }
-        ensures puts { PutsInEntry self.now heap.now (S.state store.old) (S.state store.new) index offset (spelled 4 value) }
-        ensures kept { IsPool self.now heap.now (S.state store.new) }
-        ensures rest { S.same_rest store.old store.new }
-    {
-        let word = self.word(store, index);
-        if word > 0 {
-            heap.store4(store, Place::Small(self.class, word - 1), offset, value);
-        }
-    }
-
     /// Gives all entries and the table back to the heap.
-    pub fn end<S: ByteStore>(self, store: &mut S, heap: &mut Heap)
-        requires { IsPool self heap.old (S.state store.old) }
-        ensures ends { Ends self heap.old heap.new (S.state store.old) (S.state store.new) }
-        ensures rest { S.same_rest store.old store.new }
+    pub fn end<S: ByteStore>(self, store: &mut S, heap: &mut Heap, account: AccountNo)
+        requires { IsPool self heap.old (S.state store.old account.0) }
+        ensures ends { Ends self heap.old heap.new (S.state store.old account.0) (S.state store.new account.0) }
+        ensures rest { S.same_rest account.0 store.old store.new }
     {
         for index in 0..self.count {
-            self.give(store, heap, index);
+            self.give(store, heap, account, index);
         }
-        store.shrink(ChunkNo::new(self.table));
+        store.shrink(account, ChunkNo::new(self.table));
     }
 
     /// What the table has for an entry: 0, or the number of its place and one.
     fn word<S: ByteStore>(&self, store: &S, index: u32) -> u32
-        requires inside { 4 * index + 4 ≤ (S.state store.now).size self.now.table }
+        requires inside { (a : ℕ) × (4 * index + 4 ≤ (S.state store.now a).size self.now.table) }
         requires few { index < 1024 }
-        ensures { result ≡ word ((S.state store.now).byte self.now.table) (4 * index) }
+        ensures { (a : ℕ) → 4 * index + 4 ≤ (S.state store.now a).size self.now.table
+            → result ≡ word ((S.state store.now a).byte self.now.table) (4 * index) }
     {
         store.load4(ChunkNo::new(self.table), ENTRY * index)
     }

@@ -1,5 +1,5 @@
 -- The nodes of a scenario, as `Trades` has them.
-use Rattle.std.specs.Prelude.{◌≡◌, ℕ, ◌==◌, if◌then◌else◌, List, length, map, get_or, option_map, slice_get, Option, Some, None}
+use Rattle.std.specs.Prelude.{◌≡◌, ℕ, if◌then◌else◌, List, length, map, get_or, option_map, slice_get, Option, Some, None}
 use Rattle.gq_tariff.specs.declared.amount.Amount.{Amount}
 use Rattle.gq_model.specs.machine.Routes.{numbered}
 use Rattle.gq_model.specs.machine.Scenario.{Scenario, Component, components}
@@ -40,7 +40,7 @@ pub record AreNodesOf (s : Scenario) (w : Trades) : Type 0 where
   pub parents : w.trading.tree.parents ≡ parents_of s
   pub leaves : w.trading.leaves ≡ leaf_places 1 s.nodes
   pub objects : w.trading.objects ≡ objects_of s
-  pub price : w.trading.memory.ledger.price ≡ (if counts_caps s.version then 1 else 0)
+  pub price : w.trading.ledger.price ≡ (if counts_caps s.version then 1 else 0)
   pub count : length w.nodes ≡ length (node_rows s)
   pub quanta : (n : ℕ) (r : NodeRow) → slice_get (node_rows s) n ≡ Some r → (node_at w.nodes n).quantum ≡ given_in s.version r.quantum
   pub inits : (n : ℕ) (r : NodeRow) → slice_get (node_rows s) n ≡ Some r → r.leaf ≡ None → (node_at w.nodes n).stage ≡ Live

@@ -17,8 +17,8 @@ ghost use Rattle.gq_prepared.specs.Account_nodes.{AreNodesOf};
 pub fn stored_accounts()
     ensures quotas { (s : Scenario) (f : Frame) (t : Slots) (reported : List ℕ) (n : ℕ) (a : Account) → IsReady s → AreLawful t → IsOf (system s) f t
         → AreNodesOf s t.trades → slice_get (accounts s (world_seen f t) reported) n ≡ Some a
-        → a.quota ≡ amount_in s.version (account_of t.trades.trading.tree t.trades.trading.memory.ledger n).quota.ram
-        (account_of t.trades.trading.tree t.trades.trading.memory.ledger n).quota.caps }
+        → a.quota ≡ amount_in s.version (account_of t.trades.trading.tree t.trades.trading.ledger n).quota.ram
+        (account_of t.trades.trading.tree t.trades.trading.ledger n).quota.caps }
     ensures used { (s : Scenario) (f : Frame) (t : Slots) (x : ℕ) (leaf : world.Leaf) → IsReady s → AreLawful t → IsOf (system s) f t
         → AreNodesOf s t.trades → slice_get (world_seen f t).leaves x ≡ Some leaf
         → held Ram (world_seen f t) x leaf ≡ (its_account t.trades.trading x).used.ram }

@@ -4,7 +4,7 @@ use Rattle.std.specs.Prelude.{is_some}
 use Rattle.gq_pages.specs.Frame_map.{has_bytes, its_bytes}
 use Rattle.gq_dataspace.specs.Dataspaces.{Contents, content_of}
 use Rattle.gq_ram.specs.declared.account.Account.{Account}
-use Rattle.gq_ram.specs.declared.account.AccountNo.{AccountNo}
+use Rattle.gq_store.specs.declared.AccountNo.{AccountNo}
 use Rattle.gq_ram.specs.Owning.{Owners, IsOf}
 use Rattle.gq_ram.specs.Ledgers.{Ledger, IsBalanced}
 pub use Rattle.gq_ram.proofs.Account_sums.{account_within, open_there, open_put, open_other, some_there, is_same, it_true}

@@ -7,7 +7,7 @@ use Rattle.std.proofs.lemmas.List.{get_or-set_same, get_or-set_other}
 use Rattle.gq_pages.specs.Frame_map.{has_bytes, its_bytes}
 use Rattle.gq_dataspace.specs.Dataspaces.{Contents}
 use Rattle.gq_ram.specs.declared.account.Account.{Account}
-use Rattle.gq_ram.specs.declared.account.AccountNo.{AccountNo}
+use Rattle.gq_store.specs.declared.AccountNo.{AccountNo}
 use Rattle.gq_ram.specs.Account_table.{Entries, account_at, its_account, no_account, is_it, are_related, has_members, sum_over, IsOpen}
 use Rattle.gq_ram.specs.Owning.{Owners, share, owned, IsOf}
 

@@ -7,7 +7,7 @@ use Rattle.gq_pages.specs.Frame_bytes.{with_bytes}
 use Rattle.gq_pages.specs.Frame_map.{has_bytes}
 use Rattle.gq_dataspace.specs.Dataspaces.{Contents, content_of}
 use Rattle.gq_ram.specs.declared.account.Account.{Account}
-use Rattle.gq_ram.specs.declared.account.AccountNo.{AccountNo}
+use Rattle.gq_store.specs.declared.AccountNo.{AccountNo}
 use Rattle.gq_ram.specs.Account_table.{Entries, account_at, its_account, with_use, IsOpen}
 use Rattle.gq_ram.specs.Owning.{Owners, share, owned, IsOf}
 use Rattle.gq_ram.specs.Ledgers.{Ledger, IsBalanced, with_spaces}

@@ -7,7 +7,7 @@ use Rattle.gq_pages.specs.Frame_bytes.{zeros}
 use Rattle.gq_pages.specs.Frame_map.{has_bytes}
 use Rattle.gq_dataspace.specs.Dataspaces.{Contents, Dataspaces}
 use Rattle.gq_ram.specs.declared.account.Account.{Account}
-use Rattle.gq_ram.specs.declared.account.AccountNo.{AccountNo}
+use Rattle.gq_store.specs.declared.AccountNo.{AccountNo}
 use Rattle.gq_ram.specs.Account_table.{Entries, account_at, its_account, with_use, IsOpen}
 use Rattle.gq_ram.specs.Owning.{Owners, share, owned}
 use Rattle.gq_ram.specs.Ledgers.{Ledger, IsBalanced}

@@ -6,7 +6,7 @@ use Rattle.std.proofs.lemmas.List.Recursion.{is_count_by}
 use Rattle.gq_pages.specs.Frame_map.{Frames, all_free, count_free, has_bytes}
 use Rattle.gq_dataspace.specs.Dataspaces.{Contents}
 use Rattle.gq_ram.specs.declared.account.Account.{Account}
-use Rattle.gq_ram.specs.declared.account.AccountNo.{AccountNo}
+use Rattle.gq_store.specs.declared.AccountNo.{AccountNo}
 use Rattle.gq_ram.specs.Account_table.{Entries, account_at, no_account, no_amount}
 use Rattle.gq_ram.specs.Owning.{Owners, owned}
 use Rattle.gq_ram.specs.Ledgers.{Ledger, IsBalanced, first_ledger, price_where, caps_where}

@@ -10,3 +10,6 @@ pub mod Account_caller_facts
 pub mod Quota_move_sequences
 pub mod Quota_handed_down
 pub mod Node_accounts_opened
+pub mod Account_byte_views
+mod Chunk_grow_shrink
+mod Chunk_byte_writes

@@ -4,7 +4,7 @@ use Rattle.std.proofs.Common.{if◌then◌else◌, IsTrue, is_some, refl, sym, a
 use Rattle.std.proofs.lemmas.Bool.{cases_eq}
 use Rattle.slab.specs.Slab.{entries_from}
 use Rattle.gq_ram.specs.declared.account.Account.{Account}
-use Rattle.gq_ram.specs.declared.account.AccountNo.{AccountNo}
+use Rattle.gq_store.specs.declared.AccountNo.{AccountNo}
 use Rattle.gq_ram.specs.Account_table.{Entries, account_at, its_account, is_it, has_members, sum_over, IsOpen}
 
 -- two tables with the same at each number have the same sums

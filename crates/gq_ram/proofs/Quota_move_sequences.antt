@@ -1,14 +1,13 @@
 -- Moves of quota, one after another.
 use Rattle.std.proofs.Common.{◌≡◌, ℕ, ◌+◌, ◌-◌, ◌<◌, ◌≤◌, inl, inr, length, set, get_or, Option, Some, None, IsTrue, is_some, refl, sym, ap, subst, ◌∙◌}
-use Rattle.std.proofs.Common.{arith, length-set, List, [], ◌∷◌, zero, suc, true, false, if◌then◌else◌, nat_lt}
-use Rattle.std.proofs.lemmas.List.{get_or-set_same, get_or-set_other, set-set, set_comm, set-get_or}
-use Rattle.std.proofs.lemmas.Bool.{cases_eq}
-use Rattle.std.proofs.lemmas.Bool.Decides.{eqb_tells, nat_tests}
+use Rattle.std.proofs.Common.{arith, length-set, List, [], ◌∷◌, zero, suc, true, if◌then◌else◌}
+use Rattle.std.proofs.lemmas.List.{get_or-set_same, get_or-set_other, set-set, set-get_or}
+use Rattle.std.proofs.lemmas.Bool.Decides.{eqb_tells}
 use Rattle.gq_tariff.specs.declared.amount.Amount.{Amount}
 use Rattle.gq_ram.specs.declared.account.Account.{Account}
-use Rattle.gq_ram.specs.declared.account.AccountNo.{AccountNo}
-use Rattle.gq_ram.specs.Account_table.{Entries, account_at, its_account, quota_moved, caps_moved, with_amount, with_quota, with_caps, is_it, are_related}
-use Rattle.gq_ram.specs.Account_table.{available, available_caps, transfer_refusal, transfer_caps_refusal, IsOpen}
+use Rattle.gq_store.specs.declared.AccountNo.{AccountNo}
+use Rattle.gq_ram.specs.Account_table.{Entries, account_at, its_account, counted, is_it, are_related}
+use Rattle.gq_ram.specs.Account_table.{available, available_caps, IsOpen}
 use Rattle.gq_ram.specs.Ledgers.{Ledger, IsBalanced, with_accounts}
 use Rattle.gq_ram.proofs.Account_caller_facts.{open_there, open_put, it_true}
 use Rattle.gq_ram.specs.Giving.{CanGive}
@@ -103,38 +102,6 @@ nodes_kept t es x y n a xo yo = record {
 
 -- MOVES IN A ROW
 
-four_sets : {A : Type 0} (xs : List A) (f t : ℕ) (a b c d : A) → (t ≡ f → ⊥) → set (set (set (set xs f a) t b) f c) t d ≡ set (set xs f c) t d
-four_sets xs f t a b c d ne =
-    ap (λ ys. set ys t d) (set_comm (set xs f a) t f b c ne)
-    ∙ set-set (set (set xs f a) f c) t b d
-    ∙ ap (λ ys. set ys t d) (set-set xs f a c)
-
--- bytes alone
-abbrev pub bytes_of : ℕ → Amount
-bytes_of n = record { ram = n; caps = 0 }
-
-pub bytes_alone : (es : Entries) (f t n : ℕ) → quota_moved es f t n ≡ moved es f t (bytes_of n)
-bytes_alone es f t n =
-    let p : (k : ℕ) → k - 0 ≡ k = λ k. omega arith in
-    let q : (k : ℕ) → k + 0 ≡ k = λ k. omega arith in
-    let x : Account = account_at es f in let y : Account = account_at es t in
-    λ i. set (set es f (Some (with_amount x (record { ram = x.quota.ram - n; caps = sym (p x.quota.caps) i })))) t
-    (Some (with_amount y (record { ram = y.quota.ram + n; caps = sym (q y.quota.caps) i })))
-
--- bytes, and then capabilities
-pub both : (es : Entries) (f t : ℕ) (n : Amount) → IsOpen es f → IsOpen es t → (t ≡ f → ⊥)
-    → caps_moved (quota_moved es f t n.ram) f t n.caps ≡ moved es f t n
-both es f t n fo to ne =
-    let x : Account = account_at es f in let y : Account = account_at es t in
-    let x1 : Account = with_quota x (x.quota.ram - n.ram) in let y1 : Account = with_quota y (y.quota.ram + n.ram) in
-    let es1 : Entries = set es f (Some x1) in let es2 : Entries = set es1 t (Some y1) in
-    let gx : account_at es2 f ≡ x1 = past es1 t f y1 (λ e. ne (sym e)) ∙ put es f x1 (open_there es f fo) in
-    let gy : account_at es2 t ≡ y1 = put es1 t y1 (omega (arith, length-set es f (Some x1), open_there es t to)) in
-    ap (λ (a : Account). set (set es2 f (Some (with_caps a (a.quota.caps - n.caps)))) t
-    (Some (with_caps (account_at es2 t) ((account_at es2 t).quota.caps + n.caps)))) gx
-    ∙ ap (λ (b : Account). set (set es2 f (Some (with_caps x1 (x1.quota.caps - n.caps)))) t (Some (with_caps b (b.quota.caps + n.caps)))) gy
-    ∙ four_sets es f t (Some x1) (Some y1) (Some (less x n)) (Some (more y n)) ne
-
 there_and_back : (a : Account) (n : Amount) → less (more a n) n ≡ a
 there_and_back a n =
     let p : a.quota.ram + n.ram - n.ram ≡ a.quota.ram = omega arith in
@@ -177,48 +144,6 @@ related t es i j a b nodes il jl near ai bj io jo = elim near [
   | inr down ↦ related_down es a b (record { 0 = number t (parent t j) })
       (ap (λ k. (account_at es k).reference) bj ∙ nodes.references j down.0 jl jo) (ap (number t) down.1 ∙ sym ai)
 ]
-
--- A HOP
-
-pub hop_done : (l l1 l2 : Ledger) (f t : ℕ) (n : Amount) → IsOpen l.accounts f → IsOpen l.accounts t → (t ≡ f → ⊥) → (l.price ≡ 0 → n.caps ≡ 0)
-    → l1 ≡ with_accounts l (quota_moved l.accounts f t n.ram) → (1 ≤ l1.price → l2 ≡ with_accounts l1 (caps_moved l1.accounts f t n.caps))
-    → (l1.price ≡ 0 → l2 ≡ l1)
-    → l2 ≡ with_accounts l (moved l.accounts f t n)
-hop_done l l1 l2 f t n fo to ne counted m1 m2 m3 =
-    let price : l1.price ≡ l.price = ap (λ (x : Ledger). x.price) m1 in
-    elim (cases_eq l.price 0) [
-      | inl e ↦ m3 (price ∙ e) ∙ m1 ∙ ap (with_accounts l) (bytes_alone l.accounts f t n.ram
-          ∙ ap (λ k. moved l.accounts f t (record { ram = n.ram; caps = k })) (sym (counted e)))
-      | inr some ↦
-          m2 (let p : l.price ≡ 0 → ⊥ = some in omega arith)
-          ∙ ap (λ (x : Ledger). with_accounts x (caps_moved x.accounts f t n.caps)) m1
-          ∙ ap (with_accounts l) (both l.accounts f t n fo to ne)
-    ]
-
-pub caps_allowed : (es : Entries) (price : ℕ) (a b : AccountNo) (n : ℕ) → are_related es a b ≡ true → n ≤ available_caps (account_at es a.0)
-    → transfer_caps_refusal es price a b n ≡ None
-caps_allowed es price a b n r e =
-    let q : nat_lt (available_caps (account_at es a.0)) n ≡ false = grind (arith, nat_tests) in
-    rw (r, q) refl
-
-pub bytes_allowed : (es : Entries) (a b : AccountNo) (n : ℕ) → are_related es a b ≡ true → n ≤ available (account_at es a.0) → transfer_refusal es a b n ≡ None
-bytes_allowed es a b n r e =
-    let q : nat_lt (available (account_at es a.0)) n ≡ false = grind (arith, nat_tests) in
-    rw (r, q) refl
-
--- the giver's capabilities after the bytes
-pub caps_then : (es : Entries) (f t n : ℕ) → IsOpen es f → IsOpen es t → (t ≡ f → ⊥)
-    → available_caps (account_at (quota_moved es f t n) f) ≡ available_caps (account_at es f)
-caps_then es f t n fo to ne =
-    let e : account_at (quota_moved es f t n) f ≡ less (account_at es f) (bytes_of n) = ap (λ es. account_at es f) (bytes_alone es f t n)
-    ∙ giver_now es f t (bytes_of n) fo to ne in
-    omega (arith, ap (λ (a : Account). a.quota.caps) e, ap (λ (a : Account). a.used.caps) e)
-
-pub nodes_then : (t : Tree) (es : Entries) (x y n : ℕ) → AreNodes t es → IsOpen es x → IsOpen es y → AreNodes t (quota_moved es x y n)
-nodes_then t es x y n a xo yo = subst (AreNodes t) (sym (bytes_alone es x y n)) (nodes_kept t es x y (bytes_of n) a xo yo)
-
-pub open_then : (es : Entries) (x y n a : ℕ) → IsOpen es a → IsOpen (quota_moved es x y n) a
-open_then es x y n a h = subst (λ es. IsOpen es a) (sym (bytes_alone es x y n)) (still_open es x y (bytes_of n) a h)
 
 -- ends of a hop are two accounts
 pub hop_apart : (t : Tree) (es : Entries) (i j : ℕ) → IsTree t → AreNodes t es → i < length t.parents → j < length t.parents → IsHop t i j

@@ -4,7 +4,7 @@ use Rattle.std.specs.Prelude.{nat_eq, nat_lt, if◌then◌else◌, get_or, slice
 use Rattle.gq_tariff.specs.Prices.{up}
 use Rattle.gq_tariff.specs.declared.amount.Amount.{Amount}
 use Rattle.gq_ram.specs.declared.account.Account.{Account}
-use Rattle.gq_ram.specs.declared.account.AccountNo.{AccountNo}
+use Rattle.gq_store.specs.declared.AccountNo.{AccountNo}
 use Rattle.gq_ram.specs.declared.account.AccountFault.{AccountFault}
 use Rattle.gq_ram.specs.declared.account.AccountFault.TheVariants.{NotRelated, Exceeded, ZeroSize, HasMembers, IsRoot, CapsExceeded}
 
@@ -66,18 +66,6 @@ abbrev pub quotas_set : Entries → ℕ → Amount → ℕ → Amount → Entrie
 quotas_set es from less to more =
     slice_set (slice_set es from (Some (with_amount (account_at es from) less))) to (Some (with_amount (account_at es to) more))
 
--- n bytes of quota go from one account to another
-abbrev pub quota_moved : Entries → ℕ → ℕ → ℕ → Entries
-quota_moved es from to n =
-    let less : Entries = slice_set es from (Some (with_quota (account_at es from) ((account_at es from).quota.ram - n))) in
-    slice_set less to (Some (with_quota (account_at es to) ((account_at es to).quota.ram + n)))
-
--- n capabilities of quota go from one account to another
-abbrev pub caps_moved : Entries → ℕ → ℕ → ℕ → Entries
-caps_moved es from to n =
-    let less : Entries = slice_set es from (Some (with_caps (account_at es from) ((account_at es from).quota.caps - n))) in
-    slice_set less to (Some (with_caps (account_at es to) ((account_at es to).quota.caps + n)))
-
 -- quota of both kinds goes from one account to another
 abbrev pub passed : Entries → ℕ → ℕ → Amount → Entries
 passed es from to n =
@@ -90,6 +78,9 @@ available a = a.quota.ram - a.used.ram
 
 abbrev pub available_caps : Account → ℕ
 available_caps a = a.quota.caps - a.used.caps
+
+abbrev pub remaining : Account → Amount
+remaining a = record { ram = available a; caps = available_caps a }
 
 -- WHEN CALLS ARE REFUSED
 
@@ -112,22 +103,20 @@ abbrev pub has_members : Entries → AccountNo → Bool
 has_members [] a = false
 has_members (x ∷ es) a = if is_it (its_account x).reference a then true else has_members es a
 
-abbrev pub transfer_refusal : Entries → AccountNo → AccountNo → ℕ → Option AccountFault
-transfer_refusal es from to n =
-    if are_related es from to then (if nat_lt (available (account_at es from.0)) n then Some Exceeded else None) else Some NotRelated
+-- what there is too little of, where so much is asked for of what there is: bytes first
+abbrev pub shortage : Amount → Amount → Option AccountFault
+shortage there asked = if nat_lt there.ram asked.ram then Some Exceeded else if nat_lt there.caps asked.caps then Some CapsExceeded else None
 
--- where the price of a dataspace is 0, capabilities are not counted
-abbrev pub transfer_caps_refusal : Entries → ℕ → AccountNo → AccountNo → ℕ → Option AccountFault
-transfer_caps_refusal es price from to n =
-    if are_related es from to
-    then (if nat_lt (available_caps (account_at es from.0)) n then (if nat_lt 0 price then Some CapsExceeded else None) else None)
-    else Some NotRelated
+-- what counts of an amount: where the price of a dataspace is 0, capabilities are not counted
+abbrev pub counted : ℕ → Amount → Amount
+counted price n = record { ram = n.ram; caps = if nat_eq price 0 then 0 else n.caps }
+
+abbrev pub transfer_refusal : Entries → ℕ → AccountNo → AccountNo → Amount → Option AccountFault
+transfer_refusal es price from to n =
+    if are_related es from to then shortage (remaining (account_at es from.0)) (counted price n) else Some NotRelated
 
 abbrev pub alloc_refusal : Account → ℕ → ℕ → Option AccountFault
-alloc_refusal a price n =
-    if nat_lt 0 n
-    then (if nat_lt (available a) (up n) then Some Exceeded else if nat_lt (available_caps a) price then Some CapsExceeded else None)
-    else Some ZeroSize
+alloc_refusal a price n = if nat_lt 0 n then shortage (remaining a) (record { ram = up n; caps = price }) else Some ZeroSize
 
 abbrev pub close_refusal : Entries → AccountNo → Option AccountFault
 close_refusal es a = if is_some (account_at es a.0).reference then (if has_members es a then Some HasMembers else None) else Some IsRoot

@@ -5,7 +5,7 @@ use Rattle.gq_pages.specs.Frame_bytes.{zeros}
 use Rattle.gq_pages.specs.Frame_map.{has_bytes, all_free}
 use Rattle.gq_dataspace.specs.Dataspaces.{Dataspaces, IsVacant, content_of}
 use Rattle.gq_dataspace.specs.declared.spaces.DsId.{DsId}
-use Rattle.gq_ram.specs.declared.account.AccountNo.{AccountNo}
+use Rattle.gq_store.specs.declared.AccountNo.{AccountNo}
 use Rattle.gq_ram.specs.Account_table.{Entries, no_amount, account_at, charged, left_to, sum_over, IsOpen}
 use Rattle.gq_ram.specs.Owning.{IsOf, Owners, owned}
 

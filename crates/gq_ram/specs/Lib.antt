@@ -6,3 +6,4 @@ pub mod Account_tree
 pub mod Handing
 pub mod Giving
 pub mod Opening
+pub mod Account_stores

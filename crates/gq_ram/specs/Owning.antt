@@ -1,7 +1,7 @@
 -- Which account each dataspace is of.
 use Rattle.std.specs.Prelude.{◌≡◌, ℕ, ◌+◌, List, [], ◌∷◌, Option, Some, None, get_or, nat_eq, if◌then◌else◌}
 use Rattle.gq_dataspace.specs.Dataspaces.{Contents}
-use Rattle.gq_ram.specs.declared.account.AccountNo.{AccountNo}
+use Rattle.gq_store.specs.declared.AccountNo.{AccountNo}
 
 -- for each number that a dataspace may have the account that pays for it, or None where there is no such dataspace
 abbrev pub Owners : Type 0

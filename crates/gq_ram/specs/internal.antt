@@ -1,1 +1,2 @@
 pub mod Accounts_fields
+pub mod Kept_rest

@@ -1,10 +1,11 @@
 // An account, and why a call is refused.
+ghost use Rattle.std.specs.Prelude.{◌≡◌};
+ghost use Rattle.gq_ram.specs.Account_table.{IsRefusedFor, counted, shortage};
+ghost use Rattle.gq_ram.specs.Giving.{IsAfforded};
+
+use gq_store::AccountNo;
 use gq_tariff::Amount;
 use thiserror::Error;
-
-/// The number of an account.
-#[derive(Clone, Copy, Debug, PartialEq, Eq)]
-pub struct AccountNo(pub usize);
 
 /// Why a call on accounts is refused. A refused call leaves everything as it was.
 #[derive(Clone, Copy, Debug, PartialEq, Eq, Error)]
@@ -35,4 +36,28 @@ pub(crate) struct Account {
     pub(crate) quota: Amount,
     pub(crate) used: Amount,
     pub(crate) reference: Option<AccountNo>,
+}
+
+/// Compares what there is with what is asked for: `Exceeded` where there are fewer bytes, else `CapsExceeded` where there are fewer capabilities.
+pub fn afford(there: Amount, asked: Amount) -> Result<(), AccountFault>
+    ensures refusal { IsRefusedFor result (shortage there asked) }
+    ensures afforded { IsAfforded result there.ram there.caps asked }
+{
+    if there.ram < asked.ram {
+        return Err(AccountFault::Exceeded);
+    }
+    if there.caps < asked.caps {
+        return Err(AccountFault::CapsExceeded);
+    }
+    Ok(())
+}
+
+// What counts of an amount: no capabilities where a dataspace costs none.
+pub(crate) fn counted(price: u64, amount: Amount) -> Amount
+    ensures { result ≡ counted price amount }
+{
+    Amount {
+        ram: amount.ram,
+        caps: if price == 0 { 0 } else { amount.caps },
+    }
 }

@@ -4,8 +4,9 @@ ghost use Rattle.gq_ram.specs.Account_table.{available, available_caps};
 ghost use Rattle.gq_ram.specs.Giving.{CanGive, IsAfforded};
 ghost use Rattle.gq_ram.specs.Account_tree.{account_of, donated, number, parent, IsHop};
 
-use crate::account::{AccountFault, AccountNo};
+use crate::account::{AccountFault, afford};
 use crate::accounts::Accounts;
+use gq_store::AccountNo;
 use gq_tariff::Amount;
 use std::marker::Model;
 
@@ -75,12 +76,7 @@ impl AccountTree {
     {
         accounts.laws();
         let giver = self.accounts[from];
-        if accounts.avail(giver) < amount.ram {
-            return Err(AccountFault::Exceeded);
-        }
-        if accounts.caps(giver) - accounts.caps_used(giver) < amount.caps {
-            return Err(AccountFault::CapsExceeded);
-        }
+        afford(accounts.avail(giver), amount)?;
         self.convey(accounts, from, to, amount);
         Ok(())
     }
@@ -148,10 +144,7 @@ impl AccountTree {
     {
         let giver = self.accounts[from];
         let taker = self.accounts[to];
-        let Ok(()) = accounts.transfer(giver, taker, amount.ram) else {
-            unreachable!();
-        };
-        let Ok(()) = accounts.transfer_caps(giver, taker, amount.caps) else {
+        let Ok(()) = accounts.transfer(giver, taker, amount) else {
             unreachable!();
         };
     }

@@ -1,18 +1,19 @@
 // Accounts over dataspaces: who pays for what.
 ghost use Rattle.std.specs.Prelude.{◌≡◌, [], ◌∷◌, ◌+◌, ◌-◌, ◌%◌, ◌<◌, ◌≤◌, ℕ, length, replicate, slice_index, slice_set, get_or};
-ghost use Rattle.std.specs.Prelude.{Some, None, Ok, Err, IfOk, IfSome, OnOk, OnErr};
+ghost use Rattle.std.specs.Prelude.{◌↔◌, Some, None, Ok, Err, IfOk, IfSome, OnOk, OnErr, IsTrue};
 ghost use Rattle.std.specs.Int.{w32, to_le_bytes};
 ghost use Rattle.gq_pages.specs.Frame_bytes.{zeroed, word_at, with_bytes};
 ghost use Rattle.gq_dataspace.specs.Dataspaces.{content_of};
-ghost use Rattle.gq_ram.specs.Account_table.{account_at, with_use, first_account, relieved, quotas_set, quota_moved, caps_moved};
+ghost use Rattle.gq_ram.specs.Account_table.{account_at, with_use, first_account, relieved, quotas_set, counted, remaining};
 ghost use Rattle.gq_ram.specs.Account_table.{are_related, available, available_caps, has_members, is_it, passed, IsOpen};
-ghost use Rattle.gq_ram.specs.Account_table.{IsRefusedFor, transfer_refusal, transfer_caps_refusal, alloc_refusal, close_refusal};
+ghost use Rattle.gq_ram.specs.Account_table.{IsRefusedFor, transfer_refusal, alloc_refusal, close_refusal};
 ghost use Rattle.gq_ram.specs.Owning.{IsOf};
 ghost use Rattle.gq_ram.specs.Ledgers.{MakesDataspace, ClosesAccount, IsBalanced, IsSameWhole, with_accounts, with_content, first_ledger};
 
-use crate::account::{Account, AccountFault, AccountNo};
+use crate::account::{Account, AccountFault, afford, counted};
 use gq_dataspace::{DsId, Spaces};
 use gq_pages::Pages;
+use gq_store::AccountNo;
 use gq_tariff::price::PAGE;
 use gq_tariff::{Amount, round_up};
 use slab::Slab;
@@ -29,7 +30,7 @@ const NOTHING: Amount = Amount { ram: 0, caps: 0 };
 pub struct Accounts {
     // an account's number is its key
     accounts: Slab<Account>,
-    spaces: Spaces,
+    pub(crate) spaces: Spaces,
     owners: Vec<Option<AccountNo>>,
     price: u64,
     total: u64,
@@ -102,46 +103,33 @@ impl Accounts {
         Ok(AccountNo(number))
     }
 
-    /// The quota of an account in bytes.
-    pub fn quota(&self, account: AccountNo) -> u64
+    /// The quota of an account: bytes and capabilities.
+    pub fn quota(&self, account: AccountNo) -> Amount
         requires { IsOpen self.now.accounts account.0 }
-        ensures { result ≡ (account_at self.now.accounts account.0).quota.ram }
+        ensures { result ≡ (account_at self.now.accounts account.0).quota }
     {
-        self.account(account).quota.ram
+        self.account(account).quota
     }
 
-    /// The bytes that its dataspaces cost.
-    pub fn used(&self, account: AccountNo) -> u64
+    /// What its dataspaces cost: their bytes, and one capability for each; no capabilities where these are not counted.
+    pub fn used(&self, account: AccountNo) -> Amount
         requires { IsOpen self.now.accounts account.0 }
-        ensures { result ≡ (account_at self.now.accounts account.0).used.ram }
+        ensures { result ≡ (account_at self.now.accounts account.0).used }
     {
-        self.account(account).used.ram
+        self.account(account).used
     }
 
-    /// The quota of an account in bytes, less what is used of it.
-    pub fn avail(&self, account: AccountNo) -> u64
+    /// The quota of an account, less what is used of it.
+    pub fn avail(&self, account: AccountNo) -> Amount
         requires { IsOpen self.now.accounts account.0 }
-        ensures { result ≡ (account_at self.now.accounts account.0).quota.ram - (account_at self.now.accounts account.0).used.ram }
+        ensures { result ≡ remaining (account_at self.now.accounts account.0) }
     {
         let _total = self.total;
         let account = self.account(account);
-        account.quota.ram - account.used.ram
-    }
-
-    /// The quota of an account in capabilities.
-    pub fn caps(&self, account: AccountNo) -> u64
-        requires { IsOpen self.now.accounts account.0 }
-        ensures { result ≡ (account_at self.now.accounts account.0).quota.caps }
-    {
-        self.account(account).quota.caps
-    }
-
-    /// The capabilities that its dataspaces cost, one for each; 0 where capabilities are not counted.
-    pub fn caps_used(&self, account: AccountNo) -> u64
-        requires { IsOpen self.now.accounts account.0 }
-        ensures { result ≡ (account_at self.now.accounts account.0).used.caps }
-    {
-        self.account(account).used.caps
+        Amount {
+            ram: account.quota.ram - account.used.ram,
+            caps: account.quota.caps - account.used.caps,
+        }
     }
 
     /// The account that its quota comes from; the root account has none.
@@ -150,6 +138,13 @@ impl Accounts {
         ensures { result ≡ (account_at self.now.accounts account.0).reference }
     {
         self.account(account).reference
+    }
+
+    /// Whether there is an account of that number.
+    pub fn is_open(&self, account: AccountNo) -> bool
+        ensures { IsTrue result ↔ IsOpen self.now.accounts account.0 }
+    {
+        self.accounts.contains(account.0)
     }
 
     /// How many frames are free.
@@ -203,87 +198,35 @@ impl Accounts {
         self.spaces.clear(ds, offset, size);
     }
 
-    /// Moves `amount` bytes of quota from an account to its reference account, or the other way. `NotRelated` where neither is the other's
-    /// reference account, then `Exceeded` where `from` has less that is not used.
+    /// Moves quota of both kinds from an account to its reference account, or the other way. `NotRelated` where neither is the other's reference account,
+    /// then `Exceeded` where `from` has fewer bytes that are not used, then `CapsExceeded` where it has fewer capabilities. Where capabilities are not
+    /// counted, none are moved, and none are missing.
     pub fn transfer(
         &mut self,
         from: AccountNo,
         to: AccountNo,
-        amount: u64,
+        amount: Amount,
     ) -> Result<(), AccountFault>
         requires from_open { IsOpen self.old.accounts from.0 }
         requires to_open { IsOpen self.old.accounts to.0 }
-        ensures moved { OnOk result (self.new ≡ with_accounts self.old (quota_moved self.old.accounts from.0 to.0 amount)) }
+        ensures moved { OnOk result (self.new ≡ with_accounts self.old (passed self.old.accounts from.0 to.0 (counted self.old.price amount))) }
         ensures unchanged { OnErr result (self.new ≡ self.old) }
-        ensures refusal { IsRefusedFor result (transfer_refusal self.old.accounts from to amount) }
-    {
-        let _total = self.total;
-        if !self.are_related(from, to) {
-            return Err(AccountFault::NotRelated);
-        }
-        let giver = self.account(from);
-        if giver.quota.ram - giver.used.ram < amount {
-            return Err(AccountFault::Exceeded);
-        }
-        let taker = self.account(to);
-        let less = Amount {
-            ram: giver.quota.ram - amount,
-            caps: giver.quota.caps,
-        };
-        let more = Amount {
-            ram: taker.quota.ram + amount,
-            caps: taker.quota.caps,
-        };
-        self.set_quotas(from, less, to, more);
-        Ok(())
-    }
-
-    /// Moves `amount` capabilities of quota from an account to its reference account, or the other way. `NotRelated` where neither is the other's
-    /// reference account, then `CapsExceeded` where `from` has fewer that are not used. Where capabilities are not counted nothing moves.
-    pub fn transfer_caps(
-        &mut self,
-        from: AccountNo,
-        to: AccountNo,
-        amount: u64,
-    ) -> Result<(), AccountFault>
-        requires from_open { IsOpen self.old.accounts from.0 }
-        requires to_open { IsOpen self.old.accounts to.0 }
-        ensures moved { OnOk result (1 ≤ self.old.price → self.new ≡ with_accounts self.old (caps_moved self.old.accounts from.0 to.0 amount)) }
-        ensures uncounted { OnOk result (self.old.price ≡ 0 → self.new ≡ self.old) }
-        ensures unchanged { OnErr result (self.new ≡ self.old) }
-        ensures refusal { IsRefusedFor result (transfer_caps_refusal self.old.accounts self.old.price from to amount) }
+        ensures refusal { IsRefusedFor result (transfer_refusal self.old.accounts self.old.price from to amount) }
     {
         if !self.are_related(from, to) {
             return Err(AccountFault::NotRelated);
         }
-        if self.price == 0 {
-            return Ok(());
-        }
-        let giver = self.account(from);
-        if giver.quota.caps - giver.used.caps < amount {
-            return Err(AccountFault::CapsExceeded);
-        }
-        let taker = self.account(to);
-        let less = Amount {
-            ram: giver.quota.ram,
-            caps: giver.quota.caps - amount,
-        };
-        let more = Amount {
-            ram: taker.quota.ram,
-            caps: taker.quota.caps + amount,
-        };
-        self.set_quotas(from, less, to, more);
+        let amount = counted(self.price, amount);
+        afford(self.avail(from), amount)?;
+        self.convey(from, to, amount);
         Ok(())
     }
 
-    /// Moves quota of both kinds from an account, which is known to have it, to another one with the same reference account: as transfers to that account
-    /// and on from it do, in one step. Where capabilities are not counted, none are moved.
-    pub fn pass(&mut self, from: AccountNo, to: AccountNo, amount: Amount)
+    // Moves quota of both kinds from an account, which is known to have it, to another one.
+    fn convey(&mut self, from: AccountNo, to: AccountNo, amount: Amount)
         requires from_open { IsOpen self.old.accounts from.0 }
         requires to_open { IsOpen self.old.accounts to.0 }
         requires apart { to.0 ≡ from.0 → ⊥ }
-        requires siblings { (account_at self.old.accounts from.0).reference ≡ (account_at self.old.accounts to.0).reference }
-        requires counted { self.old.price ≡ 0 → amount.caps ≡ 0 }
         requires enough { amount.ram ≤ available (account_at self.old.accounts from.0) }
         requires enough_caps { amount.caps ≤ available_caps (account_at self.old.accounts from.0) }
         ensures { self.new ≡ with_accounts self.old (passed self.old.accounts from.0 to.0 amount) }
@@ -302,6 +245,21 @@ impl Accounts {
         self.set_quotas(from, less, to, more);
     }
 
+    /// Moves quota of both kinds from an account, which is known to have it, to another one with the same reference account: as transfers to that account
+    /// and on from it do, in one step. Where capabilities are not counted, none are moved.
+    pub fn pass(&mut self, from: AccountNo, to: AccountNo, amount: Amount)
+        requires from_open { IsOpen self.old.accounts from.0 }
+        requires to_open { IsOpen self.old.accounts to.0 }
+        requires apart { to.0 ≡ from.0 → ⊥ }
+        requires siblings { (account_at self.old.accounts from.0).reference ≡ (account_at self.old.accounts to.0).reference }
+        requires counted { self.old.price ≡ 0 → amount.caps ≡ 0 }
+        requires enough { amount.ram ≤ available (account_at self.old.accounts from.0) }
+        requires enough_caps { amount.caps ≤ available_caps (account_at self.old.accounts from.0) }
+        ensures { self.new ≡ with_accounts self.old (passed self.old.accounts from.0 to.0 amount) }
+    {
+        self.convey(from, to, amount);
+    }
+
     /// Makes a dataspace of `size` bytes in whole pages, each byte 0, which the account pays for. `ZeroSize` for 0 bytes, then `Exceeded` where
     /// its pages cost more than the account has that is not used, then `CapsExceeded` where it has no capability left. Frames never run short.
     pub fn alloc(&mut self, account: AccountNo, size: u64) -> Result<DsId, AccountFault>
@@ -314,26 +272,22 @@ impl Accounts {
         if size == 0 {
             return Err(AccountFault::ZeroSize);
         }
-        let payer = self.account(account);
-        let avail = payer.quota.ram - payer.used.ram;
-        if size > avail {
+        let avail = self.avail(account);
+        if size > avail.ram {
             return Err(AccountFault::Exceeded);
         }
-        let cost = round_up(size);
-        if cost > avail {
-            return Err(AccountFault::Exceeded);
-        }
-        if payer.quota.caps - payer.used.caps < self.price {
-            return Err(AccountFault::CapsExceeded);
-        }
+        let cost = Amount {
+            ram: round_up(size),
+            caps: self.price,
+        };
+        afford(avail, cost)?;
         let Ok(ds) = self.spaces.create(size) else {
             unreachable!();
         };
         self.owners[ds.0 as usize] = Some(account);
-        let price = self.price;
         let payer = &mut self.accounts[account.0];
-        payer.used.ram += cost;
-        payer.used.caps += price;
+        payer.used.ram += cost.ram;
+        payer.used.caps += cost.caps;
         Ok(ds)
     }
 

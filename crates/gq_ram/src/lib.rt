@@ -2,13 +2,14 @@
 //!
 //! ```rust
 //! use gq_ram::Accounts;
+//! use gq_tariff::Amount;
 //!
 //! let mut accounts = Accounts::new(rt.alloc(), 65536, None)?;
 //! let root = accounts.root();
 //! let account = accounts.add(accounts.root())?;
-//! accounts.transfer(root, account, 8192)?;
+//! accounts.transfer(root, account, Amount { ram: 8192, caps: 0 })?;
 //! let ds = accounts.alloc(account, 1)?;
-//! assert_eq!(rt; accounts.used(account), 4096);
+//! assert_eq!(rt; accounts.used(account).ram, 4096);
 //! accounts.close(account)?;
 //! ```
 //!
@@ -26,15 +27,18 @@
 //! tree.donate(&mut accounts, client, server, Amount { ram: 8192, caps: 1 })?;
 //! ```
 //!
-//! Modules: accounts (`accounts`), and the tree of nodes along which quota goes (`account_tree`, `opening`, `handing`).
+//! Modules: accounts (`accounts`), which are a store of chunks (`account_store`), and the tree of nodes along which quota goes (`account_tree`, `opening`,
+//! `handing`).
 #![tactic(auto)]
 
 mod account;
+mod account_store;
 pub mod account_tree;
 mod accounts;
 mod handing;
 mod opening;
 
-pub use account::{AccountFault, AccountNo};
+pub use account::{AccountFault, afford};
 pub use account_tree::AccountTree;
 pub use accounts::Accounts;
+pub use gq_store::AccountNo;

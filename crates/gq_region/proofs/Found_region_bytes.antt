@@ -1,23 +1,30 @@
 -- Bytes that were found, and what they read in the machine's world.
-use Rattle.std.proofs.Common.{◌≡◌, ℕ, ◌+◌, ◌<◌, ◌≤◌, cond, List, length, Option, Some, None, IfSome, refl, sym, ap}
+use Rattle.std.proofs.Common.{◌≡◌, ℕ, ◌+◌, ◌<◌, ◌≤◌, Bool, true, false, cond, List, length, Option, Some, None, IfSome, refl, sym, ap}
 use Rattle.std.proofs.Common.{subst, ◌∙◌, arith}
-use Rattle.std.specs.Prelude.{IsTrue, is_some, nat_le, slice_get, slice_index, slice_range}
+use Rattle.std.specs.Prelude.{IfNone, IsTrue, is_some, nat_le, slice_range}
 use Rattle.std.proofs.lemmas.Bool.Decides.{nat_tests}
-use Rattle.std.proofs.lemmas.Option.{slice_get-get_or, slice_get_past}
-use Rattle.gq_model.specs.machine.Program.{little}
+use Rattle.gq_model.specs.declared.program.Width.{Width}
+use Rattle.gq_model.specs.declared.program.Width.TheVariants.{Byte, Word}
+use Rattle.gq_model.specs.machine.Program.{bytes_of, little}
 use Rattle.gq_model.specs.machine.Scenario.{System}
 use Rattle.gq_model.specs.machine.Memory.{bytes_slot_id}
 use Rattle.gq_model.specs.machine.World as world
 use Rattle.gq_contents.specs.declared.content.Content.{Content}
-use Rattle.gq_contents.specs.Contents.{bytes_in, put_in, seen, size_of}
+use Rattle.gq_store.specs.declared.extent.Extent.{Extent}
+use Rattle.gq_contents.specs.declared.content.Content.TheVariants.{Empty, Block, Slice, Space, Pool, Link, Waiting}
+use Rattle.gq_contents.specs.Contents.{bytes_in, extent_of, put_in, size_of}
 use Rattle.gq_trade.specs.declared.session.SlotId.{SlotId}
 use Rattle.gq_trade.specs.Seen_sessions.{slot_id_seen}
-use Rattle.gq_slots.specs.Slots.{Frame, Slots, holder, memory_of, slot_of, content_at, world_seen}
+use Rattle.gq_slots.specs.Slots.{Frame, IsSlotId, Slots, holder, memory_of, slot_of, content_at, world_seen}
 use Rattle.gq_slots.specs.Calls.{PutsSlot}
 use Rattle.gq_slots.specs.Slot_addresses.{place_seen}
 use Rattle.gq_slots.proofs.Slot_byte_counts.{length_seen}
-use Rattle.gq_region.specs.Region_addresses.{AreFound, AreThere, byte_of, bytes_behind, bytes_of, bytes_there, four_in, number_of, put_behind}
-use Rattle.gq_region.specs.Region_addresses.{put_slot, put_there}
+use Rattle.gq_region.specs.Region_addresses.{AreFound, AreThere, LiesAt, bytes_behind, bytes_seen, bytes_there, number_in, number_of, put_behind}
+use Rattle.gq_region.specs.Region_addresses.{put_slot, put_there, within}
+
+abbrev length_of : Option Extent → ℕ
+length_of None = 0
+length_of (Some x) = x.length
 
 module _ (system : System) (w : world.World) (s : Slots) (p : SlotId) (i n : ℕ) where
   abbrev there : Option world.SlotId
@@ -25,40 +32,35 @@ module _ (system : System) (w : world.World) (s : Slots) (p : SlotId) (i n : ℕ
 
   -- WHAT IS FOUND
 
-  pub found_none : (o : Option (SlotId × ℕ)) → o ≡ None → None ≡ there → 0 < n → AreFound system w s p i n o
-  found_none o e f lt =
-      let long : length (bytes_behind system w (slot_id_seen p)) ≡ 0 = ap (λ y. length (bytes_there w y)) (sym f) in
-      subst (AreFound system w s p i n) (sym e) (omega (arith, long, lt))
-
-  slot_is : (q : SlotId) (t : Content) → t ≡ content_at s q → world.slot_at w (slot_id_seen q) ≡ Some (seen (memory_of s (holder s q)) t)
-      → world.slot_at w (slot_id_seen q) ≡ Some (slot_of s q)
-  slot_is q t e r = r ∙ ap (λ y. Some (seen (memory_of s (holder s q)) y)) e
-
-  pub found_some : (o : Option SlotId) (q : SlotId) (t : Content) → o ≡ Some q → place_seen o ≡ there → t ≡ content_at s q
-      → world.slot_at w (slot_id_seen q) ≡ Some (seen (memory_of s (holder s q)) t) → i + n ≤ size_of t → AreFound system w s p i n (Some (q, i))
-  found_some o q t e f g r le =
+  nowhere : (q : SlotId) → world.slot_at w (slot_id_seen q) ≡ Some (slot_of s q) → Some (slot_id_seen q) ≡ there
+      → nat_le (i + n) (size_of (content_at s q)) ≡ false → length (bytes_behind system w (slot_id_seen p)) < i + n
+  nowhere q r f e =
       let size = length_seen (memory_of s (holder s q)) (content_at s q) in
-      let same = ap size_of g in
-      record {
-        place = sym f ∙ ap place_seen e;
-        slot = slot_is q t g r;
-        index = refl;
-        long = omega (arith, size, same, le);
-      }
+      let bytes : bytes_behind system w (slot_id_seen p) ≡ bytes_in (slot_of s q) = ap (bytes_there w) (sym f) ∙ ap bytes_seen r in
+      grind (arith, nat_tests, size, e, ap length bytes)
 
-  pub found_short : (o : Option SlotId) (q : SlotId) (t : Content) → o ≡ Some q → place_seen o ≡ there → t ≡ content_at s q
-      → world.slot_at w (slot_id_seen q) ≡ Some (seen (memory_of s (holder s q)) t) → size_of t < i + n → AreFound system w s p i n None
-  found_short o q t e f g r lt =
+  somewhere : (q : SlotId) → world.slot_at w (slot_id_seen q) ≡ Some (slot_of s q) → Some (slot_id_seen q) ≡ there
+      → nat_le (i + n) (size_of (content_at s q)) ≡ true → AreThere system w s p i n q i
+  somewhere q r f e =
       let size = length_seen (memory_of s (holder s q)) (content_at s q) in
-      let same = ap size_of g in
-      let bytes : bytes_behind system w (slot_id_seen p) ≡ bytes_in (slot_of s q) =
-      ap (bytes_there w) (sym f ∙ ap place_seen e) ∙ ap bytes_of (slot_is q t g r) in
-      omega (arith, size, same, lt, ap length bytes)
+      record { place = sym f; slot = r; index = refl; long = grind (arith, nat_tests, size, e) }
+
+  at_place : (q : SlotId) (b : Bool) → nat_le (i + n) (size_of (content_at s q)) ≡ b → world.slot_at w (slot_id_seen q) ≡ Some (slot_of s q)
+      → Some (slot_id_seen q) ≡ there → AreFound system w s p i n (cond b (Some (q, i)) None)
+  at_place q true e r f = somewhere q r f e
+  at_place q false e r f = nowhere q r f e
+
+  -- the bytes from an index on stand where they were found
+  pub found_within : (o : Option SlotId) → place_seen o ≡ there → IfSome o (λ q. world.slot_at w (slot_id_seen q) ≡ Some (slot_of s q)) → 0 < n
+      → AreFound system w s p i n (within s i n o)
+  found_within None f r lt =
+      let long : length (bytes_behind system w (slot_id_seen p)) ≡ 0 = ap (λ y. length (bytes_there w y)) (sym f) in omega (arith, long, lt)
+  found_within (Some q) f r lt = at_place q (nat_le (i + n) (size_of (content_at s q))) refl r f
 
   -- WHAT IT READS
 
   bytes_are : (q : SlotId) (j : ℕ) → AreThere system w s p i n q j → bytes_behind system w (slot_id_seen p) ≡ bytes_in (slot_of s q)
-  bytes_are q j a = ap (bytes_there w) a.place ∙ ap bytes_of a.slot
+  bytes_are q j a = ap (bytes_there w) a.place ∙ ap bytes_seen a.slot
 
   pub fits : (o : Option (SlotId × ℕ)) → AreFound system w s p i n o → is_some o ≡ nat_le (i + n) (length (bytes_behind system w (slot_id_seen p)))
   fits None a = grind (arith, nat_tests, a)
@@ -72,21 +74,78 @@ module _ (system : System) (w : world.World) (s : Slots) (p : SlotId) (i n : ℕ
       ∙ ap (λ j. world.with_slot w (slot_id_seen g.0) (put_in j bs (slot_of s g.0))) a.index ∙ sym (ap (put_there w i bs) a.place
       ∙ ap (put_slot w (slot_id_seen g.0) i bs) a.slot)
 
-pub loaded : (system : System) (w : world.World) (s : Slots) (p : SlotId) (i : ℕ) (o : Option (SlotId × ℕ)) → AreFound system w s p i 1 o
-    → byte_of s o ≡ slice_get (bytes_behind system w (slot_id_seen p)) i
-loaded system w s p i None a = sym (slice_get_past (bytes_behind system w (slot_id_seen p)) i (omega (arith, a)))
-loaded system w s p i (Some f) a =
-    let bytes = bytes_in (slot_of s f.0) in
-    ap (λ j. Some (slice_index bytes j)) a.index ∙ sym (slice_get-get_or bytes i 0 (omega (arith, a.long)))
-    ∙ ap (λ y. slice_get y i) (sym (bytes_are system w s p i 1 f.0 f.1 a))
-
-pub loaded4 : (system : System) (w : world.World) (s : Slots) (p : SlotId) (i : ℕ) (o : Option (SlotId × ℕ)) → AreFound system w s p i 4 o
-    → number_of s o ≡ four_in (bytes_behind system w (slot_id_seen p)) i
-loaded4 system w s p i None a =
+pub loaded : (system : System) (w : world.World) (s : Slots) (p : SlotId) (i : ℕ) (width : Width) (o : Option (SlotId × ℕ))
+    → AreFound system w s p i (bytes_of width) o → number_of s width o ≡ number_in (bytes_behind system w (slot_id_seen p)) width i
+loaded system w s p i width None a =
     let bytes = bytes_behind system w (slot_id_seen p) in
-    ap (λ b. cond b (Some (little (slice_range bytes i (i + 4)))) None) (fits system w s p i 4 None a)
-loaded4 system w s p i (Some f) a =
-    let bytes = bytes_in (slot_of s f.0) in
-    let e = bytes_are system w s p i 4 f.0 f.1 a in
-    ap (λ j. Some (little (slice_range bytes j (j + 4)))) a.index ∙ ap (λ y. Some (little (slice_range y i (i + 4)))) (sym e)
-    ∙ ap (λ b. cond b (Some (little (slice_range (bytes_behind system w (slot_id_seen p)) i (i + 4)))) None) (fits system w s p i 4 (Some f) a)
+    ap (λ b. cond b (Some (little (slice_range bytes i (i + bytes_of width)))) None) (fits system w s p i (bytes_of width) None a)
+loaded system w s p i width (Some f) a =
+    let e = bytes_are system w s p i (bytes_of width) f.0 f.1 a in
+    ap (λ j. Some (little (slice_range (bytes_in (slot_of s f.0)) j (j + bytes_of width)))) a.index
+    ∙ ap (λ y. Some (little (slice_range y i (i + bytes_of width)))) (sym e)
+    ∙ ap (λ b. cond b (Some (little (slice_range (bytes_behind system w (slot_id_seen p)) i (i + bytes_of width)))) None)
+    (fits system w s p i (bytes_of width) (Some f) a)
+
+-- WHERE IT LIES
+
+pub width_some : (width : Width) → 0 < bytes_of width
+width_some Byte = omega arith
+width_some Word = omega arith
+
+-- an extent is as long as what it is of, and what has none has no bytes
+extent_size : (t : Content) (o : Option Extent) → o ≡ extent_of t → size_of t ≡ length_of o
+extent_size Empty o e = ap length_of (sym e)
+extent_size (Block q n) o e = ap length_of (sym e)
+extent_size (Slice k n) o e = ap length_of (sym e)
+extent_size (Space k n) o e = ap length_of (sym e)
+extent_size (Pool q) o e = ap length_of (sym e)
+extent_size (Link k) o e = ap length_of (sym e)
+extent_size (Waiting k) o e = ap length_of (sym e)
+
+module _ (s : Slots) (i : ℕ) (width : Width) where
+  -- no slot is named
+  pub lies_nowhere : (o : Option SlotId) → None ≡ o → within s i (bytes_of width) o ≡ None
+  lies_nowhere o e = ap (within s i (bytes_of width)) (sym e)
+
+  module _ (q : SlotId) (o : Option SlotId) (e : Some q ≡ o) where
+    short_at : nat_le (i + bytes_of width) (size_of (content_at s q)) ≡ false → within s i (bytes_of width) o ≡ None
+    short_at f = ap (within s i (bytes_of width)) (sym e) ∙ ap (λ b. cond b (Some (q, i)) None) f
+
+    -- what stands there has no bytes, or too few
+    pub lies_none : None ≡ extent_of (content_at s q) → within s i (bytes_of width) o ≡ None
+    lies_none f =
+        let size = extent_size (content_at s q) None f in let some = width_some width in short_at (grind (arith, nat_tests, size, some))
+
+    pub lies_short : (x : Extent) → Some x ≡ extent_of (content_at s q) → x.length < i + bytes_of width → within s i (bytes_of width) o ≡ None
+    lies_short x f lt = let size = extent_size (content_at s q) (Some x) f in short_at (grind (arith, nat_tests, size, lt))
+
+    pub lies_there : (x : Extent) → Some x ≡ extent_of (content_at s q) → i + bytes_of width ≤ x.length → IsSlotId s q
+        → LiesAt s (within s i (bytes_of width) o) x i
+    lies_there x f le there =
+        let size = extent_size (content_at s q) (Some x) f in
+        let fit : nat_le (i + bytes_of width) (size_of (content_at s q)) ≡ true = grind (arith, nat_tests, size, le) in
+        record {
+          slot_id = q;
+          place_is = ap (within s i (bytes_of width)) (sym e) ∙ ap (λ b. cond b (Some (q, i)) None) fit;
+          there = there;
+          is = sym f;
+        }
+
+-- WHAT IS READ AND WRITTEN THERE
+
+module _ (s : Slots) (place : Option (SlotId × ℕ)) (x : Extent) (i : ℕ) (width : Width) (at : LiesAt s place x i) where
+  pub reads_there : (n : ℕ) → ((p : SlotId) → IsSlotId s p → extent_of (content_at s p) ≡ Some x
+      → n ≡ little (slice_range (bytes_in (slot_of s p)) i (i + bytes_of width)))
+      → Some n ≡ number_of s width place
+  reads_there n reads = ap Some (reads at.slot_id at.there at.is) ∙ ap (number_of s width) (sym at.place_is)
+
+  pub puts_there : (t : Slots) (bs : List ℕ) → ((p : SlotId) → IsSlotId s p → extent_of (content_at s p) ≡ Some x → PutsSlot s t p (put_in i bs (slot_of s p)))
+      → IfSome place (λ f. PutsSlot s t f.0 (put_in f.1 bs (slot_of s f.0)))
+  puts_there t bs writes =
+      subst (λ o. IfSome o (λ f. PutsSlot s t f.0 (put_in f.1 bs (slot_of s f.0)))) (sym at.place_is) (writes at.slot_id at.there at.is)
+
+  pub is_there : true ≡ is_some place
+  is_there = ap is_some (sym at.place_is)
+
+  pub none_else : (t : Slots) → IfNone place (t ≡ s)
+  none_else t = subst (λ o. IfNone o (t ≡ s)) (sym at.place_is) tt

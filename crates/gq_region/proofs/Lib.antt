@@ -1,4 +1,3 @@
 mod Lowest_free_region
 pub mod Region_caller_facts
 mod Found_region_bytes
-mod Buffer_payers

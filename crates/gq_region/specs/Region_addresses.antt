@@ -1,15 +1,17 @@
 -- What lies at an address of a leaf: each of its 64 slots has a window of 2 ^ 26 addresses, one behind the other.
-use Rattle.std.specs.Prelude.{◌≡◌, ℕ, ◌+◌, ◌<◌, ◌≤◌, ◌/◌, ◌%◌, nat_le, if◌then◌else◌, List, [], length, slice_index, slice_range, Option}
+use Rattle.std.specs.Prelude.{◌≡◌, ℕ, ◌+◌, ◌<◌, ◌≤◌, ◌/◌, ◌%◌, nat_le, if◌then◌else◌, List, [], length, slice_range, Option}
 use Rattle.std.specs.Prelude.{Some, None}
-use Rattle.gq_model.specs.machine.Program.{little}
+use Rattle.gq_model.specs.declared.program.Width.{Width}
+use Rattle.gq_model.specs.machine.Program.{bytes_of, little}
 use Rattle.gq_model.specs.machine.Scenario.{System}
 use Rattle.gq_model.specs.machine.Memory.{bytes_slot_id}
 use Rattle.gq_model.specs.machine.World as world
-use Rattle.gq_contents.specs.Contents.{bytes_in, put_in, size_of}
+use Rattle.gq_store.specs.declared.extent.Extent.{Extent}
+use Rattle.gq_contents.specs.Contents.{bytes_in, extent_of, put_in, size_of}
 use Rattle.gq_trade.specs.declared.session.SlotId.{SlotId}
 use Rattle.gq_trade.specs.declared.session.SlotId.TheVariants.{InLeaf}
 use Rattle.gq_trade.specs.Seen_sessions.{slot_id_seen}
-use Rattle.gq_slots.specs.Slots.{Slots, slot_of, content_at}
+use Rattle.gq_slots.specs.Slots.{IsSlotId, Slots, slot_of, content_at}
 use Rattle.gq_slots.specs.Slot_addresses.{place_of}
 
 -- WHAT LIES AT AN ADDRESS
@@ -31,28 +33,36 @@ within s i n (Some p) = if nat_le (i + n) (size_of (content_at s p)) then Some (
 abbrev pub bytes_at : List ℕ → Slots → ℕ → ℕ → ℕ → Option (SlotId × ℕ)
 bytes_at bs s x a n = within s (offset a) n (place_of bs s (slot_under x a))
 
--- the byte that stands there, and the number in the four bytes from there on
-abbrev pub byte_of : Slots → Option (SlotId × ℕ) → Option ℕ
-byte_of s None = None
-byte_of s (Some f) = Some (slice_index (bytes_in (slot_of s f.0)) f.1)
+-- the byte that stands there, or the number in the four bytes from there on
+abbrev pub number_of : Slots → Width → Option (SlotId × ℕ) → Option ℕ
+number_of s width None = None
+number_of s width (Some f) = Some (little (slice_range (bytes_in (slot_of s f.0)) f.1 (f.1 + bytes_of width)))
 
-abbrev pub number_of : Slots → Option (SlotId × ℕ) → Option ℕ
-number_of s None = None
-number_of s (Some f) = Some (little (slice_range (bytes_in (slot_of s f.0)) f.1 (f.1 + 4)))
+-- the byte or the number from i on, where there are so many bytes
+abbrev pub number_in : List ℕ → Width → ℕ → Option ℕ
+number_in bytes width i = if nat_le (i + bytes_of width) (length bytes) then Some (little (slice_range bytes i (i + bytes_of width))) else None
 
--- the number in the four bytes from i on, where there are so many
-abbrev pub four_in : List ℕ → ℕ → Option ℕ
-four_in bytes i = if nat_le (i + 4) (length bytes) then Some (little (slice_range bytes i (i + 4))) else None
+-- the bytes that stand at a place lie there, from an index on
+pub record LiesAt (s : Slots) (place : Option (SlotId × ℕ)) (e : Extent) (i : ℕ) : Type 0 where
+  pub slot_id : SlotId
+  pub place_is : place ≡ Some (slot_id, i)
+  pub there : IsSlotId s slot_id
+  pub is : extent_of (content_at s slot_id) ≡ Some e
+
+-- It is where the bytes of a place lie, or there is no such place.
+abbrev pub Lies : Slots → Option (SlotId × ℕ) → Option (Extent × ℕ) → Type 0
+Lies s place None = place ≡ None
+Lies s place (Some f) = LiesAt s place f.0 f.1
 
 -- IN THE MACHINE'S WORLD
 
-abbrev pub bytes_of : Option world.Slot → List ℕ
-bytes_of None = []
-bytes_of (Some slot) = bytes_in slot
+abbrev pub bytes_seen : Option world.Slot → List ℕ
+bytes_seen None = []
+bytes_seen (Some slot) = bytes_in slot
 
 abbrev pub bytes_there : world.World → Option world.SlotId → List ℕ
 bytes_there w None = []
-bytes_there w (Some p) = bytes_of (world.slot_at w p)
+bytes_there w (Some p) = bytes_seen (world.slot_at w p)
 
 -- the bytes behind a slot: none where it is none of memory, or a link to a session without a buffer
 abbrev pub bytes_behind : System → world.World → world.SlotId → List ℕ

@@ -16,18 +16,18 @@
 //! A leaf has 2^32 addresses, a window of 2^26 for each of its 64 slots. At those of a link are the bytes of the buffer of its session.
 //!
 //! ```rust
+//! use gq_model::program::Width;
 //! use gq_region::region_addresses;
 //! use gq_slots::Addresses;
 //! use gq_trade::SlotId;
 //!
 //! // Slots of a scenario, as `gq_slots` has them; no service shares a buffer.
 //! let buffers = Addresses::new(Vec::new(rt.alloc()));
-//! slots.pay_by(0);
 //! slots.make_slice(SlotId::InLeaf(0, 3), 100)?;
 //! let address = region_addresses::base(3) + 7;
-//! assert!(rt; region_addresses::store(&buffers, &mut slots, 0, address, 42));
-//! assert_eq!(rt; region_addresses::load(&buffers, &mut slots, 0, address), Some(42));
-//! assert_eq!(rt; region_addresses::load(&buffers, &mut slots, 0, address + 100), None);
+//! assert!(rt; region_addresses::store(&buffers, &mut slots, 0, Width::Byte, address, 42));
+//! assert_eq!(rt; region_addresses::load(&buffers, &slots, 0, Width::Byte, address), Some(42));
+//! assert_eq!(rt; region_addresses::load(&buffers, &slots, 0, Width::Byte, address + 100), None);
 //! ```
 #![tactic(auto)]
 

@@ -31,12 +31,6 @@ pub record HasByte (st : Store) (k i : ℕ) : Type 0 where
   pub has : HasSize st k size
   pub inside : i < size
 
--- It is a slice with four bytes from i on.
-pub record HasWord (st : Store) (k i : ℕ) : Type 0 where
-  pub size : ℕ
-  pub has : HasSize st k size
-  pub inside : i + 4 ≤ size
-
 -- The one chunk that a slice owns.
 abbrev pub Owns : ℕ → ℕ → Type 0
 Owns slice k = k ≡ slice

@@ -6,20 +6,18 @@
 //!
 //! let mut store = ListStore::new(rt.alloc(), 1, None)?;
 //! let sliced = Sliced::new();
-//! let slice = sliced.alloc(&mut store, 4064)?;
+//! let slice = sliced.alloc(&mut store, account, 4064)?;
 //! sliced.store(&mut store, slice, 4063, 7);
 //! assert_eq!(rt; sliced.load(&store, slice, 4063), 7);
-//! sliced.free(&mut store, slice);
+//! sliced.free(&mut store, account, slice);
 //! ```
 #![tactic(auto)]
 
-ghost use Rattle.std.specs.Prelude.{◌≡◌, ◌+◌, ◌-◌, ◌*◌, ◌^◌, ◌<◌, ◌≤◌, ◌↔◌, [], ◌∷◌, Some, IfOk, OnErr, IsErrOf};
+ghost use Rattle.std.specs.Prelude.{◌≡◌, ℕ, ◌+◌, ◌-◌, ◌*◌, ◌^◌, ◌<◌, ◌≤◌, ◌↔◌, [], ◌∷◌, Some, IfOk, OnErr, IsErrOf};
 ghost use Rattle.gq_tariff.specs.Prices.{up, price_bytes};
-ghost use Rattle.gq_model.specs.machine.Program.{spelled};
-ghost use Rattle.gq_store.specs.Store.{word};
-ghost use Rattle.gq_sliced.specs.Slices.{slice_byte, IsInUse, HasSize, HasByte, HasWord, Makes, Frees, PutsInSlice};
+ghost use Rattle.gq_sliced.specs.Slices.{slice_byte, IsInUse, HasSize, HasByte, Makes, Frees, PutsInSlice};
 
-use gq_store::{ByteStore, ChunkNo, GrowFault};
+use gq_store::{AccountNo, ByteStore, ChunkNo, Extent, GrowFault};
 use gq_tariff::price::{PAGE, SLICE_HEADER};
 use gq_tariff::{Held, price_slice};
 use std::marker::Model;
@@ -64,6 +62,18 @@ impl SliceNo {
     {
         ChunkNo::new(self.number())
     }
+
+    /// Where its first `length` bytes lie, behind the bookkeeping.
+    #[inline(always)]
+    pub fn extent(self, length: u64) -> Extent
+        ensures { result ≡ record { chunk = self; start = 32; length = length } }
+    {
+        Extent {
+            chunk: self.chunk(),
+            start: HEADER,
+            length,
+        }
+    }
 }
 
 /// A sliced heap. It keeps no table and allocates no host memory; each call is given the store.
@@ -76,71 +86,62 @@ impl Sliced {
         Sliced
     }
 
-    /// A slice of `size` bytes, which read 0. It takes whole pages for its bytes and 32 bytes of bookkeeping, and one capability.
+    /// A slice of `size` bytes, which read 0. The account pays whole pages for its bytes and 32 bytes of
+    /// bookkeeping, and one capability.
     ///
     /// Refused as `Exceeded` where the bytes can't be paid, else as `CapsExceeded` where there is no capability left; then nothing has changed.
-    pub fn alloc<S: ByteStore>(&self, store: &mut S, size: u32) -> Result<SliceNo, GrowFault>
+    pub fn alloc<S: ByteStore>(
+        &self,
+        store: &mut S,
+        account: AccountNo,
+        size: u32,
+    ) -> Result<SliceNo, GrowFault>
         requires { size ≤ 67108864 }
-        ensures ok { IfOk result (λ slice. Makes (S.state store.old) (S.state store.new) size slice) }
-        ensures exceeded { IsErrOf result GrowFault.Exceeded ↔ ((S.state store.old).left < up (size + 32)) }
-        ensures caps { IsErrOf result GrowFault.CapsExceeded ↔ ((up (size + 32) ≤ (S.state store.old).left) × ((S.state store.old).caps ≡ Some 0)) }
+        ensures ok { IfOk result (λ slice. Makes (S.state store.old account.0) (S.state store.new account.0) size slice) }
+        ensures exceeded { IsErrOf result GrowFault.Exceeded ↔ ((S.state store.old account.0).left < up (size + 32)) }
+        ensures caps { IsErrOf result GrowFault.CapsExceeded ↔ ((up (size + 32) ≤ (S.state store.old account.0).left) × ((S.state store.old account.0).caps ≡
+            Some 0)) }
         ensures err { OnErr result (store.new ≡ store.old) }
-        ensures rest { S.same_rest store.old store.new }
+        ensures rest { S.same_rest account.0 store.old store.new }
     {
-        let chunk = store.grow(pages_of(size))?;
+        let chunk = store.grow(account, pages_of(size))?;
         store.store4(chunk, 0, size);
         Ok(SliceNo::new(chunk.number()))
     }
 
     /// Gives a slice back to the store, whole.
-    pub fn free<S: ByteStore>(&self, store: &mut S, slice: SliceNo)
-        requires { IsInUse (S.state store.old) slice }
-        ensures frees { Frees (S.state store.old) (S.state store.new) slice }
-        ensures rest { S.same_rest store.old store.new }
+    pub fn free<S: ByteStore>(&self, store: &mut S, account: AccountNo, slice: SliceNo)
+        requires { IsInUse (S.state store.old account.0) slice }
+        ensures frees { Frees (S.state store.old account.0) (S.state store.new account.0) slice }
+        ensures rest { S.same_rest account.0 store.old store.new }
     {
-        store.shrink(slice.chunk());
+        store.shrink(account, slice.chunk());
     }
 
     /// The size of a slice, in bytes, as it was made.
     pub fn size<S: ByteStore>(&self, store: &S, slice: SliceNo) -> u32
-        requires { IsInUse (S.state store.now) slice }
-        ensures { HasSize (S.state store.now) slice result }
+        requires { (a : ℕ) × IsInUse (S.state store.now a) slice }
+        ensures { (a : ℕ) → IsInUse (S.state store.now a) slice → HasSize (S.state store.now a) slice result }
     {
         store.load4(slice.chunk(), 0)
     }
 
     /// The byte of a slice at an index.
     pub fn load<S: ByteStore>(&self, store: &S, slice: SliceNo, index: u32) -> u8
-        requires { HasByte (S.state store.now) slice index }
-        ensures { result ≡ slice_byte (S.state store.now) slice index }
+        requires { (a : ℕ) × HasByte (S.state store.now a) slice index }
+        ensures { (a : ℕ) → HasByte (S.state store.now a) slice index → result ≡ slice_byte (S.state store.now a) slice index }
     {
         store.load(slice.chunk(), HEADER + index)
     }
 
     /// Sets the byte of a slice at an index.
     pub fn store<S: ByteStore>(&self, store: &mut S, slice: SliceNo, index: u32, value: u8)
-        requires { HasByte (S.state store.old) slice index }
-        ensures puts { PutsInSlice (S.state store.old) (S.state store.new) slice index (value ∷ []) }
-        ensures rest { S.same_rest store.old store.new }
+        requires { (a : ℕ) × HasByte (S.state store.old a) slice index }
+        ensures puts { (a : ℕ) → HasByte (S.state store.old a) slice index
+            → PutsInSlice (S.state store.old a) (S.state store.new a) slice index (value ∷ []) }
+        ensures rest { (a : ℕ) → HasByte (S.state store.old a) slice index → S.same_rest a store.old store.new }
     {
         store.store(slice.chunk(), HEADER + index, value);
-    }
-
-    /// The number in the four bytes of a slice from an index on, the lowest first.
-    pub fn load4<S: ByteStore>(&self, store: &S, slice: SliceNo, index: u32) -> u32
-        requires { HasWord (S.state store.now) slice index }
-        ensures { result ≡ word (slice_byte (S.state store.now) slice) index }
-    {
-        store.load4(slice.chunk(), HEADER + index)
-    }
-
-    /// Writes a number to the four bytes of a slice from an index on, the lowest first.
-    pub fn store4<S: ByteStore>(&self, store: &mut S, slice: SliceNo, index: u32, value: u32)
-        requires { HasWord (S.state store.old) slice index }
-        ensures puts { PutsInSlice (S.state store.old) (S.state store.new) slice index (spelled 4 value) }
-        ensures rest { S.same_rest store.old store.new }
-    {
-        store.store4(slice.chunk(), HEADER + index, value);
     }
 
     /// What a slice of `n` bytes costs more than its bytes, in bytes.

@@ -10,7 +10,7 @@ use Rattle.gq_model.specs.machine.Sums.{slot_places}
 use Rattle.gq_model.specs.machine.Step as step
 use Rattle.gq_store.specs.Store.{Store}
 use Rattle.gq_heap.specs.declared.heap.Heap.{Heap}
-use Rattle.gq_trade.specs.Stores.{store_at}
+use Rattle.gq_ram.specs.Account_stores.{store_at}
 use Rattle.gq_trade.specs.Numbers.{IsTaken}
 use Rattle.gq_trade.specs.declared.requests.Ask.{Ask}
 use Rattle.gq_trade.specs.declared.requests.Ask.TheVariants.{Open, Upgrade, Close, Call}
@@ -26,7 +26,7 @@ use Rattle.gq_trade.specs.declared.session.Session.{Session}
 use Rattle.gq_trade.specs.declared.session.SlotId.{SlotId}
 use Rattle.gq_trade.specs.declared.session.SlotId.TheVariants.{InLeaf, InSession, InObject}
 use Rattle.gq_trade.specs.Seen_sessions.{session_seen}
-use Rattle.gq_trade.specs.Trading.{Trading, AreOf, IsTrading, found, raised, session_at, session_in, Accepts, Begins, Opens, account_no, account_of}
+use Rattle.gq_trade.specs.Trading.{Trading, AreOf, IsTrading, found, raised, session_at, session_in, Accepts, Begins, Opens, account_of}
 use Rattle.gq_trade.specs.Trading.{object_size, opened, server_of, with_requests, with_session}
 use Rattle.gq_trade.specs.Waiting.{AreApart, AreOther, clients_in}
 use Rattle.gq_slots.specs.Slots.{Slots, Frame, IsSlotId, holder, memory_of, world_seen}
@@ -283,16 +283,15 @@ module _ (s : Slots) (v : Trading) (k : ℕ) (rest : List Request) (i : IsSlots 
   abbrev h : Heap
   h = heap_here.heap
 
-  call_here : IsCall fewer v.memory (InObject k) h h Empty o.object
+  call_here : IsCall fewer v.ledger (InObject k) h h Empty o.object
   call_here = record {
     slot_id = there;
     content = empty;
     heap = heap_here.is;
-    others = others_stay fewer v.memory (InObject k) fewer_slots fewer_trading below (λ b ne. o.makes.others.stores b ne);
+    others = others_stay fewer v.ledger (InObject k) fewer_slots fewer_trading below (λ b ne. o.makes.others.stores b ne);
     quotas = record {
-      payer = o.makes.payer;
       price = o.makes.others.whole.0;
-      quota = (same_quotas s.trades.trading.memory.ledger v.memory.ledger (account_no s.trades.trading x) s.trades.trading.memory.payer o.makes.others).quota;
+      quota = (same_quotas s.trades.trading.ledger v.ledger (account_of s.trades.trading x) o.makes.others).quota;
     };
     changes = o.makes.changes h;
     pays = o.makes.pays h;
@@ -300,24 +299,24 @@ module _ (s : Slots) (v : Trading) (k : ℕ) (rest : List Request) (i : IsSlots 
 
   -- with the object
   abbrev made : Slots
-  made = put (with_store fewer v.memory x h) (InObject k) o.object
+  made = put (with_store fewer v.ledger x h) (InObject k) o.object
 
-  no_places : (c : ℕ) → slot_places c (seen (store_at v.memory.ledger (account_of s.trades.trading x)) o.object) ≡ 0
+  no_places : (c : ℕ) → slot_places c (seen (store_at v.ledger (account_of s.trades.trading x)) o.object) ≡ 0
   no_places c = ap (slot_places c) o.makes.seen
 
   made_slots : IsSlots made
   made_slots =
-      kept_then fewer v.memory (InObject k) h h Empty o.object fewer_slots fewer_trading below call_here (record {
+      kept_then fewer v.ledger (InObject k) h h Empty o.object fewer_slots fewer_trading below call_here (record {
         objects = objects_set k s.trades.trading.sessions (with_object (session_at s.trades.trading k) o.object) i.sound.objects
-            (slice_object (store_at v.memory.ledger (account_of s.trades.trading x)) o.object m (replicate m 0) o.makes.seen);
+            (slice_object (store_at v.ledger (account_of s.trades.trading x)) o.object m (replicate m 0) o.makes.seen);
         unmade = unmade_other s.trades.trading.sessions k (with_object (session_at s.trades.trading k) o.object) rest alone u;
-      }) (stays_raised fewer v.memory (InObject k) h h Empty o.object fewer_slots fewer_trading below call_here (λ c. omega (arith, no_places c)))
+      }) (stays_raised fewer v.ledger (InObject k) h h Empty o.object fewer_slots fewer_trading below call_here (λ c. omega (arith, no_places c)))
       (λ e. e)
 
   made_puts : PutsSlot fewer made (InObject k) (world.Bytes form.Slice m (replicate m 0))
   made_puts =
       subst (PutsSlot fewer made (InObject k)) o.makes.seen
-      (puts_then fewer v.memory (InObject k) h h Empty o.object fewer_slots fewer_trading below call_here refl)
+      (puts_then fewer v.ledger (InObject k) h h Empty o.object fewer_slots fewer_trading below call_here refl)
 
   made_there : IsTaken made.trades.trading.sessions k
   made_there = made_puts.rest.slot_ids (InObject k) there

@@ -4,52 +4,59 @@ use Rattle.gq_model.specs.machine.Scenario.{System}
 use Rattle.gq_model.specs.machine.Memory.{behind, bytes_slot_id}
 use Rattle.gq_model.specs.machine.World as world
 use Rattle.gq_store.specs.Store.{Store}
-use Rattle.gq_trade.specs.Numbers.{IsTaken}
 use Rattle.gq_contents.specs.declared.content.Content.{Content}
 use Rattle.gq_contents.specs.declared.content.Content.TheVariants.{Empty, Block, Slice, Space, Pool, Link, Waiting}
 use Rattle.gq_contents.specs.Contents.{seen}
 use Rattle.gq_trade.specs.declared.session.SlotId.{SlotId}
 use Rattle.gq_trade.specs.declared.session.SlotId.TheVariants.{InSession}
-use Rattle.gq_trade.specs.Seen_sessions.{session_seen, slot_id_seen}
-use Rattle.gq_trade.specs.Trading.{IsTrading, session_at}
-use Rattle.gq_trade.proofs.Sessions_kept.{between_at}
+use Rattle.gq_trade.specs.Seen_sessions.{seen_in, session_seen, slot_id_seen}
+use Rattle.gq_trade.specs.Trading.{IsTrading}
+use Rattle.gq_trade.specs.declared.session.Session.{Session}
+use Rattle.gq_trade.proofs.Sessions_kept.{between_some}
 use Rattle.gq_slots.specs.Slots.{Frame, Slots, memory_of, content_at, world_seen}
-use Rattle.gq_slots.proofs.Slot_change_worlds.{session_there}
-use Rattle.gq_slots.specs.Slot_addresses.{AreBuffers, IsLinked, buffer_slot_id, place_in, place_seen}
+use Rattle.gq_slots.proofs.Slot_change_worlds.{session_seen_at}
+use Rattle.gq_slots.specs.Slot_addresses.{AreBuffers, behind_link, buffer_slot_id, place_in, place_seen}
 
 chosen : (b : Bool) (k : ℕ) → place_seen (cond b None (Some (InSession k 0))) ≡ cond b None (Some (world.In_session k 0))
 chosen true k = refl
 chosen false k = refl
 
 -- the buffer of a session is the world's
-buffer_there : (f : Frame) (system : System) (bs : List ℕ) (s : Slots) (k : ℕ) → IsTrading s.trades.trading → IsTaken s.trades.trading.sessions k
-    → AreBuffers system f s bs
+buffer_there : (f : Frame) (system : System) (bs : List ℕ) (s : Slots) (k : ℕ) → IsTrading s.trades.trading → AreBuffers system f s bs
     → place_seen (buffer_slot_id bs s k) ≡ behind system (world.session_at (world_seen f s) k) k
-buffer_there f system bs s k w t a =
-    let ss = s.trades.trading.sessions in
-    let q = session_at s.trades.trading k in
-    let b = between_at (length s.trades.trading.leaves) (length s.trades.trading.objects) ss k w.between t in
-    chosen (eqb (get_or bs q.service 0) 0) k ∙ ap (λ n. cond (eqb n 0) None (Some (world.In_session k 0))) (a q.service b.service)
-    ∙ sym (ap (λ o. behind system (world.joined o) k) (session_there (λ z. session_seen f.names (memory_of s z.server) z) ss k t))
+buffer_there f system bs s k w a =
+    by (get_or ss k None) refl ∙ sym (ap (λ o. behind system o k) (session_seen_at of ss k))
+  where
+    ss : List (Option Session)
+    ss = s.trades.trading.sessions
+
+    of : Session → world.Session
+    of z = session_seen f.names (memory_of s z.server) z
+
+    by : (o : Option Session) → get_or ss k None ≡ o → place_seen (behind_link bs o k) ≡ behind system (seen_in of o) k
+    by None e = refl
+    by (Some q) e =
+        let b = between_some (length s.trades.trading.leaves) (length s.trades.trading.objects) ss k q w.between e in
+        chosen (eqb (get_or bs q.service 0) 0) k ∙ ap (λ n. cond (eqb n 0) None (Some (world.In_session k 0))) (a q.service b.service)
 
 -- the place of a slot's bytes is the world's
 pub place_there : (f : Frame) (system : System) (bs : List ℕ) (s : Slots) (st : Store) (t : Content) (p : SlotId) → IsTrading s.trades.trading
-    → ((k : ℕ) → t ≡ Link k → IsTaken s.trades.trading.sessions k) → AreBuffers system f s bs
+    → AreBuffers system f s bs
     → place_seen (place_in bs s t p) ≡ bytes_slot_id system (world_seen f s) (Some (seen st t)) (slot_id_seen p)
-place_there f system bs s st Empty p w l a = refl
-place_there f system bs s st (Block q n) p w l a = refl
-place_there f system bs s st (Slice k n) p w l a = refl
-place_there f system bs s st (Space k n) p w l a = refl
-place_there f system bs s st (Pool q) p w l a = refl
-place_there f system bs s st (Link k) p w l a = buffer_there f system bs s k w (l k refl) a
-place_there f system bs s st (Waiting k) p w l a = refl
+place_there f system bs s st Empty p w a = refl
+place_there f system bs s st (Block q n) p w a = refl
+place_there f system bs s st (Slice k n) p w a = refl
+place_there f system bs s st (Space k n) p w a = refl
+place_there f system bs s st (Pool q) p w a = refl
+place_there f system bs s st (Link k) p w a = buffer_there f system bs s k w a
+place_there f system bs s st (Waiting k) p w a = refl
 
 -- read as the machine's world has it
 pub place_read : (f : Frame) (system : System) (bs : List ℕ) (s : Slots) (st : Store) (t : Content) (p : SlotId) (o : Option SlotId) → IsTrading
     s.trades.trading
-    → o ≡ place_in bs s t p → t ≡ content_at s p → world.slot_at (world_seen f s) (slot_id_seen p) ≡ Some (seen st t) → IsLinked s p
+    → o ≡ place_in bs s t p → t ≡ content_at s p → world.slot_at (world_seen f s) (slot_id_seen p) ≡ Some (seen st t)
     → AreBuffers system f s bs
     → place_seen o ≡ bytes_slot_id system (world_seen f s) (world.slot_at (world_seen f s) (slot_id_seen p)) (slot_id_seen p)
-place_read f system bs s st t p o w is e r l a =
-    ap place_seen is ∙ place_there f system bs s st t p w (λ k g. l k (sym e ∙ g)) a
+place_read f system bs s st t p o w is e r a =
+    ap place_seen is ∙ place_there f system bs s st t p w a
     ∙ sym (ap (λ y. bytes_slot_id system (world_seen f s) y (slot_id_seen p)) r)

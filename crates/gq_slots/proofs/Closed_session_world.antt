@@ -13,9 +13,8 @@ use Rattle.gq_heap.specs.declared.heap.Heap.{Heap}
 use Rattle.gq_heap.proofs.Heap_cell_lists.{up_pos}
 use Rattle.gq_ram.specs.declared.account.Account.{Account}
 use Rattle.gq_ram.specs.Account_table.{IsOpen, account_at, its_account as the_account}
-use Rattle.gq_ram.specs.Ledgers.{IsBalanced}
+use Rattle.gq_ram.specs.Ledgers.{Ledger, IsBalanced}
 use Rattle.gq_ram.proofs.Quota_move_sequences.{used_kept}
-use Rattle.gq_trade.specs.Stores.{Memory}
 use Rattle.gq_trade.specs.Numbers.{IsTaken}
 use Rattle.gq_trade.specs.declared.requests.Request.{Request}
 use Rattle.gq_contents.specs.declared.content.Content.{Content}
@@ -27,8 +26,8 @@ use Rattle.gq_trade.specs.declared.session.Session.{Session}
 use Rattle.gq_trade.specs.declared.session.SlotId.{SlotId}
 use Rattle.gq_trade.specs.declared.session.SlotId.TheVariants.{InLeaf, InSession, InObject}
 use Rattle.gq_trade.specs.Seen_sessions.{seen_in, session_seen, sessions_seen}
-use Rattle.gq_trade.specs.Trading.{AreOfOthers, Closes, Frees, IsTrading, Trading, account_no, account_of, found, given, server_of, session_at}
-use Rattle.gq_trade.specs.Trading.{session_in, store_of, with_memory, with_session, with_sessions}
+use Rattle.gq_trade.specs.Trading.{AreOfOthers, Closes, Frees, IsTrading, Trading, account_of, found, given, server_of, session_at}
+use Rattle.gq_trade.specs.Trading.{session_in, store_of, with_ledger, with_session, with_sessions}
 use Rattle.gq_trade.proofs.Session_table_definition.{given_is}
 use Rattle.gq_trade.proofs.Sessions_kept.{between_at}
 use Rattle.gq_trade.specs.Trades.{IsTrades, Trades}
@@ -137,42 +136,42 @@ caps_within p false used quota now then_ e c ne =
     let f : then_ - now ≡ quota - used + 1 = some_is (then_ - now) (quota - used + 1) c in
     omega (arith, f)
 
-module _ (w : Trading) (m : Memory) (x : ℕ) (t : Content) (b : IsBalanced w.memory.ledger) (f : Frees w (with_memory w m) x t) where
+module _ (w : Trading) (m : Ledger) (x : ℕ) (t : Content) (b : IsBalanced w.ledger) (f : Frees w (with_ledger w m) x t) where
   abbrev no : ℕ
   no = account_of w x
 
   -- its own
-  its_own : IsWithin m.ledger no
+  its_own : IsWithin m no
   its_own =
       let q = ap (λ (y : Amount). y.ram) f.others.quota in
       record {
-        ram = bytes_within (account_at w.memory.ledger.accounts no).used.ram (account_at w.memory.ledger.accounts no).quota.ram
-            (account_at m.ledger.accounts no).used.ram (account_at m.ledger.accounts no).quota.ram (up (size_of t + 32)) (b.within no) q f.back
+        ram = bytes_within (account_at w.ledger.accounts no).used.ram (account_at w.ledger.accounts no).quota.ram
+            (account_at m.accounts no).used.ram (account_at m.accounts no).quota.ram (up (size_of t + 32)) (b.within no) q f.back
             (up_pos (size_of t + 32) (omega arith));
         caps = λ ne.
             let p = f.others.whole.0 in
-            let c : cond (eqb m.ledger.price 0) None (Some ((account_at m.ledger.accounts no).quota.caps - (account_at m.ledger.accounts no).used.caps))
-            ≡ one_more (cond (eqb m.ledger.price 0) None (Some ((account_at w.memory.ledger.accounts no).quota.caps
-            - (account_at w.memory.ledger.accounts no).used.caps))) =
-            f.caps ∙ (λ z. one_more (cond (eqb (sym p z) 0) None (Some ((account_at w.memory.ledger.accounts no).quota.caps
-            - (account_at w.memory.ledger.accounts no).used.caps)))) in
-            caps_within m.ledger.price (eqb m.ledger.price 0) (account_at w.memory.ledger.accounts no).used.caps
-            (account_at w.memory.ledger.accounts no).quota.caps (account_at m.ledger.accounts no).used.caps (account_at m.ledger.accounts no).quota.caps refl
+            let c : cond (eqb m.price 0) None (Some ((account_at m.accounts no).quota.caps - (account_at m.accounts no).used.caps))
+            ≡ one_more (cond (eqb m.price 0) None (Some ((account_at w.ledger.accounts no).quota.caps
+            - (account_at w.ledger.accounts no).used.caps))) =
+            f.caps ∙ (λ z. one_more (cond (eqb (sym p z) 0) None (Some ((account_at w.ledger.accounts no).quota.caps
+            - (account_at w.ledger.accounts no).used.caps)))) in
+            caps_within m.price (eqb m.price 0) (account_at w.ledger.accounts no).used.caps
+            (account_at w.ledger.accounts no).quota.caps (account_at m.accounts no).used.caps (account_at m.accounts no).quota.caps refl
             c ne;
       }
 
   -- all others'
-  others_own : (a : ℕ) → (a ≡ no → ⊥) → IsWithin m.ledger a
+  others_own : (a : ℕ) → (a ≡ no → ⊥) → IsWithin m a
   others_own a ne =
-      let e : account_at m.ledger.accounts a ≡ account_at w.memory.ledger.accounts a = ap the_account (f.others.accounts a ne) in
+      let e : account_at m.accounts a ≡ account_at w.ledger.accounts a = ap the_account (f.others.accounts a ne) in
       record {
         ram = subst (λ (y : Account). y.used.ram ≤ y.quota.ram) (sym e) (b.within a);
         caps = λ z. subst (λ (y : Account). y.used.caps ≤ y.quota.caps) (sym e) (b.caps_within a);
       }
 
-  freed_within : (a : ℕ) → IsWithin m.ledger a
+  freed_within : (a : ℕ) → IsWithin m a
   freed_within a = elim (cases_eq a no) [
-    | inl e ↦ subst (IsWithin m.ledger) (sym e) its_own
+    | inl e ↦ subst (IsWithin m) (sym e) its_own
     | inr ne ↦ others_own a ne
   ]
 
@@ -237,7 +236,7 @@ module _ (s : Slots) (v : Trading) (k : ℕ) (i : IsSlots s) (w : IsTrading s.tr
   abbrev x : ℕ
   x = q.server
 
-  abbrev m : Memory
+  abbrev m : Ledger
   m = c.between
 
   below : x < length s.own
@@ -256,16 +255,15 @@ module _ (s : Slots) (v : Trading) (k : ℕ) (i : IsSlots s) (w : IsTrading s.tr
     heap = heap_here.is;
     others = others_stay s m (InObject k) i w below (λ b ne. c.frees.others.stores b ne);
     quotas = record {
-      payer = c.frees.payer;
       price = c.frees.others.whole.0;
-      quota = (same_quotas s.trades.trading.memory.ledger m.ledger (account_no s.trades.trading x) s.trades.trading.memory.payer c.frees.others).quota;
+      quota = (same_quotas s.trades.trading.ledger m (account_of s.trades.trading x) c.frees.others).quota;
     };
     changes = c.frees.changes h;
     pays = c.frees.pays h;
   }
 
   abbrev freed : Slots
-  freed = with_trades s (with_session (with_memory s.trades.trading m) k (with_object q Empty))
+  freed = with_trades s (with_session (with_ledger s.trades.trading m) k (with_object q Empty))
 
   freed_is : put (with_store s m x h) (InObject k) Empty ≡ freed
   freed_is = λ z. record freed { heaps = same_heap s x h heap_here.is z }
@@ -284,7 +282,7 @@ module _ (s : Slots) (v : Trading) (k : ℕ) (i : IsSlots s) (w : IsTrading s.tr
   -- and the session is gone
   abbrev ended : Slots
   ended =
-      with_trades s (with_sessions (given (with_memory s.trades.trading m) x q.client q.donation) (set s.trades.trading.sessions k None))
+      with_trades s (with_sessions (given (with_ledger s.trades.trading m) x q.client q.donation) (set s.trades.trading.sessions k None))
 
   contents_alike : (y : ℕ) → Alike (contents freed y) (contents ended y)
   contents_alike y =
@@ -292,8 +290,8 @@ module _ (s : Slots) (v : Trading) (k : ℕ) (i : IsSlots s) (w : IsTrading s.tr
       alike_behind (get_or s.own y []) (session_contents y (set ss k (Some (with_object q Empty)))) (session_contents y (set ss k None))
       (gone y k ss (with_object q Empty) (taken_below ss k there) refl (all_empty 8 q.slots (i.long.slots k there) empty))
 
-  module _ (b : IsBalanced s.trades.trading.memory.ledger) (d : IsBalanced ended.trades.trading.memory.ledger)
-      (co : IsOpen m.ledger.accounts (account_of s.trades.trading q.client)) (vo : IsOpen m.ledger.accounts (account_of s.trades.trading x)) where
+  module _ (b : IsBalanced s.trades.trading.ledger) (d : IsBalanced ended.trades.trading.ledger)
+      (co : IsOpen m.accounts (account_of s.trades.trading q.client)) (vo : IsOpen m.accounts (account_of s.trades.trading x)) where
     ended_slots : IsSlots ended
     ended_slots =
         let t = s.trades.trading in
@@ -306,8 +304,8 @@ module _ (s : Slots) (v : Trading) (k : ℕ) (i : IsSlots s) (w : IsTrading s.tr
             unmade = left_unmade t.sessions k t.requests none i.sound.unmade;
           };
           holders = λ y g lt. holder_alike freed ended y (get_or s.heaps y g) (λ z. record { size = refl; bytes = λ o. refl }) (contents_alike y)
-              (used_kept m.ledger.accounts (account_of t x) (account_of t q.client) q.donation (account_of t y) vo co) refl
-              (freed_within t m x q.object b c.frees (account_of t y)) (within ended.trades.trading.memory.ledger (account_of t y) d)
+              (used_kept m.accounts (account_of t x) (account_of t q.client) q.donation (account_of t y) vo co) refl
+              (freed_within t m x q.object b c.frees (account_of t y)) (within ended.trades.trading.ledger (account_of t y) d)
               (freed_slots.holders y g lt);
         }
 
@@ -318,7 +316,7 @@ module _ (s : Slots) (v : Trading) (k : ℕ) (i : IsSlots s) (w : IsTrading s.tr
       let old : Session → world.Session = λ y. session_seen f.names (memory_of s y.server) y in
       let new : Session → world.Session = λ y. session_seen f.names (memory_of ended y.server) y in
       let was = world_seen f s in
-      let leaves = leaves_donated f freed ended.trades.trading.memory.ledger.accounts in
+      let leaves = leaves_donated f freed ended.trades.trading.ledger.accounts in
       let sessions : sessions_seen f.names ended.trades.trading ≡ set (sessions_seen f.names freed.trades.trading) k None =
       ap (map (seen_in new)) (sym (set_again ss k (Some e) None)) ∙ map_unset new (set ss k (Some e)) k
       ∙ ap (λ ys. set ys k None) (given_is f.names freed.trades.trading x q.client q.donation) in
@@ -345,7 +343,7 @@ same_slots s v t e n = λ z. of_parts (record { trading = e z; nodes = n z }) s.
 
 pub closed_kept : {A E : Type 0} (res : Result A E) (s : Slots) (v : Trades) (k : ℕ) → IsSlots s → IsTrading s.trades.trading → IsTrades s.trades
     → IsTaken s.trades.trading.sessions k → ((j : ℕ) → j < 8 → content_at s (InSession k j) ≡ Empty) → AreOfOthers k s.trades.trading.requests
-    → IsBalanced s.trades.trading.memory.ledger → IsBalanced v.trading.memory.ledger → v.nodes ≡ s.trades.nodes
+    → IsBalanced s.trades.trading.ledger → IsBalanced v.trading.ledger → v.nodes ≡ s.trades.nodes
     → OnOk res (Closes s.trades.trading v.trading k) → OnErr res (v ≡ s.trades) → IsSlots (of_parts v s.own s.heaps)
 closed_kept (Ok a) s v k i w t there empty none b d n c err =
     let l = s.trades.trading in
@@ -356,7 +354,7 @@ closed_kept (Ok a) s v k i w t there empty none b d n c err =
     let vo = live_open s.trades q.server t w (record { there = between.server; live = live.server }) in
     let e = ended s v.trading k i w there empty none c in
     subst IsSlots (sym (same_slots s v e.trades.trading c.is n))
-    (ended_slots s v.trading k i w there empty none c b (subst (λ (y : Trading). IsBalanced y.memory.ledger) c.is d)
+    (ended_slots s v.trading k i w there empty none c b (subst (λ (y : Trading). IsBalanced y.ledger) c.is d)
     (c.frees.others.still_open (account_of l q.client) co) (c.frees.others.still_open (account_of l q.server) vo))
 closed_kept (Err e) s v k i w t there empty none b d n c err = subst (λ y. IsSlots (of_parts y s.own s.heaps)) (sym err) i
 

@@ -10,12 +10,11 @@ use Rattle.gq_model.specs.machine.Sums.{slot_places, raised}
 use Rattle.gq_model.specs.machine.World as world
 use Rattle.gq_store.specs.Store.{Store, plus_caps}
 use Rattle.gq_ram.specs.Account_table.{account_at, its_account as the_account}
-use Rattle.gq_ram.specs.declared.account.AccountNo.{AccountNo}
 use Rattle.gq_ram.specs.Ledgers.{Ledger}
 use Rattle.gq_heap.specs.declared.heap.Heap.{Heap}
 use Rattle.gq_heap.specs.Heap.{peaks}
-use Rattle.gq_trade.specs.Stores.{Memory, store_at}
-use Rattle.gq_trade.specs.Rest.{SameRest}
+use Rattle.gq_ram.specs.Account_stores.{store_at}
+use Rattle.gq_ram.specs.Account_stores.{SameRest}
 use Rattle.gq_contents.specs.declared.content.Content.{Content}
 use Rattle.gq_contents.specs.Contents.{seen}
 use Rattle.gq_contents.specs.Contents_invariant.{KeepsContents, KeepsBeside, Changes}
@@ -40,11 +39,10 @@ caps_change a b c d None (Some n) e f = cc
 caps_change a b c d (Some m) None e f = cc
 caps_change a b c d (Some m) (Some n) e f = let g : m + c ≡ n + d = cc in ap Some (omega (arith, e, g))
 
--- the same account pays, and all quotas are as before
-pub record SameQuotas (m n : Memory) : Type 0 where
-  pub payer : n.payer ≡ m.payer
-  pub price : n.ledger.price ≡ m.ledger.price
-  pub quota : (a : ℕ) → (account_at n.ledger.accounts a).quota ≡ (account_at m.ledger.accounts a).quota
+-- all quotas are as before
+pub record SameQuotas (m n : Ledger) : Type 0 where
+  pub price : n.price ≡ m.price
+  pub quota : (a : ℕ) → (account_at n.accounts a).quota ≡ (account_at m.accounts a).quota
 
 same_quota : (l k : Ledger) (a b : ℕ) (c : Bool) → eqb b a ≡ c → ((d : ℕ) → (d ≡ a → ⊥) → get_or k.accounts d None ≡ get_or l.accounts d None)
     → (account_at k.accounts a).quota ≡ (account_at l.accounts a).quota → (account_at k.accounts b).quota ≡ (account_at l.accounts b).quota
@@ -56,25 +54,24 @@ same_quota l k a b false e others its =
     ap (λ d. (the_account d).quota) (others b f)
 
 -- where one account alone changed
-pub same_quotas : (l k : Ledger) (a p : AccountNo) → SameRest (record { ledger = l; payer = a }) (record { ledger = k; payer = a })
-    → SameQuotas (record { ledger = l; payer = p }) (record { ledger = k; payer = p })
-same_quotas l k a p r = record { payer = refl; price = r.whole.0; quota = λ b. same_quota l k a.0 b (eqb b a.0) refl r.accounts r.quota }
+pub same_quotas : (l k : Ledger) (a : ℕ) → SameRest a l k → SameQuotas l k
+same_quotas l k a r = record { price = r.whole.0; quota = λ b. same_quota l k a b (eqb b a) refl r.accounts r.quota }
 
 -- what one call leaves: a content u in the place of t, in the memory that the leaf of the slot pays for
-pub record IsCall (s : Slots) (m : Memory) (p : SlotId) (before after : Heap) (t u : Content) : Type 0 where
+pub record IsCall (s : Slots) (m : Ledger) (p : SlotId) (before after : Heap) (t u : Content) : Type 0 where
   pub slot_id : IsSlotId s p
   pub content : content_at s p ≡ t
   pub heap : IsHeapOf s (holder s p) before
   -- all other leaves have what they had
-  pub others : (y : ℕ) → y < length s.own → (y ≡ holder s p → ⊥) → store_at m.ledger (account_of s.trades.trading y) ≡ memory_of s y
-  pub quotas : SameQuotas s.trades.trading.memory m
-  pub changes : Changes before after (memory_of s (holder s p)) (store_at m.ledger (account_of s.trades.trading (holder s p))) t u
-  pub pays : Pays before after (memory_of s (holder s p)) (store_at m.ledger (account_of s.trades.trading (holder s p))) t u
+  pub others : (y : ℕ) → y < length s.own → (y ≡ holder s p → ⊥) → store_at m (account_of s.trades.trading y) ≡ memory_of s y
+  pub quotas : SameQuotas s.trades.trading.ledger m
+  pub changes : Changes before after (memory_of s (holder s p)) (store_at m (account_of s.trades.trading (holder s p))) t u
+  pub pays : Pays before after (memory_of s (holder s p)) (store_at m (account_of s.trades.trading (holder s p))) t u
 
 -- where the account of the slot's leaf alone changed, all other leaves have what they had
-pub others_stay : (s : Slots) (m : Memory) (p : SlotId) → IsSlots s → IsTrading s.trades.trading → holder s p < length s.own
-    → ((b : ℕ) → (b ≡ account_of s.trades.trading (holder s p) → ⊥) → store_at m.ledger b ≡ store_at s.trades.trading.memory.ledger b)
-    → (y : ℕ) → y < length s.own → (y ≡ holder s p → ⊥) → store_at m.ledger (account_of s.trades.trading y) ≡ memory_of s y
+pub others_stay : (s : Slots) (m : Ledger) (p : SlotId) → IsSlots s → IsTrading s.trades.trading → holder s p < length s.own
+    → ((b : ℕ) → (b ≡ account_of s.trades.trading (holder s p) → ⊥) → store_at m b ≡ store_at s.trades.trading.ledger b)
+    → (y : ℕ) → y < length s.own → (y ≡ holder s p → ⊥) → store_at m (account_of s.trades.trading y) ≡ memory_of s y
 others_stay s m p i w there rest y lt ne =
     let x = holder s p in
     let yl : y < length s.trades.trading.leaves = omega (arith, lt, i.count) in
@@ -85,7 +82,7 @@ others_stay s m p i w there rest y lt ne =
 -- a leaf that keeps what it had
 pub holder_same : (s v : Slots) (x : ℕ) (h : Heap) → memory_of v x ≡ memory_of s x → contents v x ≡ contents s x
     → (its_account v.trades.trading x).quota ≡ (its_account s.trades.trading x).quota
-    → v.trades.trading.memory.ledger.price ≡ s.trades.trading.memory.ledger.price
+    → v.trades.trading.ledger.price ≡ s.trades.trading.ledger.price
     → IsHolder s x h → IsHolder v x h
 holder_same s v x h st ts q p i = record {
   keeps = subst (λ a. KeepsContents h a (contents v x)) (sym st) (subst (λ a. KeepsContents h (memory_of s x) a) (sym ts) i.keeps);
@@ -95,7 +92,7 @@ holder_same s v x h st ts q p i = record {
   caps = ap (λ a. plus_caps (cost Caps a (contents v x) + class_prices Caps (peaks h)) a.caps) st
       ∙ ap (λ a. plus_caps (cost Caps (memory_of s x) a + class_prices Caps (peaks h)) (memory_of s x).caps) ts
       ∙ i.caps ∙ ap (λ a. counted a (its_account s.trades.trading x).quota.caps) (sym p)
-      ∙ ap (λ a. counted v.trades.trading.memory.ledger.price a.caps) (sym q);
+      ∙ ap (λ a. counted v.trades.trading.ledger.price a.caps) (sym q);
   peaked = ap (λ a. raised_by (places_used a (contents v x)) classes (peaks h)) st ∙ ap (λ a. raised_by (places_used (memory_of s x) a) classes (peaks h)) ts
       ∙ i.peaked;
   eight = i.eight;
@@ -112,7 +109,7 @@ put_account s (InLeaf a i) u y = refl
 put_account s (InSession k i) u y = refl
 put_account s (InObject k) u y = refl
 
-put_price : (s : Slots) (p : SlotId) (u : Content) → (put s p u).trades.trading.memory.ledger.price ≡ s.trades.trading.memory.ledger.price
+put_price : (s : Slots) (p : SlotId) (u : Content) → (put s p u).trades.trading.ledger.price ≡ s.trades.trading.ledger.price
 put_price s (InLeaf a i) u = refl
 put_price s (InSession k i) u = refl
 put_price s (InObject k) u = refl
@@ -130,34 +127,34 @@ put_leaves s (InObject k) u = refl
 accounts_put : (s : Slots) (p : SlotId) (u : Content) (w : Trading) → SameAccounts w s.trades.trading → SameAccounts w (put s p u).trades.trading
 accounts_put s (InLeaf a i) u w e = e
 accounts_put s (InSession k i) u w e =
-    record { tree = e.tree; leaves = e.leaves; objects = e.objects; room = e.room; requests = e.requests; payer = e.payer; price = e.price; quota = e.quota }
+    record { tree = e.tree; leaves = e.leaves; objects = e.objects; room = e.room; requests = e.requests; price = e.price; quota = e.quota }
 accounts_put s (InObject k) u w e =
-    record { tree = e.tree; leaves = e.leaves; objects = e.objects; room = e.room; requests = e.requests; payer = e.payer; price = e.price; quota = e.quota }
+    record { tree = e.tree; leaves = e.leaves; objects = e.objects; room = e.room; requests = e.requests; price = e.price; quota = e.quota }
 
-pub long_with : (s : Slots) (m : Memory) (x : ℕ) (h : Heap) → AreLong s → AreLong (with_store s m x h)
+pub long_with : (s : Slots) (m : Ledger) (x : ℕ) (h : Heap) → AreLong s → AreLong (with_store s m x h)
 long_with s m x h l = record { own = l.own; slots = l.slots }
 
-pub slot_id_with : (s : Slots) (m : Memory) (x : ℕ) (h : Heap) (p : SlotId) → IsSlotId s p → IsSlotId (with_store s m x h) p
+pub slot_id_with : (s : Slots) (m : Ledger) (x : ℕ) (h : Heap) (p : SlotId) → IsSlotId s p → IsSlotId (with_store s m x h) p
 slot_id_with s m x h (InLeaf a i) l = l
 slot_id_with s m x h (InSession k i) l = l
 slot_id_with s m x h (InObject k) l = l
 
-holder_with : (s : Slots) (m : Memory) (x : ℕ) (h : Heap) (p : SlotId) → holder (with_store s m x h) p ≡ holder s p
+holder_with : (s : Slots) (m : Ledger) (x : ℕ) (h : Heap) (p : SlotId) → holder (with_store s m x h) p ≡ holder s p
 holder_with s m x h (InLeaf a i) = refl
 holder_with s m x h (InSession k i) = refl
 holder_with s m x h (InObject k) = refl
 
-prefix_with : (s : Slots) (m : Memory) (x : ℕ) (h : Heap) (p : SlotId) → prefix (with_store s m x h) p ≡ prefix s p
+prefix_with : (s : Slots) (m : Ledger) (x : ℕ) (h : Heap) (p : SlotId) → prefix (with_store s m x h) p ≡ prefix s p
 prefix_with s m x h (InLeaf a i) = refl
 prefix_with s m x h (InSession k i) = refl
 prefix_with s m x h (InObject k) = refl
 
-back_with : (s : Slots) (m : Memory) (x : ℕ) (h : Heap) (p : SlotId) → back (with_store s m x h) p ≡ back s p
+back_with : (s : Slots) (m : Ledger) (x : ℕ) (h : Heap) (p : SlotId) → back (with_store s m x h) p ≡ back s p
 back_with s m x h (InLeaf a i) = refl
 back_with s m x h (InSession k i) = refl
 back_with s m x h (InObject k) = refl
 
-module _ (s : Slots) (m : Memory) (p : SlotId) (before after : Heap) (t u : Content) (i : IsSlots s) (w : IsTrading s.trades.trading)
+module _ (s : Slots) (m : Ledger) (p : SlotId) (before after : Heap) (t u : Content) (i : IsSlots s) (w : IsTrading s.trades.trading)
     (there : holder s p < length s.own) (c : IsCall s m p before after t u) where
   abbrev x : ℕ
   x = holder s p
@@ -166,7 +163,7 @@ module _ (s : Slots) (m : Memory) (p : SlotId) (before after : Heap) (t u : Cont
   old = memory_of s x
 
   abbrev new : Store
-  new = store_at m.ledger (account_of s.trades.trading x)
+  new = store_at m (account_of s.trades.trading x)
 
   abbrev then_ : Slots
   then_ = put (with_store s m x after) p u
@@ -191,10 +188,10 @@ module _ (s : Slots) (m : Memory) (p : SlotId) (before after : Heap) (t u : Cont
   contents_old : contents s x ≡ prefix s p ++ t ∷ back s p
   contents_old = split_now s p c.slot_id i.long ∙ ap (λ a. prefix s p ++ a ∷ back s p) c.content
 
-  quota_same : (a : ℕ) → (account_at m.ledger.accounts a).quota ≡ (account_at s.trades.trading.memory.ledger.accounts a).quota
+  quota_same : (a : ℕ) → (account_at m.accounts a).quota ≡ (account_at s.trades.trading.ledger.accounts a).quota
   quota_same a = c.quotas.quota a
 
-  price_same : m.ledger.price ≡ s.trades.trading.memory.ledger.price
+  price_same : m.price ≡ s.trades.trading.ledger.price
   price_same = c.quotas.price
 
   memory_then : memory_of then_ x ≡ new
@@ -203,7 +200,7 @@ module _ (s : Slots) (m : Memory) (p : SlotId) (before after : Heap) (t u : Cont
   account_then : (its_account then_.trades.trading x).quota ≡ (its_account s.trades.trading x).quota
   account_then = ap (λ a. a.quota) (put_account (with_store s m x after) p u x) ∙ quota_same (account_of s.trades.trading x)
 
-  price_then : then_.trades.trading.memory.ledger.price ≡ s.trades.trading.memory.ledger.price
+  price_then : then_.trades.trading.ledger.price ≡ s.trades.trading.ledger.price
   price_then = put_price (with_store s m x after) p u ∙ price_same
 
   cost_then : (r : Resource) → cost r (memory_of then_ x) (contents then_ x) ≡ cost r new (prefix s p ++ u ∷ back s p)
@@ -218,7 +215,7 @@ module _ (s : Slots) (m : Memory) (p : SlotId) (before after : Heap) (t u : Cont
       omega (arith, e, c.pays.ram, now.ram, cost_then Ram, cost_old Ram, ap (λ a. a.left) memory_then, ap (λ q. q.ram) account_then)
 
   caps_then : plus_caps (held_by Caps then_ x after) (memory_of then_ x).caps
-      ≡ counted then_.trades.trading.memory.ledger.price (its_account then_.trades.trading x).quota.caps
+      ≡ counted then_.trades.trading.ledger.price (its_account then_.trades.trading x).quota.caps
   caps_then =
       let e = cost_change Caps old new (prefix s p) t u (back s p) beside.prefix_seen beside.back_seen in
       let d : held_by Caps then_ x after + cost_with Caps before old t ≡ held_by Caps s x before + cost_with Caps after new u =
@@ -226,7 +223,7 @@ module _ (s : Slots) (m : Memory) (p : SlotId) (before after : Heap) (t u : Cont
       caps_change (held_by Caps then_ x after) (held_by Caps s x before) (cost_with Caps after new u) (cost_with Caps before old t) (memory_of then_ x).caps
       old.caps d (ap (λ a. plus_caps (cost_with Caps after new u) a.caps) memory_then ∙ c.pays.caps)
       ∙ now.caps ∙ ap (λ a. counted a (its_account s.trades.trading x).quota.caps) (sym price_then)
-      ∙ ap (λ q. counted then_.trades.trading.memory.ledger.price q.caps) (sym account_then)
+      ∙ ap (λ q. counted then_.trades.trading.ledger.price q.caps) (sym account_then)
 
   count_then : length then_.own ≡ length s.own
   count_then = put_count (with_store s m x after) p u
@@ -289,7 +286,6 @@ module _ (s : Slots) (m : Memory) (p : SlotId) (before after : Heap) (t u : Cont
     objects = refl;
     room = refl;
     requests = refl;
-    payer = c.quotas.payer;
     price = price_same;
     quota = quota_same;
   })

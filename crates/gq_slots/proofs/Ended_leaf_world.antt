@@ -9,10 +9,10 @@ use Rattle.gq_heap.specs.declared.heap.Heap.{Heap}
 use Rattle.gq_heap.specs.Heap.{peaks}
 use Rattle.gq_ram.specs.declared.account.Account.{Account}
 use Rattle.gq_ram.specs.Account_table.{Entries, IsOpen, account_at, its_account as the_account, left_to, no_amount}
-use Rattle.gq_ram.specs.Ledgers.{IsBalanced}
+use Rattle.gq_ram.specs.Ledgers.{Ledger, IsBalanced}
 use Rattle.gq_ram.specs.Account_tree.{number, parent}
 use Rattle.gq_ram.proofs.Quota_move_sequences.{used_kept}
-use Rattle.gq_trade.specs.Stores.{Memory, content_for}
+use Rattle.gq_ram.specs.Account_stores.{content_for}
 use Rattle.gq_trade.specs.Rest.{IsClosed}
 use Rattle.gq_trade.specs.Numbers.{IsTaken}
 use Rattle.gq_contents.specs.declared.content.Content.{Content}
@@ -22,7 +22,7 @@ use Rattle.gq_trade.specs.declared.session.Session.{Session}
 use Rattle.gq_trade.specs.declared.session.SlotId.{SlotId}
 use Rattle.gq_trade.specs.declared.session.SlotId.TheVariants.{InLeaf, InSession, InObject}
 use Rattle.gq_trade.specs.Seen_sessions.{seen_in, session_seen}
-use Rattle.gq_trade.specs.Trading.{AreBetween, IsTrading, Leaves, Trading, account_no, account_of, init_no, node_of, root_no, session_in, with_memory}
+use Rattle.gq_trade.specs.Trading.{AreBetween, IsTrading, Leaves, Trading, account_no, account_of, init_no, node_of, session_in, with_ledger}
 use Rattle.gq_trade.proofs.Leaf_account_closing.{closed_kept, gone, heir_now, other_entry}
 use Rattle.gq_trade.specs.declared.trade_node.Stage.TheVariants.{Ended}
 use Rattle.gq_trade.specs.Balances.{node_at}
@@ -43,13 +43,13 @@ use Rattle.gq_slots.proofs.First_empty_slots.{holder_first}
 
 -- What is left of t once the leaf x has ended: each other leaf has the bytes that it had and uses what it used, and x uses nothing.
 record IsLeft (t u : Trading) (x : ℕ) : Type 0 where
-  is : u ≡ with_memory t u.memory
+  is : u ≡ with_ledger t u.ledger
   contents : (y : ℕ) → y < length t.leaves → (y ≡ x → ⊥) → (k : ℕ)
-      → content_for u.memory.ledger (account_of t y) k ≡ content_for t.memory.ledger (account_of t y) k
+      → content_for u.ledger (account_of t y) k ≡ content_for t.ledger (account_of t y) k
   used : (y : ℕ) → y < length t.leaves → (y ≡ x → ⊥)
-      → (account_at u.memory.ledger.accounts (account_of t y)).used ≡ (account_at t.memory.ledger.accounts (account_of t y)).used
-  unused : (account_at u.memory.ledger.accounts (account_of t x)).used ≡ no_amount
-  price : u.memory.ledger.price ≡ t.memory.ledger.price
+      → (account_at u.ledger.accounts (account_of t y)).used ≡ (account_at t.ledger.accounts (account_of t y)).used
+  unused : (account_at u.ledger.accounts (account_of t x)).used ≡ no_amount
+  price : u.ledger.price ≡ t.ledger.price
 
 -- the account a is closed, and its quota goes to the account r
 use_left : (es : Entries) (a r : ℕ) → IsOpen es a → IsOpen es r → (r ≡ a → ⊥) → (k : ℕ) → (k ≡ a → ⊥)
@@ -65,7 +65,7 @@ use_left es a r ao ro ne k na = elim (cases_eq k r) [
 apart : (t : Trading) → IsTrading t → (x y : ℕ) → x < length t.leaves → y < length t.leaves → (y ≡ x → ⊥) → account_of t y ≡ account_of t x → ⊥
 apart t w x y xl yl ne e = ne (w.apart y x yl xl (w.nodes.apart (node_of t y) (node_of t x) (w.leaves y yl) (w.leaves x xl) e))
 
-module _ (s : Trades) (h : IsTrades s) (w : IsTrading s.trading) (b : IsBalanced s.trading.memory.ledger) (x : ℕ) (live : IsLive s x)
+module _ (s : Trades) (h : IsTrades s) (w : IsTrading s.trading) (b : IsBalanced s.trading.ledger) (x : ℕ) (live : IsLive s x)
     (alone : HasNoSessions s.trading x) (u : Trading) (l : Leaves s.trading u x) where
   abbrev t : Trading
   t = s.trading
@@ -73,10 +73,10 @@ module _ (s : Trades) (h : IsTrades s) (w : IsTrading s.trading) (b : IsBalanced
   abbrev no : ℕ
   no = account_of t x
 
-  no_open : IsOpen t.memory.ledger.accounts no
+  no_open : IsOpen t.ledger.accounts no
   no_open = live_open s h w x live
 
-  init_there : IsOpen t.memory.ledger.accounts (init_no t x).0 × ((init_no t x).0 ≡ no → ⊥)
+  init_there : IsOpen t.ledger.accounts (init_no t x).0 × ((init_no t x).0 ≡ no → ⊥)
   init_there = b.references no (init_no t x) (w.nodes.references (node_of t x) (h.settled.below x live.there) (w.leaves x live.there) no_open)
 
   closed_left : IsLeft t u x
@@ -85,10 +85,10 @@ module _ (s : Trades) (h : IsTrades s) (w : IsTrading s.trading) (b : IsBalanced
     contents = λ y yl ne k. l.closed.contents (account_of t y) (apart t w x y live.there yl ne) k;
     used = λ y yl ne.
         ap (λ (es : Entries). (account_at es (account_of t y)).used) l.closed.accounts
-        ∙ use_left t.memory.ledger.accounts no (init_no t x).0 no_open init_there.0 init_there.1 (account_of t y) (apart t w x y live.there yl ne);
+        ∙ use_left t.ledger.accounts no (init_no t x).0 no_open init_there.0 init_there.1 (account_of t y) (apart t w x y live.there yl ne);
     unused =
         ap (λ (es : Entries). (account_at es no).used) l.closed.accounts
-        ∙ ap (λ o. (the_account o).used) (gone t.memory.ledger.accounts no (init_no t x).0 no_open init_there.0 init_there.1);
+        ∙ ap (λ o. (the_account o).used) (gone t.ledger.accounts no (init_no t x).0 no_open init_there.0 init_there.1);
     price = l.closed.whole.0;
   }
 
@@ -102,9 +102,8 @@ module _ (s : Trades) (h : IsTrades s) (w : IsTrading s.trading) (b : IsBalanced
   between_trading : IsTrading u
   between_trading =
       let refers = w.nodes.references (node_of t x) (h.settled.below x live.there) (w.leaves x live.there) no_open in
-      let m : Memory = record { ledger = t.memory.ledger; payer = root_no t } in
-      subst IsTrading (sym l.is) (closed_kept t x m u.memory (account_no t x) w b live.there (h.settled.below x live.there) no_open refl refl
-      (subst (λ o. IfSome o (λ init. IsClosed m u.memory (account_no t x) init)) (sym refers) l.closed))
+      subst IsTrading (sym l.is) (closed_kept t x u.ledger (account_no t x) w b live.there (h.settled.below x live.there) no_open refl
+      (subst (λ o. IfSome o (λ init. IsClosed t.ledger u.ledger (account_no t x) init)) (sym refers) l.closed))
 
   started_left : (o : Option ℕ) → IfSome o (CanStart between) → IsLeft t (started between o).trading x
   started_left None c = closed_left
@@ -112,9 +111,9 @@ module _ (s : Trades) (h : IsTrades s) (w : IsTrading s.trading) (b : IsBalanced
       let q = (node_at between.nodes i).quantum in
       let io = i_open between between_kept between_trading i c.below c.there c.pending c.ram c.caps in
       let po = p_open between between_kept between_trading i c.below c.there c.pending c.ram c.caps in
-      let same = λ (a : ℕ). used_kept u.memory.ledger.accounts (number u.tree (parent u.tree i)) (number u.tree i) q a po io in
+      let same = λ (a : ℕ). used_kept u.ledger.accounts (number u.tree (parent u.tree i)) (number u.tree i) q a po io in
       record {
-        is = ap (λ y. with_memory y (started between (Some i)).trading.memory) l.is;
+        is = ap (λ y. with_ledger y (started between (Some i)).trading.ledger) l.is;
         contents = closed_left.contents;
         used = λ y yl ne. same (account_of t y) ∙ closed_left.used y yl ne;
         unused = same no ∙ closed_left.unused;
@@ -185,12 +184,12 @@ sessions_alike names old new n m x (Some q ∷ ss) b same none =
 
 module _ (s : Slots) (x : ℕ) (h : Heap) (v : Trades) (i : IsSlots s) (w : IsTrading s.trades.trading) (there : x < length s.trades.trading.leaves)
     (alone : HasNoSessions s.trades.trading x) (new : IsNew h) (l : IsLeft s.trades.trading v.trading x) where
-  abbrev m : Memory
-  m = v.trading.memory
+  abbrev m : Ledger
+  m = v.trading.ledger
 
   abbrev then_ : Slots
   then_ = record {
-    trades = record { trading = with_memory s.trades.trading m; nodes = v.nodes };
+    trades = record { trading = with_ledger s.trades.trading m; nodes = v.nodes };
     own = set s.own x (replicate 64 Empty);
     heaps = set s.heaps x h;
   }
@@ -216,7 +215,7 @@ module _ (s : Slots) (x : ℕ) (h : Heap) (v : Trades) (i : IsSlots s) (w : IsTr
   same_seen : AreSame (memory_of s) (memory_of then_) (length s.own) x
   same_seen y lt ne t = left_seen (memory_of s y) (memory_of then_ y) t (same_size y lt ne) (same_byte y lt ne)
 
-  module _ (b : IsBalanced s.trades.trading.memory.ledger) (d : IsBalanced m.ledger) where
+  module _ (b : IsBalanced s.trades.trading.ledger) (d : IsBalanced m) where
     its_holder : IsHolder then_ x h
     its_holder = holder_first then_ x h own_here (nothing_to x s.trades.trading.sessions none_to) new l.unused
 
@@ -225,7 +224,7 @@ module _ (s : Slots) (x : ℕ) (h : Heap) (v : Trades) (i : IsSlots s) (w : IsTr
         holder_alike s then_ y (get_or s.heaps y g) (λ k. record { size = same_size y lt ne k; bytes = same_byte y lt ne k })
         (alike_is (contents s y) (contents then_ y) (ap (λ ts. ts ++ session_contents y s.trades.trading.sessions)
         (get_or-set_other s.own x y (replicate 64 Empty) [] ne))) (l.used y (at_leaf y lt) ne) l.price
-        (within s.trades.trading.memory.ledger (account_of s.trades.trading y) b) (within m.ledger (account_of s.trades.trading y) d) (i.holders y g lt)
+        (within s.trades.trading.ledger (account_of s.trades.trading y) b) (within m (account_of s.trades.trading y) d) (i.holders y g lt)
 
     holder_now : (y : ℕ) (g : Heap) → y < length s.own → IsHolder then_ y (get_or (set s.heaps x h) y g)
     holder_now y g lt = elim (cases_eq y x) [
@@ -275,22 +274,22 @@ module _ (s : Slots) (x : ℕ) (h : Heap) (v : Trades) (i : IsSlots s) (w : IsTr
 
 -- AS THE CONTRACT SAYS IT
 
-ended_left : (s v : Trades) (x : ℕ) → IsTrades s → IsTrading s.trading → IsBalanced s.trading.memory.ledger → IsLive s x → HasNoSessions s.trading x
+ended_left : (s v : Trades) (x : ℕ) → IsTrades s → IsTrading s.trading → IsBalanced s.trading.ledger → IsLive s x → HasNoSessions s.trading x
     → Ends s v x → IsLeft s.trading v.trading x
 ended_left s v x h w b live alone e =
     subst (λ (y : Trades). IsLeft s.trading y.trading x) (sym e.is) (its_left s h w b x live alone e.between e.leaves)
 
 same_slots : (s : Slots) (v : Trades) (own : List (List Content)) (hs : List Heap) (x : ℕ) (h : Heap)
-    → v.trading ≡ with_memory s.trades.trading v.trading.memory
+    → v.trading ≡ with_ledger s.trades.trading v.trading.ledger
     → own ≡ set s.own x (replicate 64 Empty) → hs ≡ set s.heaps x h → of_parts v own hs ≡ record {
-      trades = record { trading = with_memory s.trades.trading v.trading.memory; nodes = v.nodes };
+      trades = record { trading = with_ledger s.trades.trading v.trading.ledger; nodes = v.nodes };
       own = set s.own x (replicate 64 Empty);
       heaps = set s.heaps x h;
     }
 same_slots s v own hs x h e f g = λ z. record { trades = record { trading = e z; nodes = v.nodes }; own = f z; heaps = g z }
 
 pub ended_kept : (s : Slots) (v : Trades) (own : List (List Content)) (hs : List Heap) (x : ℕ) (h : Heap) → IsSlots s → IsTrades s.trades
-    → IsTrading s.trades.trading → IsBalanced s.trades.trading.memory.ledger → IsBalanced v.trading.memory.ledger → IsLive s.trades x
+    → IsTrading s.trades.trading → IsBalanced s.trades.trading.ledger → IsBalanced v.trading.ledger → IsLive s.trades x
     → HasNoSessions s.trades.trading x → Ends s.trades v x → IsNew h → own ≡ set s.own x (replicate 64 Empty) → hs ≡ set s.heaps x h
     → IsSlots (of_parts v own hs)
 ended_kept s v own hs x h i t w b d live alone e new f g =
@@ -298,7 +297,7 @@ ended_kept s v own hs x h i t w b d live alone e new f g =
     subst IsSlots (sym (same_slots s v own hs x h l.is f g)) (then_kept s x h v i w live.there alone new l b d)
 
 pub leaf_ends : (z s : Slots) (v : Trades) (own : List (List Content)) (hs : List Heap) (x : ℕ) (h : Heap) → s ≡ z → IsSlots s → IsTrades s.trades
-    → IsTrading s.trades.trading → IsBalanced s.trades.trading.memory.ledger → IsLive s.trades x → HasNoSessions s.trades.trading x
+    → IsTrading s.trades.trading → IsBalanced s.trades.trading.ledger → IsLive s.trades x → HasNoSessions s.trades.trading x
     → Ends s.trades v x → IsNew h → own ≡ set s.own x (replicate 64 Empty) → hs ≡ set s.heaps x h → EndsLeaf z (of_parts v own hs) x
 leaf_ends z s v own hs x h q i t w b live alone e new f g =
     let l = ended_left s.trades v x t w b live alone e in

@@ -146,9 +146,9 @@ caps_then false used old new held a c e =
 
 module _ (s n : Slots) (x : ℕ) (h : Heap) (same : (k : ℕ) → SameChunk (memory_of s x) (memory_of n x) k) (a : Alike (contents s x) (contents n x))
     (used : (its_account n.trades.trading x).used ≡ (its_account s.trades.trading x).used)
-    (price : n.trades.trading.memory.ledger.price ≡ s.trades.trading.memory.ledger.price)
-    (b : IsWithin s.trades.trading.memory.ledger (account_of s.trades.trading x))
-    (d : IsWithin n.trades.trading.memory.ledger (account_of n.trades.trading x)) (i : IsHolder s x h) where
+    (price : n.trades.trading.ledger.price ≡ s.trades.trading.ledger.price)
+    (b : IsWithin s.trades.trading.ledger (account_of s.trades.trading x))
+    (d : IsWithin n.trades.trading.ledger (account_of n.trades.trading x)) (i : IsHolder s x h) where
   on : KeepsOn h (memory_of s x) (memory_of n x) (contents s x)
   on = keeps_on h (memory_of s x) (memory_of n x) (contents s x) same i.keeps
 
@@ -161,9 +161,9 @@ module _ (s n : Slots) (x : ℕ) (h : Heap) (same : (k : ℕ) → SameChunk (mem
   used_same : (c : ℕ) → places_used (memory_of n x) (contents n x) c ≡ places_used (memory_of s x) (contents s x) c
   used_same c = a.used_is (memory_of n x) c ∙ counts_same c (memory_of s x) (memory_of n x) (contents s x) on.seen
 
-  caps_same : plus_caps (held_by Caps n x h) (memory_of n x).caps ≡ counted n.trades.trading.memory.ledger.price (its_account n.trades.trading x).quota.caps
+  caps_same : plus_caps (held_by Caps n x h) (memory_of n x).caps ≡ counted n.trades.trading.ledger.price (its_account n.trades.trading x).quota.caps
   caps_same =
-      let p = s.trades.trading.memory.ledger.price in
+      let p = s.trades.trading.ledger.price in
       let u = (its_account s.trades.trading x).used.caps in
       let q = (its_account s.trades.trading x).quota.caps in
       let m = (its_account n.trades.trading x).quota.caps in

@@ -78,7 +78,7 @@ module _ (s : Slots) (x : ℕ) (h : Heap) (own : get_or s.own x [] ≡ replicate
     keeps = subst (KeepsContents h (memory_of s x)) (sym contents_are) (empty_kept h (memory_of s x) 64 (new.keeps (memory_of s x)));
     ram = omega (arith, held_none Ram, ap (λ a. a.ram) unused);
     caps = ap (λ n. plus_caps n (memory_of s x).caps) (held_none Caps)
-        ∙ no_caps (its_account s.trades.trading x).quota.caps (its_account s.trades.trading x).used.caps (eqb s.trades.trading.memory.ledger.price 0)
+        ∙ no_caps (its_account s.trades.trading x).quota.caps (its_account s.trades.trading x).used.caps (eqb s.trades.trading.ledger.price 0)
         (ap (λ a. a.caps) unused);
     peaked = (λ k. raised_by (places_used (memory_of s x) (contents_are k)) classes (new.peaks k))
         ∙ raised_same (places_used (memory_of s x) (replicate 64 Empty)) (λ c. 0) classes (replicate 8 0) (no_places (memory_of s x) 64) ∙ sym new.peaks;

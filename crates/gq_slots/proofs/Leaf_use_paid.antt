@@ -44,7 +44,7 @@ caps_here price used quota held false e le q ne = let f : quota - used + held �
 pub some_is : {A : Type 0} (a b : A) → Some a ≡ Some b → a ≡ b
 some_is a b e = cc
 
-paid_here : (f : Frame) (s : Slots) (x : ℕ) (h : Heap) → IsSlots s → IsBalanced s.trades.trading.memory.ledger → IsHolder s x h
+paid_here : (f : Frame) (s : Slots) (x : ℕ) (h : Heap) → IsSlots s → IsBalanced s.trades.trading.ledger → IsHolder s x h
     → IsPaidFor (world_seen f s) s.trades.trading x (leaf_seen (f.leaf x) (memory_of s x) (get_or s.own x []) h)
 paid_here f s x h i b o =
     let t = s.trades.trading in
@@ -53,13 +53,13 @@ paid_here f s x h i b o =
     let caps = held_is f s x h (f.leaf x) Caps in
     record {
       ram = omega (arith, ram, o.ram, b.within (account_of t x));
-      caps = λ ne. caps_here t.memory.ledger.price a.used.caps a.quota.caps (held_by Caps s x h) (eqb t.memory.ledger.price 0) refl
+      caps = λ ne. caps_here t.ledger.price a.used.caps a.quota.caps (held_by Caps s x h) (eqb t.ledger.price 0) refl
           (b.caps_within (account_of t x)) o.caps ne ∙ sym caps;
       peaked = ap (λ ps. record (leaf_seen (f.leaf x) (memory_of s x) (get_or s.own x []) h) { peaks = ps })
           (raised_is f s x h (f.leaf x) classes (peaks h) i.sound.objects ∙ o.peaked);
     }
 
-pub paid_at : (f : Frame) (s : Slots) (x : ℕ) (l : world.Leaf) → IsSlots s → IsBalanced s.trades.trading.memory.ledger
+pub paid_at : (f : Frame) (s : Slots) (x : ℕ) (l : world.Leaf) → IsSlots s → IsBalanced s.trades.trading.ledger
     → slice_get (world_seen f s).leaves x ≡ Some l → IsPaidFor (world_seen f s) s.trades.trading x l
 paid_at f s x l i b e =
     let lt = leaf_below f.leaf (memory_of s) s.own s.heaps x l e in

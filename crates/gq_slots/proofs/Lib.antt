@@ -8,7 +8,6 @@ pub mod Slots_view_fields
 pub mod Leaf_use_paid
 pub mod Class_price_rises
 pub mod First_empty_slots
-pub mod Payer_after_call
 pub mod Link_mark_contents
 pub mod Emptied_slot_refills
 pub mod Equal_leaf_contents
@@ -17,5 +16,4 @@ pub mod Accepted_request_world
 pub mod Closed_session_world
 pub mod Ended_leaf_world
 pub mod Slot_byte_counts
-pub mod Slot_payers
 pub mod Addresses_places

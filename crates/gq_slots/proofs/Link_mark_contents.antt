@@ -55,27 +55,27 @@ mark_pays h st t u a b = record {
 }
 
 mark_call : (s : Slots) (p : SlotId) (h : Heap) (t u : Content) → IsSlotId s p → t ≡ content_at s p → IsHeapOf s (holder s p) h → IsMark t → IsMark u
-    → IsCall s s.trades.trading.memory p h h t u
+    → IsCall s s.trades.trading.ledger p h h t u
 mark_call s p h t u there is heap a b = record {
   slot_id = there;
   content = sym is;
   heap = heap;
   others = λ y lt ne. refl;
-  quotas = record { payer = refl; price = refl; quota = λ a. refl };
+  quotas = record { price = refl; quota = λ a. refl };
   changes = none_holds h (memory_of s (holder s p)) t u (mark_holds t a) (mark_holds u b);
   pays = mark_pays h (memory_of s (holder s p)) t u a b;
 }
 
 -- where the slots are as before but for one
 same_parts : (s : Slots) (p : SlotId) (h : Heap) (u : Content) → IsHeapOf s (holder s p) h
-    → put (with_store s s.trades.trading.memory (holder s p) h) p u ≡ put s p u
+    → put (with_store s s.trades.trading.ledger (holder s p) h) p u ≡ put s p u
 same_parts s p h u e = ap (λ hs. put (record { trades = s.trades; own = s.own; heaps = hs }) p u) (same_heap s (holder s p) h e)
 
 pub marked : (s : Slots) (p : SlotId) (h : Heap) (t u : Content) → IsSlots s → IsTrading s.trades.trading → holder s p < length s.own → IsSlot p → IsSlotId s p
     → t ≡ content_at s p → IsHeapOf s (holder s p) h → IsMark t → IsMark u
     → IsSlots (put s p u) × PutsSlot s (put s p u) p (seen (memory_of s (holder s p)) u)
 marked s p h t u i w lt l there is heap a b =
-    let m = s.trades.trading.memory in
+    let m = s.trades.trading.ledger in
     let c = mark_call s p h t u there is heap a b in
     let st = memory_of s (holder s p) in
     let up = stays_raised s m p h h t u i w lt c (λ k. omega (arith, mark_places k st t a, mark_places k st u b)) in (

@@ -11,7 +11,7 @@ use Rattle.gq_heap.specs.Heap.{peaks}
 use Rattle.gq_ram.specs.Account_table.{Entries, IsOpen}
 use Rattle.gq_ram.specs.Ledgers.{IsBalanced, Ledger, with_accounts}
 use Rattle.gq_ram.proofs.Quota_move_sequences.{used_kept}
-use Rattle.gq_trade.specs.Stores.{store_at}
+use Rattle.gq_ram.specs.Account_stores.{store_at}
 use Rattle.gq_trade.specs.Numbers.{IsTaken, added, free_number}
 use Rattle.gq_trade.specs.declared.requests.Ask.{Ask}
 use Rattle.gq_trade.specs.declared.requests.Ask.TheVariants.{Open, Upgrade}
@@ -72,11 +72,11 @@ leaves_same leaf old new (ts ∷ own) (h ∷ hs) e =
     λ k. record (leaf 0) { slots = map (λ t. e 0 t k) ts; peaks = peaks h } ∷ f k
 
 pub leaves_donated : (f : Frame) (s : Slots) (es : Entries)
-    → leaves_seen f.leaf (λ y. store_at (with_accounts s.trades.trading.memory.ledger es) (account_of s.trades.trading y)) s.own s.heaps
+    → leaves_seen f.leaf (λ y. store_at (with_accounts s.trades.trading.ledger es) (account_of s.trades.trading y)) s.own s.heaps
     ≡ (world_seen f s).leaves
 leaves_donated f s es =
-    leaves_same f.leaf (memory_of s) (λ y. store_at (with_accounts s.trades.trading.memory.ledger es) (account_of s.trades.trading y)) s.own s.heaps
-    (λ y t. donated_seen s.trades.trading.memory.ledger es (account_of s.trades.trading y) t)
+    leaves_same f.leaf (memory_of s) (λ y. store_at (with_accounts s.trades.trading.ledger es) (account_of s.trades.trading y)) s.own s.heaps
+    (λ y t. donated_seen s.trades.trading.ledger es (account_of s.trades.trading y) t)
 
 pub opened_world : (f : Frame) (s : Slots) (c : ℕ) (p : SlotId) (v e : ℕ) (n : Amount)
     → world_seen f (with_trades s (asked s.trades.trading (fresh c p v e n)))
@@ -86,7 +86,7 @@ opened_world f s c p v e n =
     let q = fresh c p v e n in
     let a = asked t q in
     let w = world_seen f s in
-    let leaves = leaves_donated f s a.memory.ledger.accounts in
+    let leaves = leaves_donated f s a.ledger.accounts in
     let sessions = asked_is f.names t q in
     let place : free_place w.sessions ≡ free_number t.sessions = number_is (λ y. session_seen f.names (store_of t y.server) y) t.sessions in
     let requests = requests_then t.requests (record { session = free_number t.sessions; server = v; ask = Open }) in
@@ -110,8 +110,8 @@ upgraded_world f s k n there =
     let t = s.trades.trading in
     let q = session_at t k in
     let a = upgraded t k n in
-    let l = t.memory.ledger in
-    let es = a.memory.ledger.accounts in
+    let l = t.ledger in
+    let es = a.ledger.accounts in
     let w = world_seen f s in
     let old : Session → world.Session = λ y. session_seen f.names (store_of t y.server) y in
     let new : Session → world.Session = λ y. session_seen f.names (store_of a y.server) y in
@@ -136,7 +136,7 @@ none_taken zero t = cc
 none_taken (suc k) t = cc
 
 -- the account of a live leaf is open
-pub live_open : (t : Trades) (x : ℕ) → IsTrades t → IsTrading t.trading → IsLive t x → IsOpen t.trading.memory.ledger.accounts (account_of t.trading x)
+pub live_open : (t : Trades) (x : ℕ) → IsTrades t → IsTrading t.trading → IsLive t x → IsOpen t.trading.ledger.accounts (account_of t.trading x)
 live_open t x i w live = i.settled.opened (node_of t.trading x) (w.leaves x live.there) (λ e. ended (sym live.live ∙ e))
 
 -- a session more, whose slots are empty
@@ -208,9 +208,9 @@ asked_kept s k a none i =
     }
 
 pub opened_kept : (s : Slots) (c : ℕ) (p : SlotId) (v e : ℕ) (n : Amount) → AreOf s.trades.trading.sessions s.trades.trading.requests
-    → IsSlots s → IsOpen s.trades.trading.memory.ledger.accounts (account_of s.trades.trading c)
-    → IsOpen s.trades.trading.memory.ledger.accounts (account_of s.trades.trading v) → IsBalanced s.trades.trading.memory.ledger
-    → IsBalanced (asked s.trades.trading (fresh c p v e n)).memory.ledger → IsSlots (with_trades s (asked s.trades.trading (fresh c p v e n)))
+    → IsSlots s → IsOpen s.trades.trading.ledger.accounts (account_of s.trades.trading c)
+    → IsOpen s.trades.trading.ledger.accounts (account_of s.trades.trading v) → IsBalanced s.trades.trading.ledger
+    → IsBalanced (asked s.trades.trading (fresh c p v e n)).ledger → IsSlots (with_trades s (asked s.trades.trading (fresh c p v e n)))
 opened_kept s c p v e n of i co vo b d =
     let t = s.trades.trading in
     let q = fresh c p v e n in
@@ -226,14 +226,14 @@ opened_kept s c p v e n of i co vo b d =
       };
       holders = λ x h lt. holder_alike s m x (get_or s.heaps x h) (λ k. record { size = refl; bytes = λ j. refl })
           (alike_behind (get_or s.own x []) (session_contents x t.sessions) (session_contents x (added q t.sessions)) (alike_added x c p v e n t.sessions))
-          (used_kept t.memory.ledger.accounts (account_of t c) (account_of t v) n (account_of t x) co vo) refl
-          (within t.memory.ledger (account_of t x) b) (within m.trades.trading.memory.ledger (account_of t x) d) (i.holders x h lt);
+          (used_kept t.ledger.accounts (account_of t c) (account_of t v) n (account_of t x) co vo) refl
+          (within t.ledger (account_of t x) b) (within m.trades.trading.ledger (account_of t x) d) (i.holders x h lt);
     }
 
 pub upgraded_kept : (s : Slots) (k : ℕ) (n : Amount) → IsTaken s.trades.trading.sessions k → IsSlots s
-    → IsOpen s.trades.trading.memory.ledger.accounts (account_of s.trades.trading (client_of s.trades.trading k))
-    → IsOpen s.trades.trading.memory.ledger.accounts (account_of s.trades.trading (server_of s.trades.trading k)) → IsBalanced s.trades.trading.memory.ledger
-    → IsBalanced (upgraded s.trades.trading k n).memory.ledger → IsSlots (with_trades s (upgraded s.trades.trading k n))
+    → IsOpen s.trades.trading.ledger.accounts (account_of s.trades.trading (client_of s.trades.trading k))
+    → IsOpen s.trades.trading.ledger.accounts (account_of s.trades.trading (server_of s.trades.trading k)) → IsBalanced s.trades.trading.ledger
+    → IsBalanced (upgraded s.trades.trading k n).ledger → IsSlots (with_trades s (upgraded s.trades.trading k n))
 upgraded_kept s k n there i co vo b d =
     let t = s.trades.trading in
     let q = session_at t k in
@@ -252,8 +252,8 @@ upgraded_kept s k n there i co vo b d =
           (alike_behind (get_or s.own x []) (session_contents x t.sessions) (session_contents x (set t.sessions k (Some (with_more q n))))
           (alike_is (session_contents x t.sessions) (session_contents x (set t.sessions k (Some (with_more q n))))
           (session_same x k t.sessions (with_more q n) there refl)))
-          (used_kept t.memory.ledger.accounts (account_of t q.client) (account_of t q.server) n (account_of t x) co vo) refl
-          (within t.memory.ledger (account_of t x) b) (within m.trades.trading.memory.ledger (account_of t x) d) (i.holders x h lt);
+          (used_kept t.ledger.accounts (account_of t q.client) (account_of t q.server) n (account_of t x) co vo) refl
+          (within t.ledger (account_of t x) b) (within m.trades.trading.ledger (account_of t x) d) (i.holders x h lt);
     }
 
 -- AS THE CONTRACTS SAY IT

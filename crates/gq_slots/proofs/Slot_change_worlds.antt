@@ -1,4 +1,5 @@
 -- The world of all slots where something else stands in one of them, in another memory of its leaf.
+use Rattle.gq_ram.specs.Ledgers.{Ledger}
 use Rattle.std.proofs.Common.{◌≡◌, ℕ, zero, suc, ◌<◌, Bool, true, false, cond, eqb, List, [], ◌∷◌, ◌++◌, take, drop, set, map, get_or, length, Option, Some}
 use Rattle.std.proofs.Common.{None, refl, sym, ap, ◌∙◌, arith}
 use Rattle.std.specs.Prelude.{slice_get}
@@ -8,7 +9,7 @@ use Rattle.gq_model.specs.machine.World as world
 use Rattle.gq_store.specs.Store.{Store}
 use Rattle.gq_heap.specs.declared.heap.Heap.{Heap}
 use Rattle.gq_heap.specs.Heap.{peaks}
-use Rattle.gq_trade.specs.Stores.{Memory, store_at}
+use Rattle.gq_ram.specs.Account_stores.{store_at}
 use Rattle.gq_trade.specs.Numbers.{IsTaken}
 use Rattle.gq_contents.specs.declared.content.Content.{Content}
 use Rattle.gq_contents.specs.declared.content.Content.TheVariants.{Empty}
@@ -170,6 +171,13 @@ session_there f (None ∷ ss) zero t = cc
 session_there f (Some s ∷ ss) zero t = refl
 session_there f (o ∷ ss) (suc k) t = session_there f ss k t
 
+-- a session of the world, or none
+pub session_seen_at : (f : Session → world.Session) (ss : List (Option Session)) (k : ℕ) → world.joined (slice_get (map (seen_in f) ss) k) ≡ seen_in f
+    (get_or ss k None)
+session_seen_at f [] k = refl
+session_seen_at f (o ∷ ss) zero = refl
+session_seen_at f (o ∷ ss) (suc k) = session_seen_at f ss k
+
 -- WHAT A SLOT READS AS
 
 pub reads : (f : Frame) (s : Slots) (p : SlotId) → IsSlotId s p → AreLong s → length s.heaps ≡ length s.own
@@ -223,11 +231,11 @@ object_then w k x q l slot ps e g =
     ap (λ o. with_peaks_at x ps (world.put_object w (world.joined o) k slot)) e
     ∙ peaks_there (world.with_session w k (record q { object = slot })) x l ps g
 
-module _ (f : Frame) (s : Slots) (m : Memory) (h : Heap) (u : Content) (n : ℕ) (long : AreLong s) (heaps : length s.heaps ≡ length s.own)
+module _ (f : Frame) (s : Slots) (m : Ledger) (h : Heap) (u : Content) (n : ℕ) (long : AreLong s) (heaps : length s.heaps ≡ length s.own)
     (between : AreBetween (length s.own) n s.trades.trading.sessions) (x : ℕ) (lt : x < length s.own)
-    (same : (y : ℕ) → y < length s.own → (y ≡ x → ⊥) → store_at m.ledger (account_of s.trades.trading y) ≡ memory_of s y) where
+    (same : (y : ℕ) → y < length s.own → (y ≡ x → ⊥) → store_at m (account_of s.trades.trading y) ≡ memory_of s y) where
   abbrev then_of : ℕ → Store
-  then_of y = store_at m.ledger (account_of s.trades.trading y)
+  then_of y = store_at m (account_of s.trades.trading y)
 
   abbrev l : world.Leaf
   l = leaf_seen (f.leaf x) (memory_of s x) (get_or s.own x []) (get_or s.heaps x h)
@@ -244,16 +252,16 @@ module _ (f : Frame) (s : Slots) (m : Memory) (h : Heap) (u : Content) (n : ℕ)
       ∙ leaves_set f.leaf (memory_of s) then_of s.own s.heaps x (get_or s.own x []) h lt heaps same
       ∙ (λ k. set (world_seen f s).leaves x (record (f.leaf x) { slots = e k; peaks = peaks h }))
 
-pub world_after : (f : Frame) (s : Slots) (m : Memory) (p : SlotId) (h : Heap) (u : Content) (n : ℕ) → IsSlotId s p → AreLong s → length s.heaps ≡ length s.own
+pub world_after : (f : Frame) (s : Slots) (m : Ledger) (p : SlotId) (h : Heap) (u : Content) (n : ℕ) → IsSlotId s p → AreLong s → length s.heaps ≡ length s.own
     → holder s p < length s.own → AreBetween (length s.own) n s.trades.trading.sessions
-    → ((y : ℕ) → y < length s.own → (y ≡ holder s p → ⊥) → store_at m.ledger (account_of s.trades.trading y) ≡ memory_of s y)
-    → SameSeen (memory_of s (holder s p)) (store_at m.ledger (account_of s.trades.trading (holder s p))) (prefix s p)
-    → SameSeen (memory_of s (holder s p)) (store_at m.ledger (account_of s.trades.trading (holder s p))) (back s p)
+    → ((y : ℕ) → y < length s.own → (y ≡ holder s p → ⊥) → store_at m (account_of s.trades.trading y) ≡ memory_of s y)
+    → SameSeen (memory_of s (holder s p)) (store_at m (account_of s.trades.trading (holder s p))) (prefix s p)
+    → SameSeen (memory_of s (holder s p)) (store_at m (account_of s.trades.trading (holder s p))) (back s p)
     → world_seen f (put (with_store s m (holder s p) h) p u)
     ≡ with_peaks_at (holder s p) (peaks h) (world.with_slot (world_seen f s) (slot_id_seen p)
-    (seen (store_at m.ledger (account_of s.trades.trading (holder s p))) u))
+    (seen (store_at m (account_of s.trades.trading (holder s p))) u))
 world_after f s m (InLeaf x i) h u n there long heaps lt between same a b =
-    let st : ℕ → Store = λ y. store_at m.ledger (account_of s.trades.trading y) in
+    let st : ℕ → Store = λ y. store_at m (account_of s.trades.trading y) in
     let ts = get_or s.own x [] in
     let ss = s.trades.trading.sessions in
     let inside : i < length ts = omega (arith, there.1, long.own x there.0) in
@@ -267,7 +275,7 @@ world_after f s m (InLeaf x i) h u n there long heaps lt between same a b =
     ∙ sym (leaf_then w x i (leaf_seen (f.leaf x) (memory_of s x) ts (get_or s.heaps x h)) (seen (st x) u) (peaks h)
     (leaf_at f.leaf (memory_of s) s.own s.heaps x h lt (omega (arith, lt, heaps))))
 world_after f s m (InSession k i) h u n there long heaps lt between same a b =
-    let st : ℕ → Store = λ y. store_at m.ledger (account_of s.trades.trading y) in
+    let st : ℕ → Store = λ y. store_at m (account_of s.trades.trading y) in
     let ss = s.trades.trading.sessions in
     let q = session_in ss k in
     let x = q.server in
@@ -294,7 +302,7 @@ world_after f s m (InSession k i) h u n there long heaps lt between same a b =
     (session_there (λ y. session_seen f.names (memory_of s y.server) y) ss k there.0)
     (leaf_at f.leaf (memory_of s) s.own s.heaps x h lt (omega (arith, lt, heaps))))
 world_after f s m (InObject k) h u n there long heaps lt between same a b =
-    let st : ℕ → Store = λ y. store_at m.ledger (account_of s.trades.trading y) in
+    let st : ℕ → Store = λ y. store_at m (account_of s.trades.trading y) in
     let ss = s.trades.trading.sessions in
     let q = session_in ss k in
     let x = q.server in

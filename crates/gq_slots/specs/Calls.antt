@@ -7,16 +7,15 @@ use Rattle.gq_trade.specs.Seen_sessions.{slot_id_seen}
 use Rattle.gq_trade.specs.Trading.{Trading}
 use Rattle.gq_slots.specs.Slots.{Slots, Frame, IsSlotId, holder, settled_in, world_seen}
 
--- the tree with its quotas, and who pays, stay
+-- the tree with its quotas stays
 pub record SameAccounts (w v : Trading) : Type 0 where
   pub tree : v.tree ≡ w.tree
   pub leaves : v.leaves ≡ w.leaves
   pub objects : v.objects ≡ w.objects
   pub room : v.room ≡ w.room
   pub requests : v.requests ≡ w.requests
-  pub payer : v.memory.payer ≡ w.memory.payer
-  pub price : v.memory.ledger.price ≡ w.memory.ledger.price
-  pub quota : (a : ℕ) → (account_at v.memory.ledger.accounts a).quota ≡ (account_at w.memory.ledger.accounts a).quota
+  pub price : v.ledger.price ≡ w.ledger.price
+  pub quota : (a : ℕ) → (account_at v.ledger.accounts a).quota ≡ (account_at w.ledger.accounts a).quota
 
 pub record SameBeside (old new : Slots) : Type 0 where
   pub nodes : new.trades.nodes ≡ old.trades.nodes

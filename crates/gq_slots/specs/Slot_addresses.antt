@@ -3,9 +3,9 @@ use Rattle.std.specs.Prelude.{◌≡◌, ℕ, ◌<◌, ◌==◌, if◌then◌els
 use Rattle.gq_model.specs.machine.Scenario.{System}
 use Rattle.gq_model.specs.machine.Memory.{buffer_of}
 use Rattle.gq_model.specs.machine.World as world
-use Rattle.gq_trade.specs.Numbers.{IsTaken}
 use Rattle.gq_contents.specs.declared.content.Content.{Content}
 use Rattle.gq_contents.specs.declared.content.Content.TheVariants.{Empty, Block, Slice, Space, Pool, Link, Waiting}
+use Rattle.gq_trade.specs.declared.session.Session.{Session}
 use Rattle.gq_trade.specs.declared.session.SlotId.{SlotId}
 use Rattle.gq_trade.specs.declared.session.SlotId.TheVariants.{InSession}
 use Rattle.gq_trade.specs.Seen_sessions.{slot_id_seen}
@@ -16,13 +16,13 @@ use Rattle.gq_slots.specs.Slots.{Frame, Slots, content_at}
 abbrev pub AreBuffers : System → Frame → Slots → List ℕ → Type 0
 AreBuffers system f s bs = (i : ℕ) → i < length s.trades.trading.objects → get_or bs i 0 ≡ buffer_of system (get_or f.names i [])
 
--- the bytes of the buffer that the service of the session k shares, or 0
-abbrev pub buffer_at : List ℕ → Slots → ℕ → ℕ
-buffer_at bs s k = get_or bs (session_at s.trades.trading k).service 0
+-- the first slot of a session that is there, if its service shares a buffer
+abbrev pub behind_link : List ℕ → Option Session → ℕ → Option SlotId
+behind_link bs None k = None
+behind_link bs (Some q) k = if get_or bs q.service 0 == 0 then None else Some (InSession k 0)
 
--- the first slot of the session k, if its service shares a buffer
 abbrev pub buffer_slot_id : List ℕ → Slots → ℕ → Option SlotId
-buffer_slot_id bs s k = if buffer_at bs s k == 0 then None else Some (InSession k 0)
+buffer_slot_id bs s k = behind_link bs (get_or s.trades.trading.sessions k None) k
 
 -- the bytes of a link stand in the buffer of its session, all others in the slot itself
 abbrev pub place_in : List ℕ → Slots → Content → SlotId → Option SlotId
@@ -34,17 +34,13 @@ place_in bs s (Pool q) p = Some p
 place_in bs s (Link k) p = buffer_slot_id bs s k
 place_in bs s (Waiting k) p = Some p
 
--- nothing lies behind a link to a session without a buffer
+-- nothing lies behind a link to a session that is gone or has no buffer
 abbrev pub place_of : List ℕ → Slots → SlotId → Option SlotId
 place_of bs s p = place_in bs s (content_at s p) p
 
 abbrev pub place_seen : Option SlotId → Option world.SlotId
 place_seen None = None
 place_seen (Some p) = Some (slot_id_seen p)
-
--- a link that is in the slot leads to a session that is there
-abbrev pub IsLinked : Slots → SlotId → Type 0
-IsLinked s p = (k : ℕ) → content_at s p ≡ Link k → IsTaken s.trades.trading.sessions k
 
 -- the slot of its client that a session was asked for
 abbrev pub slot_for : Slots → ℕ → SlotId

@@ -5,6 +5,7 @@ use Rattle.gq_model.specs.machine.Amounts.{Resource, Ram, Caps}
 use Rattle.gq_model.specs.machine.Resource_prices.{heap as class_prices}
 use Rattle.gq_model.specs.machine.World as world
 use Rattle.gq_model.specs.machine.Sums.{held, places, with_peaks}
+use Rattle.gq_store.specs.declared.extent.Extent.{Extent}
 use Rattle.gq_store.specs.Store.{Store}
 use Rattle.gq_heap.specs.declared.heap.Heap.{Heap}
 use Rattle.gq_heap.specs.Heap.{KeepsPlaces, peaks, rise, rise_caps}
@@ -15,13 +16,13 @@ use Rattle.gq_trade.specs.declared.requests.Request.{Request}
 use Rattle.gq_trade.specs.Seen_requests.{request_seen}
 use Rattle.gq_contents.specs.declared.content.Content.{Content}
 use Rattle.gq_contents.specs.declared.content.Content.TheVariants.{Empty, Block, Slice, Space, Pool, Link, Waiting}
-use Rattle.gq_contents.specs.Contents.{entry_size, seen}
+use Rattle.gq_contents.specs.Contents.{entry_size, extent_of, seen}
 use Rattle.gq_contents.specs.Paid.{raised_by}
 use Rattle.gq_trade.specs.declared.session.SlotId.{SlotId}
 use Rattle.gq_trade.specs.declared.session.SlotId.TheVariants.{InLeaf, InSession, InObject}
 use Rattle.gq_trade.specs.Seen_sessions.{sessions_seen, slot_id_seen}
 use Rattle.gq_trade.specs.declared.session.Session.{Session}
-use Rattle.gq_trade.specs.Trading.{Trading, session_at, session_in, server_of, store_of, account_no, its_account}
+use Rattle.gq_trade.specs.Trading.{Trading, session_at, session_in, server_of, store_of, its_account}
 use Rattle.gq_trade.specs.Trades.{Trades}
 
 -- sessions over accounts, and of each leaf its own slots and its heap
@@ -66,6 +67,12 @@ content_at s (InObject k) = (session_at s.trades.trading k).object
 abbrev pub slot_of : Slots → SlotId → world.Slot
 slot_of s p = seen (memory_of s (holder s p)) (content_at s p)
 
+-- the bytes of some slot lie there
+pub record IsExtent (s : Slots) (e : Extent) : Type 0 where
+  pub slot_id : SlotId
+  pub there : IsSlotId s slot_id
+  pub is : extent_of (content_at s slot_id) ≡ Some e
+
 -- it holds no memory
 abbrev pub IsMark : Content → Type 0
 IsMark Empty = Unit {0}
@@ -76,15 +83,10 @@ IsMark (Pool p) = ⊥
 IsMark (Link k) = Unit {0}
 IsMark (Waiting k) = Unit {0}
 
--- the holder's account pays
-abbrev pub IsPaidBy : Slots → ℕ → Type 0
-IsPaidBy s x = s.trades.trading.memory.payer ≡ account_no s.trades.trading x
-
--- something can be made in a slot: it is there and empty, and whose memory it is pays now
+-- something can be made in a slot: it is there and empty
 pub record CanMake (s : Slots) (p : SlotId) : Type 0 where
   pub slot : IsSlot p
   pub there : IsSlotId s p
-  pub paid : IsPaidBy s (holder s p)
   pub empty : content_at s p ≡ Empty
 
 -- this is the heap of the leaf x
@@ -131,7 +133,7 @@ settled_in x w = raised_in w x (slice_get w.leaves x)
 -- use.
 pub record IsPaidFor (w : world.World) (t : Trading) (x : ℕ) (leaf : world.Leaf) : Type 0 where
   pub ram : (its_account t x).used.ram ≡ held Ram w x leaf
-  pub caps : (t.memory.ledger.price ≡ 0 → ⊥) → (its_account t x).used.caps ≡ held Caps w x leaf
+  pub caps : (t.ledger.price ≡ 0 → ⊥) → (its_account t x).used.caps ≡ held Caps w x leaf
   pub peaked : with_peaks w x leaf ≡ leaf
 
 abbrev pub ArePaidFor : Slots → Type 0

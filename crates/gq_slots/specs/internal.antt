@@ -1,3 +1,2 @@
 pub mod Slots_invariant
 pub mod Put
-pub mod Paying

@@ -10,16 +10,16 @@ use gq_contents::Content;
 use gq_heap::Heap;
 
 /// Ends a leaf from which and to which there is no session. Its slots are empty, its account is closed with all that it has in memory, and its quota of both
-/// kinds goes to its init. A node that starts after it has its quantum from now on. The root's account pays.
+/// kinds goes to its init. A node that starts after it has its quantum from now on.
 pub fn end(slots: &mut Slots, leaf: usize)
     requires leaf { IsLive slots.old.trades leaf }
     requires alone { HasNoSessions slots.old.trades.trading leaf }
     ensures { EndsLeaf slots.old slots.new leaf }
 {
     slots.trades.laws();
-    slots.trades.memory().accounts().laws();
+    slots.trades.accounts().laws();
     slots.trades.end(leaf);
-    slots.trades.memory().accounts().laws();
+    slots.trades.accounts().laws();
     clear_all(&mut slots.own, leaf);
     slots.heaps[leaf] = Heap::new();
 }

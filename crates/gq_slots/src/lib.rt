@@ -7,10 +7,10 @@
 //! // Accounts for the nodes of a plan, as `gq_trade` has them.
 //! let mut slots = Slots::new(rt.alloc(), 65536, None, plan, 24)?;
 //! let slot_id = SlotId::InLeaf(0, 3);
-//! slots.pay_by(0);
 //! slots.make_slice(slot_id, 100)?;
-//! slots.store(slot_id, 7, 42);
-//! assert_eq!(rt; slots.load(slot_id, 7), 42);
+//! let bytes = slots.extent(slot_id)?;
+//! slots.write(bytes, Width::Byte, 7, 42);
+//! assert_eq!(rt; slots.read(bytes, Width::Byte, 7), 42);
 //! slots.free(slot_id);
 //! ```
 //!

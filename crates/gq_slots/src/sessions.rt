@@ -39,7 +39,7 @@ pub fn ask(
 ) -> Result<usize, AccountFault>
     requires can { CanAskServer slots.old.trades client server }
     requires service { service < length slots.old.trades.trading.objects }
-    requires counted { slots.old.trades.trading.memory.ledger.price ≡ 0 → donation.caps ≡ 0 }
+    requires counted { slots.old.trades.trading.ledger.price ≡ 0 → donation.caps ≡ 0 }
     ensures number { IfOk result (λ k. k ≡ free_number slots.old.trades.trading.sessions) }
     ensures asked { OnOk result (slots.new ≡ with_trades slots.old (asked slots.old.trades.trading (fresh client slot_id server service donation))) }
     ensures world { OnOk result ((f : Frame) → world_seen f slots.new
@@ -50,9 +50,9 @@ pub fn ask(
 {
     let _own = &slots.own;
     slots.trades.laws();
-    slots.trades.memory().accounts().laws();
+    slots.trades.accounts().laws();
     let asked = slots.trades.ask(client, slot_id, server, service, donation);
-    slots.trades.memory().accounts().laws();
+    slots.trades.accounts().laws();
     asked
 }
 
@@ -60,7 +60,7 @@ pub fn ask(
 /// last. Refused as `ask` is.
 pub fn upgrade(slots: &mut Slots, session: usize, donation: Amount) -> Result<(), AccountFault>
     requires there { IsTaken slots.old.trades.trading.sessions session }
-    requires counted { slots.old.trades.trading.memory.ledger.price ≡ 0 → donation.caps ≡ 0 }
+    requires counted { slots.old.trades.trading.ledger.price ≡ 0 → donation.caps ≡ 0 }
     requires idle { IsIdle slots.old.trades.trading (client_of slots.old.trades.trading session) }
     ensures upgraded { OnOk result (slots.new ≡ with_trades slots.old (upgraded slots.old.trades.trading session donation)) }
     ensures world { OnOk result ((f : Frame) → world_seen f slots.new ≡ upgrading (world_seen f slots.old) session donation) }
@@ -70,9 +70,9 @@ pub fn upgrade(slots: &mut Slots, session: usize, donation: Amount) -> Result<()
 {
     let _own = &slots.own;
     slots.trades.laws();
-    slots.trades.memory().accounts().laws();
+    slots.trades.accounts().laws();
     let upgraded = slots.trades.upgrade(session, donation);
-    slots.trades.memory().accounts().laws();
+    slots.trades.accounts().laws();
     upgraded
 }
 
@@ -137,8 +137,8 @@ pub fn closed(slots: &mut Slots, session: usize) -> Result<(), AccountFault>
 {
     let _own = &slots.own;
     slots.trades.laws();
-    slots.trades.memory().accounts().laws();
+    slots.trades.accounts().laws();
     let closed = slots.trades.closed(session);
-    slots.trades.memory().accounts().laws();
+    slots.trades.accounts().laws();
     closed
 }

@@ -4,10 +4,9 @@ ghost use Rattle.std.specs.Prelude.{◌≡◌, ℕ, get_or, IfSome};
 ghost use Rattle.gq_model.specs.machine.Scenario.{System};
 ghost use Rattle.gq_model.specs.machine.Memory.{bytes_slot_id};
 ghost use Rattle.gq_model.specs.machine.World.{slot_at};
-ghost use Rattle.gq_trade.specs.Numbers.{IsTaken};
 ghost use Rattle.gq_trade.specs.Seen_sessions.{slot_id_seen};
 ghost use Rattle.gq_slots.specs.Slots.{Frame, IsSlotId, world_seen};
-ghost use Rattle.gq_slots.specs.Slot_addresses.{AreBuffers, IsLinked, buffer_slot_id, place_of, place_seen};
+ghost use Rattle.gq_slots.specs.Slot_addresses.{AreBuffers, buffer_slot_id, place_of, place_seen};
 
 use crate::slots::Slots;
 use gq_contents::Content;
@@ -38,11 +37,11 @@ impl Addresses {
         Addresses { buffers }
     }
 
-    /// Where the bytes of a slot stand: in the slot itself, or, where it is a link, in the first slot of its session. `None` where the session's service
-    /// shares no buffer.
+    /// Where the bytes of a slot stand: in the slot itself, or, where it is a link, in the first slot of its session. `None` where that session is gone or
+    /// its service shares no buffer.
+    #[inline(always)]
     pub fn bytes_slot_id(&self, slots: &Slots, slot_id: SlotId) -> Option<SlotId>
-        requires there { IsSlotId slots.now slot_id }
-        requires linked { IsLinked slots.now slot_id }
+        requires { IsSlotId slots.now slot_id }
         ensures is { result ≡ place_of self.now slots.now slot_id }
         ensures there { IfSome result (λ p. IsSlotId slots.now p) }
         ensures world { (f : Frame) (system : System) → AreBuffers system f slots.now self.now
@@ -61,17 +60,21 @@ impl Addresses {
         }
     }
 
-    // The first slot of a session, if its service shares a buffer.
+    // The first slot of a session, if it is there and its service shares a buffer.
+    #[inline(never)]
     fn buffer_slot_id(&self, slots: &Slots, session: usize) -> Option<SlotId>
-        requires { IsTaken slots.now.trades.trading.sessions session }
         ensures is { result ≡ buffer_slot_id self.now slots.now session }
         ensures there { IfSome result (λ p. IsSlotId slots.now p) }
     {
-        let service = slots.trades().session(session).service;
-        if self.buffer(service) == 0 {
-            None
-        } else {
-            Some(SlotId::InSession(session, 0))
+        match slots.trades().find_session(session) {
+            None => None,
+            Some(found) => {
+                if self.buffer(found.service) == 0 {
+                    None
+                } else {
+                    Some(SlotId::InSession(session, 0))
+                }
+            }
         }
     }
 

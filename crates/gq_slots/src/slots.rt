@@ -1,31 +1,32 @@
 // What every slot of a scenario holds, in the memory of the leaf that pays for it.
-ghost use Rattle.std.specs.Prelude.{◌≡◌, ◌+◌, ◌<◌, ◌≤◌, ◌*◌, ◌%◌, ◌↔◌, ◌⊎◌, [], ◌∷◌, length, slice_index, slice_range, replicate, Some, None, true};
+ghost use Rattle.std.specs.Prelude.{◌≡◌, ◌+◌, ◌<◌, ◌≤◌, ◌*◌, ◌%◌, ◌↔◌, length, slice_range, replicate, Some, None};
 ghost use Rattle.std.specs.Prelude.{false, IsTrue};
-ghost use Rattle.std.specs.Prelude.{IfOk, IfNone, IfSome, OnOk, OnErr, IsErrOf};
+ghost use Rattle.std.specs.Prelude.{IfOk, IfSome, OnOk, OnErr, IsErrOf};
 ghost use Rattle.gq_tariff.specs.Prices.{up};
 ghost use Rattle.gq_model.specs.declared.program.Form.TheVariants as form;
-ghost use Rattle.gq_model.specs.machine.Program.{little, spelled};
+ghost use Rattle.gq_model.specs.machine.Program.{bytes_of, little, spelled};
 ghost use Rattle.gq_model.specs.machine.Memory.{entry_byte, entry_with};
 ghost use Rattle.gq_model.specs.machine.World as world;
 ghost use Rattle.gq_heap.specs.declared.heap.Heap.{Heap};
 ghost use Rattle.gq_heap.specs.Heap.{peak_of, rise};
 ghost use Rattle.gq_contents.specs.declared.content.Content.TheVariants as content;
-ghost use Rattle.gq_contents.specs.Contents.{added, bytes_in, entry_count, entry_in, entry_size, put_in, removed, seen, size_of, with_entry};
+ghost use Rattle.gq_contents.specs.Contents.{added, bytes_in, entry_count, entry_in, entry_size, extent_of, put_in, removed, seen, with_entry};
 ghost use Rattle.gq_trade.specs.Seen_sessions.{slot_id_seen};
 ghost use Rattle.gq_trade.specs.Numbers.{IsTaken};
-ghost use Rattle.gq_trade.specs.Trading.{account_no, server_of, with_memory};
+ghost use Rattle.gq_trade.specs.Trading.{server_of};
 ghost use Rattle.gq_trade.specs.declared.session.SlotId.TheVariants.{InLeaf, InObject, InSession};
 ghost use Rattle.gq_trade.specs.Trades_plan.{IsFirst, IsPlan};
-ghost use Rattle.gq_trade.specs.Trades.{IsLive, IsTrades, with_trading};
+ghost use Rattle.gq_trade.specs.Trades.{IsTrades};
 ghost use Rattle.gq_contents.specs.Paid.{IsPaidWhereLeft, IsRaisedWhereLeft};
-ghost use Rattle.gq_slots.specs.Slots.{AreLong, AreNew, ArePaidFor, AreRead, AreRises, AreSmallEntries, AreSound, Frame, IsHeapOf, IsMark, IsPaidBy};
+ghost use Rattle.gq_slots.specs.Slots.{AreLong, AreNew, ArePaidFor, AreRead, AreRises, AreSmallEntries, AreSound, Frame, IsExtent, IsHeapOf, IsMark};
 ghost use Rattle.gq_slots.specs.Slots.{CanMake, IsSlot, IsSlotId, holder, memory_of, slot_of, content_at, world_seen};
 ghost use Rattle.gq_slots.specs.Calls.{PutsSlot, Settles};
 
 use crate::slot_contents::{clear, fill, replace};
-use gq_contents::Content;
+use gq_contents::{Content, read, write};
 use gq_heap::Heap;
-use gq_store::GrowFault;
+use gq_model::program::Width;
+use gq_store::{Extent, GrowFault};
 use gq_tariff::Class;
 use gq_trade::{Plan, SlotId, Trades};
 use std::alloc::{AllocError, Global};
@@ -156,76 +157,39 @@ impl Slots {
         }
     }
 
-    /// A leaf pays from now on. Each of the calls below is on a slot of the leaf that pays.
+    /// Where the bytes of a slot lie: of a block, a slice or a space.
     #[inline(always)]
-    pub fn pay_by(&mut self, leaf: usize)
-        requires { IsLive self.old.trades leaf }
-        ensures { self.new ≡ record {
-          trades = with_trading self.old.trades (with_memory self.old.trades.trading (record {
-            ledger = self.old.trades.trading.memory.ledger;
-            payer = account_no self.old.trades.trading leaf;
-          }));
-          own = self.old.own;
-          heaps = self.old.heaps;
-        } }
-    {
-        self.trades.pay_by(leaf);
-    }
-
-    /// The byte at an index of a block, a slice or a space.
-    #[inline(always)]
-    pub fn load(&self, slot_id: SlotId, index: u32) -> u8
-        requires there { IsSlotId self.now slot_id }
-        requires paid { IsPaidBy self.now (holder self.now slot_id) }
-        requires inside { index < size_of (content_at self.now slot_id) }
-        ensures { result ≡ slice_index (bytes_in (slot_of self.now slot_id)) index }
+    pub fn extent(&self, slot_id: SlotId) -> Option<Extent>
+        requires { IsSlotId self.now slot_id }
+        ensures { result ≡ extent_of (content_at self.now slot_id) }
     {
         let _own = &self.own;
-        let holder = self.holder(slot_id);
-        let content = self.content(slot_id);
-        content.load(&self.trades, &self.heaps[holder], index)
+        self.found(slot_id).extent()
     }
 
-    /// The number in the four bytes from an index on, the lowest first.
+    /// Reads a byte or a word of the slot whose bytes lie there, from an index on, the least byte first.
     #[inline(always)]
-    pub fn load4(&self, slot_id: SlotId, index: u32) -> u32
-        requires there { IsSlotId self.now slot_id }
-        requires paid { IsPaidBy self.now (holder self.now slot_id) }
-        requires inside { index + 4 ≤ size_of (content_at self.now slot_id) }
-        ensures { result ≡ little (slice_range (bytes_in (slot_of self.now slot_id)) index (index + 4)) }
+    pub fn read(&self, extent: Extent, width: Width, index: u32) -> u32
+        requires there { IsExtent self.now extent }
+        requires inside { index + bytes_of width ≤ extent.length }
+        ensures { (p : SlotId) → IsSlotId self.now p → extent_of (content_at self.now p) ≡ Some extent
+            → result ≡ little (slice_range (bytes_in (slot_of self.now p)) index (index + bytes_of width)) }
     {
         let _own = &self.own;
-        let holder = self.holder(slot_id);
-        let content = self.content(slot_id);
-        content.load4(&self.trades, &self.heaps[holder], index)
+        self.trades.laws();
+        read(&self.trades, extent, width, index)
     }
 
-    /// Sets the byte at an index of a block, a slice or a space.
+    /// Writes a byte of a number, or all four as a word, to the slot whose bytes lie there, at an index, the least byte first. Nothing else changes.
     #[inline(always)]
-    pub fn store(&mut self, slot_id: SlotId, index: u32, value: u8)
-        requires there { IsSlotId self.old slot_id }
-        requires paid { IsPaidBy self.old (holder self.old slot_id) }
-        requires inside { index < size_of (content_at self.old slot_id) }
-        ensures { PutsSlot self.old self.new slot_id (put_in index (value ∷ []) (slot_of self.old slot_id)) }
+    pub fn write(&mut self, extent: Extent, width: Width, index: u32, value: u32)
+        requires there { IsExtent self.old extent }
+        requires inside { index + bytes_of width ≤ extent.length }
+        ensures { (p : SlotId) → IsSlotId self.old p → extent_of (content_at self.old p) ≡ Some extent
+            → PutsSlot self.old self.new p (put_in index (spelled (bytes_of width) value) (slot_of self.old p)) }
     {
-        let holder = self.holder(slot_id);
-        let content = self.content(slot_id);
         self.trades.laws();
-        content.store(&mut self.trades, &self.heaps[holder], index, value);
-    }
-
-    /// Writes a number to the four bytes from an index on, the lowest first.
-    #[inline(always)]
-    pub fn store4(&mut self, slot_id: SlotId, index: u32, value: u32)
-        requires there { IsSlotId self.old slot_id }
-        requires paid { IsPaidBy self.old (holder self.old slot_id) }
-        requires inside { index + 4 ≤ size_of (content_at self.old slot_id) }
-        ensures { PutsSlot self.old self.new slot_id (put_in index (spelled 4 value) (slot_of self.old slot_id)) }
-    {
-        let holder = self.holder(slot_id);
-        let content = self.content(slot_id);
-        self.trades.laws();
-        content.store4(&mut self.trades, &self.heaps[holder], index, value);
+        write(&mut self.trades, extent, width, index, value);
     }
 
     /// Makes a slice of `size` bytes in an empty slot, which read 0.
@@ -242,7 +206,8 @@ impl Slots {
         let holder = self.holder(slot_id);
         let _heap = &self.heaps[holder];
         self.trades.laws();
-        let made = Content::make_slice(&mut self.trades, size)?;
+        let account = self.trades.leaf_account(holder);
+        let made = Content::make_slice(&mut self.trades, account, size)?;
         fill(&mut self.trades, &mut self.own, slot_id, made);
         Ok(())
     }
@@ -258,7 +223,8 @@ impl Slots {
         let holder = self.holder(slot_id);
         let _heap = &self.heaps[holder];
         self.trades.laws();
-        let made = Content::make_space(&mut self.trades, size)?;
+        let account = self.trades.leaf_account(holder);
+        let made = Content::make_space(&mut self.trades, account, size)?;
         fill(&mut self.trades, &mut self.own, slot_id, made);
         Ok(())
     }
@@ -275,7 +241,8 @@ impl Slots {
         let holder = self.holder(slot_id);
         let _heap = &self.heaps[holder];
         self.trades.laws();
-        let made = Content::make_pool(&mut self.trades, size, count)?;
+        let account = self.trades.leaf_account(holder);
+        let made = Content::make_pool(&mut self.trades, account, size, count)?;
         fill(&mut self.trades, &mut self.own, slot_id, made);
         Ok(())
     }
@@ -295,7 +262,8 @@ impl Slots {
         let holder = self.holder(slot_id);
         let _empty = self.content(slot_id);
         self.trades.laws();
-        let made = Content::make_block(&mut self.trades, &mut self.heaps[holder], size)?;
+        let account = self.trades.leaf_account(holder);
+        let made = Content::make_block(&mut self.trades, &mut self.heaps[holder], account, size)?;
         fill(&mut self.trades, &mut self.own, slot_id, made);
         Ok(())
     }
@@ -305,7 +273,6 @@ impl Slots {
     /// Refused as a block of the entry's size is, where the entry is absent; then nothing changes.
     pub fn take(&mut self, slot_id: SlotId, index: u32) -> Result<bool, GrowFault>
         requires there { IsSlotId self.old slot_id }
-        requires paid { IsPaidBy self.old (holder self.old slot_id) }
         requires inside { index < entry_count (content_at self.old slot_id) }
         ensures taken { OnOk result (Settles self.old self.new slot_id (with_entry index added (slot_of self.old slot_id))) }
         ensures added { IfOk result (λ b. IsTrue b ↔ (entry_in index (slot_of self.old slot_id) ≡ None)) }
@@ -321,13 +288,13 @@ impl Slots {
         let holder = self.holder(slot_id);
         let content = self.content(slot_id);
         self.trades.laws();
-        content.take(&mut self.trades, &mut self.heaps[holder], index)
+        let account = self.trades.leaf_account(holder);
+        content.take(&mut self.trades, &mut self.heaps[holder], account, index)
     }
 
     /// Removes an entry of a pool, and says whether it did: not where it was absent.
     pub fn give(&mut self, slot_id: SlotId, index: u32) -> bool
         requires there { IsSlotId self.old slot_id }
-        requires paid { IsPaidBy self.old (holder self.old slot_id) }
         requires inside { index < entry_count (content_at self.old slot_id) }
         ensures given { PutsSlot self.old self.new slot_id (with_entry index removed (slot_of self.old slot_id)) }
         ensures absent { (result ≡ false) ↔ (entry_in index (slot_of self.old slot_id) ≡ None) }
@@ -335,13 +302,25 @@ impl Slots {
         let holder = self.holder(slot_id);
         let content = self.content(slot_id);
         self.trades.laws();
-        content.give(&mut self.trades, &mut self.heaps[holder], index)
+        let account = self.trades.leaf_account(holder);
+        content.give(&mut self.trades, &mut self.heaps[holder], account, index)
+    }
+
+    /// Whether an entry of a pool is there.
+    pub fn has_entry(&self, slot_id: SlotId, index: u32) -> bool
+        requires there { IsSlotId self.now slot_id }
+        requires inside { index < entry_count (content_at self.now slot_id) }
+        ensures { (result ≡ false) ↔ (entry_in index (slot_of self.now slot_id) ≡ None) }
+    {
+        let _own = &self.own;
+        let holder = self.holder(slot_id);
+        let content = self.content(slot_id);
+        content.has_entry(&self.trades, &self.heaps[holder], index)
     }
 
     /// The byte of an entry of a pool, 0 where the entry is absent.
     pub fn peek(&self, slot_id: SlotId, index: u32, offset: u32) -> u8
         requires there { IsSlotId self.now slot_id }
-        requires paid { IsPaidBy self.now (holder self.now slot_id) }
         requires inside { (index < entry_count (content_at self.now slot_id)) × (offset < entry_size (content_at self.now slot_id)) }
         ensures { result ≡ entry_byte (entry_in index (slot_of self.now slot_id)) offset }
     {
@@ -354,7 +333,6 @@ impl Slots {
     /// Sets the byte of an entry of a pool; where the entry is absent nothing is done.
     pub fn poke(&mut self, slot_id: SlotId, index: u32, offset: u32, value: u8)
         requires there { IsSlotId self.old slot_id }
-        requires paid { IsPaidBy self.old (holder self.old slot_id) }
         requires inside { (index < entry_count (content_at self.old slot_id)) × (offset < entry_size (content_at self.old slot_id)) }
         ensures { PutsSlot self.old self.new slot_id (with_entry index (λ n. entry_with offset value) (slot_of self.old slot_id)) }
     {
@@ -364,95 +342,17 @@ impl Slots {
         content.poke(&mut self.trades, &self.heaps[holder], index, offset, value);
     }
 
-    // What is in a leaf's own slot. The three calls below that look there are not `inline(always)`: the compiler would then take what they call for rare.
-    #[inline(always)]
-    fn own_content(&self, leaf: usize, slot: u8) -> Content
-        requires { IsSlotId self.now (InLeaf leaf slot) }
-        ensures { result ≡ content_at self.now (InLeaf leaf slot) }
-    {
-        self.own[leaf][usize::from(slot)]
-    }
-
-    /// The byte of an entry of a pool in a leaf's own slot, 0 where the entry is absent, as `peek` reads it; but whether there is one is tested here. `None`
-    /// where that slot holds no pool, or the pool has no such entry, or its entries have no such byte.
-    pub fn peek_own(&self, leaf: usize, slot: u8, index: u32, offset: u32) -> Option<u8>
-        requires there { IsSlotId self.now (InLeaf leaf slot) }
-        requires paid { IsPaidBy self.now leaf }
-        ensures inside { IfSome result (λ b. (index < entry_count (content_at self.now (InLeaf leaf slot)))
-            × (offset < entry_size (content_at self.now (InLeaf leaf slot)))) }
-        ensures read { IfSome result (λ b. b ≡ entry_byte (entry_in index (slot_of self.now (InLeaf leaf slot))) offset) }
-        ensures outside { IfNone result ((entry_count (content_at self.now (InLeaf leaf slot)) ≤ index)
-            ⊎ (entry_size (content_at self.now (InLeaf leaf slot)) ≤ offset)) }
-    {
-        let _own = &self.own;
-        let content = self.own_content(leaf, slot);
-        let Content::Pool(pool) = content else {
-            return None;
-        };
-        if index >= pool.count() || offset >= pool.size() {
-            return None;
-        }
-        Some(content.peek(&self.trades, &self.heaps[leaf], index, offset))
-    }
-
-    /// Sets the byte of an entry of a pool in a leaf's own slot, as `poke` does, where the pool has that byte, and returns whether it has. Where it has not,
-    /// nothing changes.
-    pub fn poke_own(&mut self, leaf: usize, slot: u8, index: u32, offset: u32, value: u8) -> bool
-        requires there { IsSlotId self.old (InLeaf leaf slot) }
-        requires paid { IsPaidBy self.old leaf }
-        ensures inside { result ≡ true → (index < entry_count (content_at self.old (InLeaf leaf slot)))
-            × (offset < entry_size (content_at self.old (InLeaf leaf slot))) }
-        ensures put { result ≡ true → PutsSlot self.old self.new (InLeaf leaf slot)
-            (with_entry index (λ n. entry_with offset value) (slot_of self.old (InLeaf leaf slot))) }
-        ensures outside { result ≡ false → (entry_count (content_at self.old (InLeaf leaf slot)) ≤ index)
-            ⊎ (entry_size (content_at self.old (InLeaf leaf slot)) ≤ offset) }
-        ensures unchanged { result ≡ false → self.new ≡ self.old }
-    {
-        let content = self.own_content(leaf, slot);
-        self.trades.laws();
-        let Content::Pool(pool) = content else {
-            return false;
-        };
-        if index >= pool.count() || offset >= pool.size() {
-            return false;
-        }
-        content.poke(&mut self.trades, &self.heaps[leaf], index, offset, value);
-        true
-    }
-
-    /// Removes an entry of a pool in a leaf's own slot, as `give` does, and says whether it did: not where it was absent. `None` where that slot holds no
-    /// pool, or the pool has no such entry; then nothing changes.
-    pub fn give_own(&mut self, leaf: usize, slot: u8, index: u32) -> Option<bool>
-        requires there { IsSlotId self.old (InLeaf leaf slot) }
-        requires paid { IsPaidBy self.old leaf }
-        ensures inside { IfSome result (λ b. index < entry_count (content_at self.old (InLeaf leaf slot))) }
-        ensures given { IfSome result (λ b. PutsSlot self.old self.new (InLeaf leaf slot) (with_entry index removed (slot_of self.old (InLeaf leaf slot)))) }
-        ensures absent { IfSome result (λ b. (b ≡ false) ↔ (entry_in index (slot_of self.old (InLeaf leaf slot)) ≡ None)) }
-        ensures outside { IfNone result (entry_count (content_at self.old (InLeaf leaf slot)) ≤ index) }
-        ensures unchanged { IfNone result (self.new ≡ self.old) }
-    {
-        let content = self.own_content(leaf, slot);
-        self.trades.laws();
-        let Content::Pool(pool) = content else {
-            return None;
-        };
-        if index >= pool.count() {
-            return None;
-        }
-        Some(content.give(&mut self.trades, &mut self.heaps[leaf], index))
-    }
-
     /// Makes a slot empty, and the memory free that was in it. Pages of the heap's classes stay the heap's, and paid.
     pub fn free(&mut self, slot_id: SlotId)
         requires slot { IsSlot slot_id }
         requires there { IsSlotId self.old slot_id }
-        requires paid { IsPaidBy self.old (holder self.old slot_id) }
         ensures { PutsSlot self.old self.new slot_id world.Empty }
     {
         let holder = self.holder(slot_id);
         let content = self.content(slot_id);
         self.trades.laws();
-        content.free(&mut self.trades, &mut self.heaps[holder]);
+        let account = self.trades.leaf_account(holder);
+        content.free(&mut self.trades, &mut self.heaps[holder], account);
         clear(&mut self.trades, &mut self.own, slot_id);
     }
 
@@ -508,6 +408,6 @@ impl Slots {
     {
         let _own = &self.own;
         self.trades.laws();
-        self.trades.memory().accounts().laws();
+        self.trades.accounts().laws();
     }
 }

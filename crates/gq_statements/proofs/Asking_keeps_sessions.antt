@@ -118,7 +118,6 @@ stays_ask s u k a e =
       leaves = refl;
       objects = refl;
       room = refl;
-      payer = refl;
       price = refl;
       slot_ids = slot_ids s v c;
       holders = holders s v c;
@@ -134,7 +133,6 @@ stays_asked s u q e =
       leaves = refl;
       objects = refl;
       room = refl;
-      payer = refl;
       price = refl;
       slot_ids = slot_ids s v c;
       holders = holders s v c;
@@ -150,7 +148,6 @@ stays_upgraded s u k n there e =
       leaves = refl;
       objects = refl;
       room = refl;
-      payer = refl;
       price = refl;
       slot_ids = slot_ids s v c;
       holders = holders s v c;
@@ -165,7 +162,6 @@ stays_same s u e =
       leaves = refl;
       objects = refl;
       room = refl;
-      payer = refl;
       price = refl;
       slot_ids = λ q there. there;
       holders = λ q there. refl;
@@ -178,7 +174,6 @@ stays_then s u t a b = record {
   leaves = b.accounts.leaves ∙ a.leaves;
   objects = b.accounts.objects ∙ a.objects;
   room = b.accounts.room ∙ a.room;
-  payer = b.accounts.payer ∙ a.payer;
   price = b.accounts.price ∙ a.price;
   slot_ids = λ q h. b.slot_ids q (a.slot_ids q h);
   holders = λ q h. b.holders q ∙ a.holders q h;
@@ -204,7 +199,7 @@ paid_then system f s t l m st o = all_paid system f t m (of_then system f s t l 
 
 -- what is refused for want of bytes, or else of capabilities, is not paid for
 pub unpaid_upgrade : (system : System) (f : Frame) (s : Slots) (k : ℕ) (n : Amount) → AreLawful s → IsOf system f s → IsTaken s.trades.trading.sessions k
-    → (s.trades.trading.memory.ledger.price ≡ 0 → n.caps ≡ 0)
+    → (s.trades.trading.ledger.price ≡ 0 → n.caps ≡ 0)
     → (n.ram ≤ available (its_account s.trades.trading (client_of s.trades.trading k))
     → available_caps (its_account s.trades.trading (client_of s.trades.trading k)) < n.caps)
     → paid system (upgrading (world_seen f s) k n) ≡ false
@@ -215,7 +210,7 @@ unpaid_upgrade system f s k n l o there counted only =
     ]
 
 pub unpaid_open : (system : System) (f : Frame) (s : Slots) (q : world.Session) → AreLawful s → IsOf system f s → q.client < length s.own
-    → (q.client ≡ q.server → ⊥) → (s.trades.trading.memory.ledger.price ≡ 0 → q.donation.caps ≡ 0)
+    → (q.client ≡ q.server → ⊥) → (s.trades.trading.ledger.price ≡ 0 → q.donation.caps ≡ 0)
     → (q.donation.ram ≤ available (its_account s.trades.trading q.client) → available_caps (its_account s.trades.trading q.client) < q.donation.caps)
     → paid system (opening (world_seen f s) q) ≡ false
 unpaid_open system f s q l o below apart counted only =

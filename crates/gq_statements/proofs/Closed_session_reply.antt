@@ -102,7 +102,7 @@ still_mark s m k l n a e =
 
 -- the same system still goes with the slots
 pub still_of : (system : System) (f : Frame) (s m : Slots) → AreLawful s → AreLawful m → m.trades.nodes ≡ s.trades.nodes
-    → m.trades.trading.leaves ≡ s.trades.trading.leaves → m.trades.trading.memory.ledger.price ≡ s.trades.trading.memory.ledger.price
+    → m.trades.trading.leaves ≡ s.trades.trading.leaves → m.trades.trading.ledger.price ≡ s.trades.trading.ledger.price
     → IsOf system f s → IsOf system f m
 still_of system f s m l n nodes leaves price o = record {
   count = o.count ∙ own;
@@ -185,7 +185,7 @@ module _ (f : Frame) (d : Doing) (s : Slots) (k : ℕ) (q : world.Session) (at :
         → reply_close d k q ≡ Ok (world_seen f n, Quiet)
     close_done m n o lm ends puts =
         let price = ends.closes.frees.others.whole.0 in
-        let om = still_of d.system f s m l lm ends.nodes ends.leaves (ap (λ (y : Trading). y.memory.ledger.price) ends.closes.is ∙ price) o in
+        let om = still_of d.system f s m l lm ends.nodes ends.leaves (ap (λ (y : Trading). y.ledger.price) ends.closes.is ∙ price) o in
         let p : paid d.system (ending (world_seen f s) k) ≡ true = ap (paid d.system) (sym (ends.seen_so f)) ∙ all_paid d.system f m lm om in
         close_paid true p
         ∙ ap (λ w. Ok (w, Quiet)) (ap (λ w. with_slot w (slot_id_seen (slot_for s k)) world.Empty) (sym (ends.seen_so f)) ∙ sym (puts.seen_so f))

@@ -2,19 +2,18 @@
 use Rattle.std.proofs.Common.{◌≡◌, length, ap, ◌∙◌, subst}
 use Rattle.std.specs.Prelude.{Result, Ok, Err, OnOk, OnErr}
 use Rattle.gq_ram.specs.Ledgers.{IsBalanced, Ledger}
-use Rattle.gq_trade.specs.Stores.{Memory}
 use Rattle.gq_trade.specs.Trading.{IsTrading}
 use Rattle.gq_trade.specs.Trades.{IsTrades, Trades}
 use Rattle.gq_slots.specs.Slots.{ArePaidFor, AreRead, AreRises, AreSmallEntries, Slots}
 use Rattle.gq_statements.specs.Systems.{AreLawful}
 
-pub lawful : (s : Slots) (w v : Trades) (m : Memory) (b : Ledger) → IsTrades s.trades → length s.own ≡ length s.trades.trading.leaves → ArePaidFor s
-    → AreRead s → AreRises s → AreSmallEntries s → IsTrading w.trading → w ≡ s.trades → IsBalanced b → b ≡ m.ledger → m ≡ v.trading.memory → v ≡ s.trades
+pub lawful : (s : Slots) (w v : Trades) (b : Ledger) → IsTrades s.trades → length s.own ≡ length s.trades.trading.leaves → ArePaidFor s
+    → AreRead s → AreRises s → AreSmallEntries s → IsTrading w.trading → w ≡ s.trades → IsBalanced b → b ≡ v.trading.ledger → v ≡ s.trades
     → AreLawful s
-lawful s w v m b trades count held read rises entries trading we balanced be me ve = record {
+lawful s w v b trades count held read rises entries trading we balanced be ve = record {
   trades = trades;
   trading = subst (λ (y : Trades). IsTrading y.trading) we trading;
-  balanced = subst IsBalanced (be ∙ (ap (λ (y : Memory). y.ledger) me ∙ ap (λ (y : Trades). y.trading.memory.ledger) ve)) balanced;
+  balanced = subst IsBalanced (be ∙ ap (λ (y : Trades). y.trading.ledger) ve) balanced;
   count = count;
   held = held;
   read = read;

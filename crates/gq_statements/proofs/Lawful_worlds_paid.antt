@@ -52,7 +52,7 @@ module _ (system : System) (f : Frame) (s : Slots) (l : AreLawful s) (o : IsOf s
       let ram = ap (λ q. handed q c.node.quantum.ram) e in
       let caps = ap (λ q. handed q c.node.quantum.caps) e in
       subst (λ rs. are_paid w x c leaf rs ≡ true) (sym o.counted)
-      (paid_counted w x c leaf t.memory.ledger.price (eqb t.memory.ledger.price 0) refl
+      (paid_counted w x c leaf t.ledger.price (eqb t.ledger.price 0) refl
       (le-leb _ _ (omega (arith, b.0, ram, p.ram, l.balanced.within (account_of t x))))
       (λ ne. (let h = p.caps ne in le-leb _ _ (omega (arith, b.1, caps, h, l.balanced.caps_within (account_of t x))))))
 

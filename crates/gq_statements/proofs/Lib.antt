@@ -1,8 +1,6 @@
 pub mod Named_pool_entries
 pub mod Named_statement_bytes
 pub mod Byte_access_statements
-pub mod Byte_number_range
-pub mod Named_bytes_payer
 pub mod Unchanged_slot_world
 pub mod Memory_making_statements
 pub mod Refused_means_unpaid
@@ -26,6 +24,7 @@ pub mod Named_statement_link
 pub mod Requested_machine_worlds
 pub mod Asking_keeps_sessions
 pub mod Open_request_worlds
+pub mod Live_account_open
 pub mod Serving_begun
 pub mod Client_slot_commute
 pub mod Closed_session_reply

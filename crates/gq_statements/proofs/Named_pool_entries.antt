@@ -1,10 +1,9 @@
 -- Pools that a statement names, and their entries.
 use Rattle.std.proofs.Common.{◌≡◌, ℕ, ◌<◌, ◌≤◌, ◌↔◌, ◌%◌, Bool, true, false, List, ◌∷◌, length, get_or, Option, Some, None, refl, sym, ap, ◌∙◌, arith}
-use Rattle.std.specs.Prelude.{nat_lt, slice_get, slice_set, IfSome, Ok, Err}
+use Rattle.std.specs.Prelude.{nat_lt, slice_get, slice_set, Ok, Err}
 use Rattle.std.proofs.lemmas.Bool.Decides.{nat_tests}
 use Rattle.std.proofs.lemmas.Option.{slice_get-get_or, slice_get_past}
 use Rattle.gq_model.specs.declared.program.OperandSlot.{OperandSlot}
-use Rattle.gq_model.specs.declared.program.OperandSlot.TheVariants.{Own}
 use Rattle.gq_model.specs.machine.World as world
 use Rattle.gq_model.specs.machine.Doing.{Doing, Quiet, Stepped, need, on_stack, pop, standing, when, with_operands}
 use Rattle.gq_model.specs.declared.fault.Wrong.TheVariants.{UnmappedByte, WrongKind}
@@ -12,16 +11,14 @@ use Rattle.gq_model.specs.machine.Memory.{entry_byte, entry_with, give_entry, if
 use Rattle.gq_store.specs.Store.{Store}
 use Rattle.gq_contents.specs.declared.content.Content.{Content}
 use Rattle.gq_contents.specs.declared.content.Content.TheVariants.{Empty, Block, Slice, Space, Pool, Link, Waiting}
-use Rattle.gq_contents.specs.Contents.{entry_count, entry_in, entry_size, removed, seen, shape_of, with_entry}
+use Rattle.gq_contents.specs.Contents.{entry_count, entry_in, removed, seen, shape_of, with_entry}
 use Rattle.gq_contents.proofs.Content_call_prices.{entries_long}
 use Rattle.gq_trade.specs.declared.session.SlotId.{SlotId}
-use Rattle.gq_trade.specs.declared.session.SlotId.TheVariants.{InLeaf}
 use Rattle.gq_trade.specs.Seen_sessions.{slot_id_seen}
-use Rattle.gq_slots.specs.Slots.{AreRead, Frame, IsSlotId, Slots, holder, memory_of, slot_of, content_at, world_seen}
+use Rattle.gq_slots.specs.Slots.{Frame, Slots, holder, memory_of, slot_of, content_at, world_seen}
 use Rattle.gq_slots.specs.Calls.{PutsSlot}
 use Rattle.gq_slots.proofs.Slot_change_worlds.{set_there}
 use Rattle.gq_statements.specs.declared.actor.Actor.{Actor}
-use Rattle.gq_statements.specs.declared.actor.Current.{Current}
 use Rattle.gq_statements.specs.Slot_statements.{IsBy, Pushes, current_seen, reported}
 use Rattle.gq_slots.specs.Slot_addresses.{place_seen}
 use Rattle.gq_statements.specs.internal.Found.{IsPool, entries_in}
@@ -114,26 +111,6 @@ module _ (d : Doing) (a : Actor) (w : world.World) (place : OperandSlot) (s : Sl
 
 not_below : (i : ℕ) → i < 0 → ⊥
 not_below i lt = omega (arith, lt)
-
--- what has an entry is a pool
-pub shape_is : (t : Content) (i : ℕ) → i < entry_count t → Some (entry_size t, entry_count t) ≡ shape_of t
-shape_is Empty i lt = absurd (not_below i lt)
-shape_is (Block q k) i lt = absurd (not_below i lt)
-shape_is (Slice q k) i lt = absurd (not_below i lt)
-shape_is (Space q k) i lt = absurd (not_below i lt)
-shape_is (Pool q) i lt = refl
-shape_is (Link k) i lt = absurd (not_below i lt)
-shape_is (Waiting k) i lt = absurd (not_below i lt)
-
--- the pool in a slot of the leaf's own
-pub own_pool : (d : Doing) (leaf slot : ℕ) (current : Option Current) (f : Frame) (s : Slots) (i : ℕ) → IsBy d (record { leaf = leaf; current = current })
-    → IsSlotId s (InLeaf leaf slot) → AreRead s → i < entry_count (content_at s (InLeaf leaf slot)) → IsPool d (world_seen f s) (Own slot) s
-    (Some (InLeaf leaf slot, entry_size (content_at s (InLeaf leaf slot)), entry_count (content_at s (InLeaf leaf slot))))
-own_pool d leaf slot current f s i h slot_id reads lt =
-    let p = InLeaf leaf slot in
-    let t = content_at s p in
-    pool_some d (record { leaf = leaf; current = current }) (world_seen f s) (Own slot) s h p t (entry_size t) (entry_count t) refl (reads f p slot_id) refl
-    (shape_is t i lt)
 
 -- ENTRIES
 
@@ -287,19 +264,3 @@ module _ (d : Doing) (place : OperandSlot) (s : Slots) (p : SlotId) (n m : ℕ) 
             ap (λ slot. Ok (world.with_slot (world_seen (f 1) s) (slot_id_seen p) slot, Quiet)) (sym pool)
             ∙ ap (λ y. Ok (y, Quiet)) (sym (puts.seen_so (f 1))) ∙ ap (λ y. reported f t (Ok y)) (sym g)
         by (Some bytes) false e g = let none = absent.0 g in cc
-
--- an entry that is removed from a pool of the leaf's own
-pub own_given : (o : Option Bool) (s t : Slots) (leaf slot i : ℕ) → IsSlotId s (InLeaf leaf slot) → AreRead s
-    → IfSome o (λ b. i < entry_count (content_at s (InLeaf leaf slot)))
-    → IfSome o (λ b. PutsSlot s t (InLeaf leaf slot) (with_entry i removed (slot_of s (InLeaf leaf slot))))
-    → IfSome o (λ b. b ≡ false ↔ entry_in i (slot_of s (InLeaf leaf slot)) ≡ None)
-    → IfSome o (λ b. (f : ℕ → Frame) (d : Doing) (rest : List ℕ) (current : Option Current) → IsBy d (record { leaf = leaf; current = current })
-    → Pushes d rest f s
-    → give_entry d rest (Own slot) i ≡ reported f t (Ok b))
-own_given None s t leaf slot i slot_id reads inside puts absent = tt
-own_given (Some b) s t leaf slot i slot_id reads inside puts absent = λ f d rest current h we.
-    let p = InLeaf leaf slot in
-    let n = entry_size (content_at s p) in
-    let m = entry_count (content_at s p) in
-    give_some d (Own slot) s p n m refl i rest f we (own_pool d leaf slot current (f 1) s i h slot_id reads inside) t b inside (λ g. reads g p slot_id)
-    (pool_seen (memory_of s (holder s p)) (content_at s p) n m (shape_is (content_at s p) i inside)) puts absent

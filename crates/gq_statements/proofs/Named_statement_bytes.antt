@@ -1,6 +1,6 @@
 -- Which bytes a statement names.
 use Rattle.std.proofs.Common.{◌≡◌, ℕ, List, Option, Some, None, refl, sym, ap, ◌∙◌}
-use Rattle.std.specs.Prelude.{Err}
+use Rattle.std.specs.Prelude.{Err, IfSome}
 use Rattle.gq_model.specs.declared.program.OperandSlot.{OperandSlot}
 use Rattle.gq_model.specs.machine.World as world
 use Rattle.gq_model.specs.machine.Doing.{Doing, Stepped, need}
@@ -8,34 +8,35 @@ use Rattle.gq_model.specs.declared.fault.Wrong.TheVariants.{WrongKind}
 use Rattle.gq_model.specs.machine.Memory as memory
 use Rattle.gq_model.specs.machine.Memory.{bytes_at, bytes_slot_id}
 use Rattle.gq_store.specs.Store.{Store}
+use Rattle.gq_store.specs.declared.extent.Extent.{Extent}
 use Rattle.gq_contents.specs.declared.content.Content.{Content}
 use Rattle.gq_contents.specs.declared.content.Content.TheVariants.{Empty, Block, Slice, Space, Pool, Link, Waiting}
-use Rattle.gq_contents.specs.Contents.{bytes_in, seen}
+use Rattle.gq_contents.specs.Contents.{bytes_in, extent_of, seen}
 use Rattle.gq_trade.specs.declared.session.SlotId.{SlotId}
 use Rattle.gq_trade.specs.Seen_sessions.{slot_id_seen}
-use Rattle.gq_slots.specs.Slots.{Frame, Slots, holder, memory_of, content_at, world_seen}
+use Rattle.gq_slots.specs.Slots.{AreRead, Frame, IsExtent, IsSlotId, Slots, holder, memory_of, slot_of, content_at, world_seen}
 use Rattle.gq_slots.specs.Slot_addresses.{AreBuffers, place_seen}
 use Rattle.gq_model.specs.machine.Scenario.{System}
 use Rattle.gq_statements.specs.declared.actor.Actor.{Actor}
 use Rattle.gq_statements.specs.Slot_statements.{IsBy, current_seen}
-use Rattle.gq_statements.specs.internal.Found.{IsFound, byte_count, with_bytes}
+use Rattle.gq_statements.specs.internal.Found.{IsFound, with_bytes}
 
 abbrev Go : Type 0
 Go = List ℕ → (List ℕ → world.World) → Stepped
 
 -- WHAT A SLOT HOLDS
 
-slot_bytes : (w : world.World) (p : world.SlotId) (st : Store) (t : Content) (n : ℕ) (go : Go) → byte_count t ≡ Some n
+slot_bytes : (w : world.World) (p : world.SlotId) (st : Store) (t : Content) (x : Extent) (go : Go) → extent_of t ≡ Some x
     → memory.bytes_in w p (Some (seen st t)) go ≡ go (bytes_in (seen st t)) (λ new. world.with_slot w p (with_bytes new (seen st t)))
-slot_bytes w p st Empty n go e = cc
-slot_bytes w p st (Block q m) n go e = refl
-slot_bytes w p st (Slice k m) n go e = refl
-slot_bytes w p st (Space k m) n go e = refl
-slot_bytes w p st (Pool q) n go e = cc
-slot_bytes w p st (Link k) n go e = cc
-slot_bytes w p st (Waiting k) n go e = cc
+slot_bytes w p st Empty x go e = cc
+slot_bytes w p st (Block q m) x go e = refl
+slot_bytes w p st (Slice k m) x go e = refl
+slot_bytes w p st (Space k m) x go e = refl
+slot_bytes w p st (Pool q) x go e = cc
+slot_bytes w p st (Link k) x go e = cc
+slot_bytes w p st (Waiting k) x go e = cc
 
-no_bytes : (w : world.World) (p : world.SlotId) (st : Store) (t : Content) (go : Go) → byte_count t ≡ None
+no_bytes : (w : world.World) (p : world.SlotId) (st : Store) (t : Content) (go : Go) → extent_of t ≡ None
     → memory.bytes_in w p (Some (seen st t)) go ≡ Err WrongKind
 no_bytes w p st Empty go e = refl
 no_bytes w p st (Block q m) go e = cc
@@ -67,18 +68,24 @@ module _ (d : Doing) (w : world.World) (place : OperandSlot) (s : Slots) where
   placed_at q p t go e f g = named_at q go e ∙ ap (λ o. need o WrongKind (λ slot_id. memory.bytes_in w slot_id (world.slot_at w slot_id) go)) f
       ∙ ap (λ o. memory.bytes_in w (slot_id_seen p) o go) g
 
-  -- other contents than bytes stand there
-  pub of_others : (q : world.SlotId) (p : SlotId) (t : Content) → world.slot_id_of d.x d.leaf.current place ≡ Some q
-      → bytes_slot_id d.system w (world.slot_at w q) q ≡ Some (slot_id_seen p) → world.slot_at w (slot_id_seen p) ≡ Some (seen (memory_of s (holder s p)) t)
-      → byte_count t ≡ None → IsFound d w place s None
-  of_others q p t e f g h go = placed_at q p t go e f g ∙ no_bytes w (slot_id_seen p) (memory_of s (holder s p)) t go h
+  -- A step goes on with the bytes that stand there, if any do.
+  pub at_slot : (q : world.SlotId) (p : SlotId) (o : Option Extent) → world.slot_id_of d.x d.leaf.current place ≡ Some q
+      → bytes_slot_id d.system w (world.slot_at w q) q ≡ Some (slot_id_seen p) → world.slot_at w (slot_id_seen p) ≡ Some (slot_of s p)
+      → IsSlotId s p → o ≡ extent_of (content_at s p) → IsFound d w place s o
+  at_slot q p None e f g there h =
+      λ go. placed_at q p (content_at s p) go e f g ∙ no_bytes w (slot_id_seen p) (memory_of s (holder s p)) (content_at s p) go (sym h)
+  at_slot q p (Some x) e f g there h = record {
+    slot_id = p;
+    there = there;
+    is = sym h;
+    goes =
+        λ go. placed_at q p (content_at s p) go e f g ∙ slot_bytes w (slot_id_seen p) (memory_of s (holder s p)) (content_at s p) x go (sym h);
+  }
 
-  -- bytes stand there
-  pub of_bytes : (q : world.SlotId) (p : SlotId) (t : Content) (n : ℕ) → world.slot_id_of d.x d.leaf.current place ≡ Some q
-      → bytes_slot_id d.system w (world.slot_at w q) q ≡ Some (slot_id_seen p) → world.slot_at w (slot_id_seen p) ≡ Some (seen (memory_of s (holder s p)) t)
-      → t ≡ content_at s p → byte_count t ≡ Some n → IsFound d w place s (Some (p, n))
-  of_bytes q p t n e f g same h go = placed_at q p t go e f g ∙ slot_bytes w (slot_id_seen p) (memory_of s (holder s p)) t n go h
-      ∙ ap (λ y. let slot = seen (memory_of s (holder s p)) y in go (bytes_in slot) (λ new. world.with_slot w (slot_id_seen p) (with_bytes new slot))) same
+-- what lies there lies in this slot
+pub is_extent : (s : Slots) (p : SlotId) (o : Option Extent) → IsSlotId s p → o ≡ extent_of (content_at s p) → IfSome o (λ x. IsExtent s x)
+is_extent s p None there h = tt
+is_extent s p (Some x) there h = record { slot_id = p; there = there; is = sym h }
 
 -- BYTES OF A LEAF THAT DOES A STATEMENT
 
@@ -101,16 +108,7 @@ module _ (d : Doing) (a : Actor) (f : Frame) (s : Slots) (bs : List ℕ) (place 
   found_nowhere q r e n p =
       nowhere d (world_seen f s) place s (slot_id_seen q) (same_slot_id d a place (Some q) h e) (sym (p f d.system buffers) ∙ ap place_seen n)
 
-  abbrev Reads : SlotId → Content → Type 0
-  Reads p t = (g : Frame) → world.slot_at (world_seen g s) (slot_id_seen p) ≡ Some (seen (memory_of s (holder s p)) t)
-
-  pub found_others : (q p : SlotId) (t : Content) (n : Option ℕ) → place_seen (Some q) ≡ world.slot_id_of a.leaf (current_seen a.current) place → Placed q
-      (Some p)
-      → Reads p t → n ≡ byte_count t → n ≡ None → IsFound d (world_seen f s) place s None
-  found_others q p t n e g r is none =
-      of_others d (world_seen f s) place s (slot_id_seen q) p t (same_slot_id d a place (Some q) h e) (sym (g f d.system buffers)) (r f) (sym is ∙ none)
-
-  pub found_bytes : (q p : SlotId) (t : Content) (n : ℕ) → place_seen (Some q) ≡ world.slot_id_of a.leaf (current_seen a.current) place → Placed q (Some p)
-      → Reads p t → t ≡ content_at s p → Some n ≡ byte_count t → IsFound d (world_seen f s) place s (Some (p, n))
-  found_bytes q p t n e g r same is =
-      of_bytes d (world_seen f s) place s (slot_id_seen q) p t n (same_slot_id d a place (Some q) h e) (sym (g f d.system buffers)) (r f) same (sym is)
+  pub found_at : (q p : SlotId) (o : Option Extent) → place_seen (Some q) ≡ world.slot_id_of a.leaf (current_seen a.current) place → Placed q (Some p)
+      → AreRead s → IsSlotId s p → o ≡ extent_of (content_at s p) → IsFound d (world_seen f s) place s o
+  found_at q p o e g reads there is =
+      at_slot d (world_seen f s) place s (slot_id_seen q) p o (same_slot_id d a place (Some q) h e) (sym (g f d.system buffers)) (reads f p there) there is

@@ -103,13 +103,13 @@ module _ (system : System) (f : Frame) (s : Slots) (l : AreLawful s) (o : IsOf s
         let cost = fits_in q.server x (price_memory Ram form.Slice n) (λ y. (its_account t y).used.ram) (λ y. (its_account t y).quota.ram)
         (l.balanced.within (account_of t x)) (omega (arith, bytes, l.balanced.within (account_of t q.server))) in
         subst (λ rs. are_paid v x c leaf rs ≡ true) (sym o.counted)
-        (paid_counted v x c leaf t.memory.ledger.price (eqb t.memory.ledger.price 0) refl
+        (paid_counted v x c leaf t.ledger.price (eqb t.ledger.price 0) refl
         (let held = held_begun Ram w x k seen_as found n rest object leaf in
         let lent = lent_begun Ram w x k seen_as found n rest in
         let received = received_begun Ram w x k seen_as found n rest in
         le-leb _ _ (omega (arith, b.0, ram, p.ram, held, lent, received, cost)))
         (λ ne. (let h = p.caps ne in
-        let some = left_counted t.memory.ledger.price (available_caps (its_account t q.server)) (eqb t.memory.ledger.price 0) refl ne caps_left in
+        let some = left_counted t.ledger.price (available_caps (its_account t q.server)) (eqb t.ledger.price 0) refl ne caps_left in
         let held = held_begun Caps w x k seen_as found n rest object leaf in
         let lent = lent_begun Caps w x k seen_as found n rest in
         let received = received_begun Caps w x k seen_as found n rest in

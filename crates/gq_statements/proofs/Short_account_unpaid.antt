@@ -100,17 +100,17 @@ module _ (system : System) (f : Frame) (s : Slots) (l : AreLawful s) (o : IsOf s
       let e = ap (λ p. handed p component.0.node.quantum.caps) (phase_seen f.leaf (memory_of s) s.own s.heaps x leaf stands) in
       omega (arith, b.1, e)
 
-  used_is : (r : Resource) → IsPriced r s.trades.trading.memory.ledger.price → part r account.used ≡ held r w x leaf
+  used_is : (r : Resource) → IsPriced r s.trades.trading.ledger.price → part r account.used ≡ held r w x leaf
   used_is Ram p = (l.held f x leaf stands).ram
   used_is Caps p = (l.held f x leaf stands).caps p
 
-  among : (r : Resource) → IsPriced r s.trades.trading.memory.ledger.price → IsAmong r system.counted
+  among : (r : Resource) → IsPriced r s.trades.trading.ledger.price → IsAmong r system.counted
   among r p =
-      let price = s.trades.trading.memory.ledger.price in
+      let price = s.trades.trading.ledger.price in
       subst (IsAmong r) (sym o.counted) (among_at r price (eqb price 0) refl p)
 
   -- the account can't pay what the leaf would hold and have lent more, or have received less
-  pub short : (r : Resource) → IsPriced r s.trades.trading.memory.ledger.price → (v : world.World) → slice_get v.leaves x ≡ Some leaf
+  pub short : (r : Resource) → IsPriced r s.trades.trading.ledger.price → (v : world.World) → slice_get v.leaves x ≡ Some leaf
       → left_in r account + held r w x leaf + lent r w x + received r v x < held r v x leaf + lent r v x + received r w x → paid system v ≡ false
   short r p v there more =
       let b = balance r in

@@ -155,11 +155,11 @@ module _ (d : Doing) (e : Frame) (s : Slots) (x : ℕ) (is : d.x ≡ x) (same : 
     missing h m = accept_is true h ∙ need_none body (Ok (new, Quiet)) m
 
     begun_price : (a : Ask) (v : Trading) → BeginsIn a s.trades.trading (with_requests v s.trades.trading.requests) k
-        → v.memory.ledger.price ≡ s.trades.trading.memory.ledger.price
+        → v.ledger.price ≡ s.trades.trading.ledger.price
     begun_price Open v h = h.makes.others.whole.0
-    begun_price Upgrade v h = ap (λ (y : Trading). y.memory.ledger.price) h
-    begun_price Close v h = ap (λ (y : Trading). y.memory.ledger.price) h
-    begun_price (Call a) v h = ap (λ (y : Trading). y.memory.ledger.price) h
+    begun_price Upgrade v h = ap (λ (y : Trading). y.ledger.price) h
+    begun_price Close v h = ap (λ (y : Trading). y.ledger.price) h
+    begun_price (Call a) v h = ap (λ (y : Trading). y.ledger.price) h
 
     pub begun_now : (t : Slots) → AreLawful s → AreLawful t → TakesOldest s t x r → is_some body ≡ true
         → accept_oldest d (oldest d.world d.x d.world.requests) ≡ Ok (world_seen g t, Quiet)

@@ -61,7 +61,7 @@ module _ (system : System) (f : Frame) (s : Slots) (l : AreLawful s) (o : IsOf s
       let b = balances system f s x c l lt there o in
       let e = ap (λ q. handed q c.node.quantum.ram) (phase_seen f.leaf (memory_of s) s.own s.heaps x leaf stands) in
       record {
-        among = subst (IsAmong Ram) (sym o.counted) (ram_among (eqb t.memory.ledger.price 0));
+        among = subst (IsAmong Ram) (sym o.counted) (ram_among (eqb t.ledger.price 0));
         more = omega (arith, b.0, e, p.ram, l.balanced.within (account_of t x), lacks);
       }
   short Caps c leaf n there stands lacks =
@@ -69,10 +69,10 @@ module _ (system : System) (f : Frame) (s : Slots) (l : AreLawful s) (o : IsOf s
       let p = l.held f x leaf stands in
       let b = balances system f s x c l lt there o in
       let e = ap (λ q. handed q c.node.quantum.caps) (phase_seen f.leaf (memory_of s) s.own s.heaps x leaf stands) in
-      let none = counted_caps t.memory.ledger.price (its_account t x).quota.caps (its_account t x).used.caps (eqb t.memory.ledger.price 0) refl lacks.0 in
+      let none = counted_caps t.ledger.price (its_account t x).quota.caps (its_account t x).used.caps (eqb t.ledger.price 0) refl lacks.0 in
       let h = p.caps none.0 in
       record {
-        among = subst (IsAmong Caps) (sym o.counted) (caps_among t.memory.ledger.price none.0);
+        among = subst (IsAmong Caps) (sym o.counted) (caps_among t.ledger.price none.0);
         more = omega (arith, b.1, e, h, none.1, lacks.1);
       }
 

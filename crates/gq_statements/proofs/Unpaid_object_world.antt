@@ -49,7 +49,7 @@ module _ (system : System) (f : Frame) (s : Slots) (l : AreLawful s) (o : IsOf s
     found : world.session_at (world_seen f s) k ≡ Some seen_as
     found = ap world.joined (session_there (λ y. session_seen f.names (memory_of s y.server) y) s.trades.trading.sessions k there)
 
-    begun_short : q.object ≡ Empty → (r : Resource) → IsPriced r s.trades.trading.memory.ledger.price
+    begun_short : q.object ≡ Empty → (r : Resource) → IsPriced r s.trades.trading.ledger.price
         → left_in r (its_account s.trades.trading q.server) < price_memory r form.Slice n → paid system (accepting (world_seen f s) k Open n rest) ≡ false
     begun_short none r p lacks =
         let w = world_seen f s in
@@ -69,7 +69,7 @@ module _ (system : System) (f : Frame) (s : Slots) (l : AreLawful s) (o : IsOf s
 
     begun_caps : (a : Ask) → (a ≡ Open → q.object ≡ Empty) → LacksCaps a s.trades.trading k → paid system (accepting (world_seen f s) k a n rest) ≡ false
     begun_caps Open none lacks =
-        let price = s.trades.trading.memory.ledger.price in
+        let price = s.trades.trading.ledger.price in
         let left = none_left price (available_caps (its_account s.trades.trading q.server)) (eqb price 0) refl lacks.1 in
         begun_short (none refl) Caps left.0 (omega (arith, left.1))
     begun_caps Upgrade none lacks = absurd lacks

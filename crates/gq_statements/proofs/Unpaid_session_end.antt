@@ -82,7 +82,7 @@ module _ (system : System) (f : Frame) (s : Slots) (l : AreLawful s) (o : IsOf s
   found : world.session_at (world_seen f s) k ≡ Some seen_as
   found = ap world.joined (session_there (λ y. session_seen f.names (memory_of s y.server) y) s.trades.trading.sessions k there)
 
-  ending_short : (r : Resource) → IsPriced r s.trades.trading.memory.ledger.price
+  ending_short : (r : Resource) → IsPriced r s.trades.trading.ledger.price
       → left_in r (its_account s.trades.trading q.server) + slot_price r (seen (memory_of s q.server) q.object) < part r q.donation
       → paid system (ending (world_seen f s) k) ≡ false
   ending_short r p lacks =
@@ -106,5 +106,5 @@ module _ (system : System) (f : Frame) (s : Slots) (l : AreLawful s) (o : IsOf s
   unpaid_ending_caps lacks =
       let most = object_caps (memory_of s q.server) q.object in
       let t = s.trades.trading in
-      ending_short Caps (caps_priced t.memory.ledger.price q.donation.caps (caps_then t k) (l.trades.sessions k there).counted lacks)
+      ending_short Caps (caps_priced t.ledger.price q.donation.caps (caps_then t k) (l.trades.sessions k there).counted lacks)
       (omega (arith, most, lacks))

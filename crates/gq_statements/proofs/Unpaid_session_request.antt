@@ -31,7 +31,7 @@ module _ (system : System) (f : Frame) (s : Slots) (l : AreLawful s) (o : IsOf s
     abbrev h : HasLeaf f s q.client
     h = has_leaf f s q.client l below
 
-    opening_short : (r : Resource) → IsPriced r s.trades.trading.memory.ledger.price → left_in r (its_account s.trades.trading q.client) < part r q.donation
+    opening_short : (r : Resource) → IsPriced r s.trades.trading.ledger.price → left_in r (its_account s.trades.trading q.client) < part r q.donation
         → paid system (opening (world_seen f s) q) ≡ false
     opening_short r p lacks =
         let w = world_seen f s in
@@ -46,11 +46,11 @@ module _ (system : System) (f : Frame) (s : Slots) (l : AreLawful s) (o : IsOf s
     pub unpaid_opening : available (its_account s.trades.trading q.client) < q.donation.ram → paid system (opening (world_seen f s) q) ≡ false
     unpaid_opening lacks = opening_short Ram tt lacks
 
-    pub unpaid_opening_caps : (s.trades.trading.memory.ledger.price ≡ 0 → q.donation.caps ≡ 0)
+    pub unpaid_opening_caps : (s.trades.trading.ledger.price ≡ 0 → q.donation.caps ≡ 0)
         → available_caps (its_account s.trades.trading q.client) < q.donation.caps → paid system (opening (world_seen f s) q) ≡ false
     unpaid_opening_caps counted lacks =
         let t = s.trades.trading in
-        opening_short Caps (caps_priced t.memory.ledger.price q.donation.caps (available_caps (its_account t q.client)) counted lacks) lacks
+        opening_short Caps (caps_priced t.ledger.price q.donation.caps (available_caps (its_account t q.client)) counted lacks) lacks
 
   -- SESSIONS FOR WHICH MORE IS ASKED
 
@@ -67,7 +67,7 @@ module _ (system : System) (f : Frame) (s : Slots) (l : AreLawful s) (o : IsOf s
     found : world.session_at (world_seen f s) k ≡ Some seen_as
     found = ap world.joined (session_there (λ y. session_seen f.names (memory_of s y.server) y) s.trades.trading.sessions k there)
 
-    upgrading_short : (r : Resource) → IsPriced r s.trades.trading.memory.ledger.price → left_in r (its_account s.trades.trading q.client) < part r n
+    upgrading_short : (r : Resource) → IsPriced r s.trades.trading.ledger.price → left_in r (its_account s.trades.trading q.client) < part r n
         → paid system (upgrading (world_seen f s) k n) ≡ false
     upgrading_short r p lacks =
         let w = world_seen f s in
@@ -86,8 +86,8 @@ module _ (system : System) (f : Frame) (s : Slots) (l : AreLawful s) (o : IsOf s
         → paid system (upgrading (world_seen f s) k n) ≡ false
     unpaid_upgrading lacks = upgrading_short Ram tt lacks
 
-    pub unpaid_upgrading_caps : (s.trades.trading.memory.ledger.price ≡ 0 → n.caps ≡ 0)
+    pub unpaid_upgrading_caps : (s.trades.trading.ledger.price ≡ 0 → n.caps ≡ 0)
         → available_caps (its_account s.trades.trading (client_of s.trades.trading k)) < n.caps → paid system (upgrading (world_seen f s) k n) ≡ false
     unpaid_upgrading_caps counted lacks =
         let t = s.trades.trading in
-        upgrading_short Caps (caps_priced t.memory.ledger.price n.caps (available_caps (its_account t q.client)) counted lacks) lacks
+        upgrading_short Caps (caps_priced t.ledger.price n.caps (available_caps (its_account t q.client)) counted lacks) lacks

@@ -35,7 +35,7 @@ pub record CanAsk (s : Slots) (a : Actor) : Type 0 where
 pub record CanOpen (s : Slots) (x : ℕ) (to : Option ℕ) (number : ℕ) (donation : Amount) : Type 0 where
   pub server : IfSome to (λ y. IsLive s.trades y × (x ≡ y → ⊥))
   pub service : number < length s.trades.trading.objects
-  pub counted : s.trades.trading.memory.ledger.price ≡ 0 → donation.caps ≡ 0
+  pub counted : s.trades.trading.ledger.price ≡ 0 → donation.caps ≡ 0
   pub room : free_number s.trades.trading.sessions < s.trades.trading.room
   pub small : free_number s.trades.trading.sessions < 4294967296
 
@@ -73,8 +73,7 @@ pub record Stays (old new : Slots) : Type 0 where
   pub leaves : new.trades.trading.leaves ≡ old.trades.trading.leaves
   pub objects : new.trades.trading.objects ≡ old.trades.trading.objects
   pub room : new.trades.trading.room ≡ old.trades.trading.room
-  pub payer : new.trades.trading.memory.payer ≡ old.trades.trading.memory.payer
-  pub price : new.trades.trading.memory.ledger.price ≡ old.trades.trading.memory.ledger.price
+  pub price : new.trades.trading.ledger.price ≡ old.trades.trading.ledger.price
   -- each slot stays, and is paid for by the same leaf
   pub slot_ids : (q : SlotId) → IsSlotId old q → IsSlotId new q
   pub holders : (q : SlotId) → IsSlotId old q → holder new q ≡ holder old q

@@ -67,7 +67,7 @@ pub record IsNextRequest (s : Slots) (x : ℕ) (r : Request) : Type 0 where
 pub record KnowsService (s : Slots) (k size : ℕ) (counts : Bool) : Type 0 where
   pub object : object_size s.trades.trading k ≡ size
   pub small : size ≤ 67108864
-  pub counted : counts ≡ not (nat_eq s.trades.trading.memory.ledger.price 0)
+  pub counted : counts ≡ not (nat_eq s.trades.trading.ledger.price 0)
 
 -- the place of a section among all
 abbrev pub place : Section → ℕ

@@ -1,19 +1,13 @@
 -- What a statement of a leaf on slots makes of the machine's world.
 use Rattle.std.specs.Prelude.{◌≡◌, ℕ, if◌then◌else◌, Bool, false, List, ◌∷◌, Option, Some, None, Result, Ok, Err, OnErr}
-use Rattle.gq_tariff.specs.Prices.{up}
 use Rattle.gq_model.specs.machine.World as world
 use Rattle.gq_model.specs.machine.Doing.{Doing, Quiet, Stepped, on_stack, standing, with_operands}
 use Rattle.gq_model.specs.declared.fault.Wrong.{Wrong}
 use Rattle.gq_trade.specs.Numbers.{IsTaken}
 use Rattle.gq_trade.specs.Trading.{server_of}
-use Rattle.gq_trade.specs.declared.session.SlotId.{SlotId}
-use Rattle.gq_trade.specs.declared.session.SlotId.TheVariants.{InLeaf}
-use Rattle.gq_contents.specs.declared.content.Content.{Content}
-use Rattle.gq_contents.specs.declared.content.Content.TheVariants as content
 use Rattle.gq_trade.specs.Trades.{IsLive}
-use Rattle.gq_slots.specs.Slots.{Frame, IsPaidBy, IsSlotId, Slots, content_at, world_seen}
+use Rattle.gq_slots.specs.Slots.{Frame, Slots, world_seen}
 use Rattle.gq_slots.specs.Calls.{SameBeside}
-use Rattle.gq_slots.specs.Slot_addresses.{IsLinked}
 use Rattle.gq_statements.specs.declared.actor.Current.{Current}
 use Rattle.gq_statements.specs.declared.actor.Actor.{Actor}
 
@@ -32,17 +26,6 @@ pub record IsActor (s : Slots) (a : Actor) : Type 0 where
   pub live : IsLive s.trades a.leaf
   pub current : IsCurrent s a.leaf a.current
 
--- a live leaf that pays, with its current request
-pub record Acting (s : Slots) (a : Actor) : Type 0 where
-  pub live : IsLive s.trades a.leaf
-  pub paid : IsPaidBy s a.leaf
-  pub current : IsCurrent s a.leaf a.current
-
--- a live leaf that pays, whatever its current request
-pub record IsPaying (s : Slots) (x : ℕ) : Type 0 where
-  pub live : IsLive s.trades x
-  pub paid : IsPaidBy s x
-
 -- What a statement leaves: all beside the contents of slots, and the contents, too, where it is wrong.
 pub record LeavesRest {A : Type 0} (result : Result A Wrong) (old new : Slots) : Type 0 where
   pub beside : SameBeside old new
@@ -52,10 +35,6 @@ pub record LeavesRest {A : Type 0} (result : Result A Wrong) (old new : Slots) :
 pub record LeavesRestIf (done : Bool) (old new : Slots) : Type 0 where
   pub beside : SameBeside old new
   pub unchanged : done ≡ false → new ≡ old
-
--- each link that is in a slot leads to a session that is there
-abbrev pub AreLinked : Slots → Type 0
-AreLinked s = (p : SlotId) → IsSlotId s p → IsLinked s p
 
 -- it is a step of this leaf, with its current request
 pub record IsBy (d : Doing) (a : Actor) : Type 0 where
@@ -80,11 +59,3 @@ reported f s (Err wrong) = Err wrong
 abbrev pub done : Result (Unit {0}) Wrong → world.World → Stepped
 done (Ok u) w = Ok (w, Quiet)
 done (Err wrong) w = Err wrong
-
--- the bytes of the space that is in a leaf's own slot, if one is
-abbrev pub space_size : Content → Option ℕ
-space_size (content.Space chunk n) = Some (up n)
-space_size _ = None
-
-abbrev pub space_in : Slots → ℕ → ℕ → Option ℕ
-space_in s leaf slot = space_size (content_at s (InLeaf leaf slot))

@@ -29,7 +29,7 @@ counted_at price = if price == 0 then Ram ∷ [] else Ram ∷ Caps ∷ []
 -- have a price.
 pub record IsOf (system : System) (f : Frame) (s : Slots) : Type 0 where
   pub count : length system.components ≡ length s.own
-  pub counted : system.counted ≡ counted_at s.trades.trading.memory.ledger.price
+  pub counted : system.counted ≡ counted_at s.trades.trading.ledger.price
   pub quanta : (x : ℕ) (c : Component) → slice_get system.components x ≡ Some c → (node_at s.trades.nodes (node_of s.trades.trading x)).quantum ≡ c.node.quantum
   pub stages : (x : ℕ) → x < length s.own → (node_at s.trades.nodes (node_of s.trades.trading x)).stage ≡ stage_in (f.leaf x).phase
 
@@ -37,7 +37,7 @@ pub record IsOf (system : System) (f : Frame) (s : Slots) : Type 0 where
 pub record AreLawful (s : Slots) : Type 0 where
   pub trades : IsTrades s.trades
   pub trading : IsTrading s.trades.trading
-  pub balanced : IsBalanced s.trades.trading.memory.ledger
+  pub balanced : IsBalanced s.trades.trading.ledger
   pub count : length s.own ≡ length s.trades.trading.leaves
   pub held : ArePaidFor s
   pub rises : AreRises s

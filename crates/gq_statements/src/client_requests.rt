@@ -120,7 +120,7 @@ pub fn upgrade(
     requires place { IsTrue (is_slot place) }
     requires asks { CanAsk slots.old actor }
     requires linked { OwnsLinks slots.old actor.leaf }
-    requires counted { slots.old.trades.trading.memory.ledger.price ≡ 0 → donation.caps ≡ 0 }
+    requires counted { slots.old.trades.trading.ledger.price ≡ 0 → donation.caps ≡ 0 }
     ensures step { (before after : Frame) (d : Doing) (n : ℕ) → IsBy d actor → IsOf d.system after slots.old → Blocks d d.leaf before after slots.old
         → IsNextLevel d place n donation → requests.upgrade d place n ≡ done result (world_seen after slots.new) }
     ensures leaves { LeavesNodes result slots.old slots.new }

@@ -53,6 +53,4 @@ pub mod request_laws;
 pub mod serving_requests;
 
 pub use actor::{Actor, Current};
-pub use byte_statements::{load_own, store_own};
 pub use client_requests::{call, close, link, open, upgrade};
-pub use pool_statements::{give_own, peek_own, poke_own};

@@ -24,7 +24,7 @@ pub fn lawful(slots: &Slots)
 {
     slots.laws();
     slots.trades().laws();
-    slots.trades().memory().accounts().laws();
+    slots.trades().accounts().laws();
 }
 
 /// In the machine's world of lawful slots every leaf is paid for. What a leaf was handed and has received there is the quota of its account and what it has

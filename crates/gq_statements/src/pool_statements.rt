@@ -1,15 +1,10 @@
 // Statements on the entries of pools.
-ghost use Rattle.std.specs.Prelude.{◌≡◌, ◌<◌, ◌≤◌, ◌∷◌, ◌⊎◌, List, ℕ, IfNone, IfSome, IsTrue, Ok, Option, false, true};
-ghost use Rattle.gq_model.specs.declared.program.OperandSlot.TheVariants.{Own};
+ghost use Rattle.std.specs.Prelude.{◌≡◌, ◌∷◌, List, ℕ, IfSome, IsTrue};
 ghost use Rattle.gq_model.specs.machine.Doing.{Doing, standing, with_operands};
 ghost use Rattle.gq_model.specs.machine.Memory as memory;
 ghost use Rattle.gq_model.specs.texts.Operands.{is_slot};
-ghost use Rattle.gq_slots.specs.Slots.{Frame, content_at, world_seen};
-ghost use Rattle.gq_trade.specs.declared.session.SlotId.TheVariants.{InLeaf};
-ghost use Rattle.gq_slots.specs.Calls.{SameBeside};
-ghost use Rattle.gq_contents.specs.Contents.{entry_count, entry_size};
-ghost use Rattle.gq_statements.specs.declared.actor.Current.{Current};
-ghost use Rattle.gq_statements.specs.Slot_statements.{Acting, IsActor, IsBy, IsPaying, LeavesRest, LeavesRestIf, Pushes, done, read, reported};
+ghost use Rattle.gq_slots.specs.Slots.{Frame, world_seen};
+ghost use Rattle.gq_statements.specs.Slot_statements.{IsActor, IsBy, LeavesRest, Pushes, done, read, reported};
 ghost use Rattle.gq_statements.specs.internal.Found.{IsOwnPool, IsPool};
 
 use crate::actor::Actor;
@@ -44,7 +39,7 @@ impl Actor {
         offset: u32,
     ) -> Result<u32, Wrong>
         requires place { IsTrue (is_slot place) }
-        requires acting { Acting slots.now self }
+        requires acting { IsActor slots.now self }
         ensures step { (f : Frame) (d : Doing) (rest : List ℕ) → IsBy d self → d.world ≡ world_seen f slots.now
             → d.leaf.operands ≡ offset ∷ index ∷ rest → memory.peek d place ≡ read d rest result }
     {
@@ -71,7 +66,7 @@ impl Actor {
         value: u32,
     ) -> Result<(), Wrong>
         requires place { IsTrue (is_slot place) }
-        requires acting { Acting slots.old self }
+        requires acting { IsActor slots.old self }
         ensures step { (f : Frame) (d : Doing) (rest : List ℕ) → IsBy d self → standing d (with_operands d rest) ≡ world_seen f slots.old
             → d.leaf.operands ≡ value ∷ offset ∷ index ∷ rest → memory.poke d place ≡ done result (world_seen f slots.new) }
         ensures leaves { LeavesRest result slots.old slots.new }
@@ -93,7 +88,7 @@ impl Actor {
     /// such entry; then nothing changes.
     pub fn give(self, slots: &mut Slots, place: OperandSlot, index: u32) -> Result<bool, Wrong>
         requires place { IsTrue (is_slot place) }
-        requires acting { Acting slots.old self }
+        requires acting { IsActor slots.old self }
         ensures step { (f : ℕ → Frame) (d : Doing) (rest : List ℕ) → IsBy d self → Pushes d rest f slots.old
             → memory.give_entry d rest place index ≡ reported f slots.new result }
         ensures leaves { LeavesRest result slots.old slots.new }
@@ -106,64 +101,4 @@ impl Actor {
         }
         Ok(slots.give(slot_id, index))
     }
-}
-
-/// Reads the byte of an entry of a pool in a slot of the leaf's own, 0 where the entry is absent, whatever its current request. `None` where that slot holds
-/// no pool, or the pool has no such entry, or its entries have no such byte: then `Actor::peek` reports what the statement is. Most statements on pools are of
-/// this kind.
-#[inline(always)]
-pub fn peek_own(leaf: usize, slots: &Slots, slot: u8, index: u32, offset: u32) -> Option<u32>
-    requires slot { slot < 64 }
-    requires paying { IsPaying slots.now leaf }
-    ensures step { IfSome result (λ n. (f : Frame) (d : Doing) (rest : List ℕ) (current : Option Current) → IsBy d (record { leaf = leaf; current = current })
-        → d.world ≡ world_seen f slots.now → d.leaf.operands ≡ offset ∷ index ∷ rest → memory.peek d (Own slot) ≡ read d rest (Ok n)) }
-    ensures short { IfNone result ((entry_count (content_at slots.now (InLeaf leaf slot)) ≤ index)
-        ⊎ (entry_size (content_at slots.now (InLeaf leaf slot)) ≤ offset)) }
-{
-    slots.laws();
-    match slots.peek_own(leaf, slot, index, offset) {
-        None => None,
-        Some(byte) => Some(u32::from(byte)),
-    }
-}
-
-/// Sets the byte of an entry of a pool in a slot of the leaf's own to the lowest byte of a number. Returns whether the pool has that byte. If the entry is
-/// absent nothing changes. Where the pool has no such byte, nothing changes, and `Actor::poke` reports what the statement is.
-#[inline(always)]
-pub fn poke_own(
-    leaf: usize,
-    slots: &mut Slots,
-    slot: u8,
-    index: u32,
-    offset: u32,
-    value: u32,
-) -> bool
-    requires slot { slot < 64 }
-    requires paying { IsPaying slots.old leaf }
-    ensures step { result ≡ true → (f : Frame) (d : Doing) (rest : List ℕ) (current : Option Current) → IsBy d (record { leaf = leaf; current = current })
-        → standing d (with_operands d rest) ≡ world_seen f slots.old → d.leaf.operands ≡ value ∷ offset ∷ index ∷ rest
-        → memory.poke d (Own slot) ≡ done (Ok tt) (world_seen f slots.new) }
-    ensures leaves { LeavesRestIf result slots.old slots.new }
-    ensures short { result ≡ false → (entry_count (content_at slots.old (InLeaf leaf slot)) ≤ index)
-        ⊎ (entry_size (content_at slots.old (InLeaf leaf slot)) ≤ offset) }
-{
-    slots.laws();
-    slots.poke_own(leaf, slot, index, offset, (value % 256) as u8)
-}
-
-/// Removes an entry of a pool in a slot of the leaf's own, and says whether it did: not where it was absent. `None` where that slot holds no pool, or the
-/// pool has no such entry: then `Actor::give` reports what the statement is, and nothing changes.
-#[inline(always)]
-pub fn give_own(leaf: usize, slots: &mut Slots, slot: u8, index: u32) -> Option<bool>
-    requires slot { slot < 64 }
-    requires paying { IsPaying slots.old leaf }
-    ensures step { IfSome result
-        (λ b. (f : ℕ → Frame) (d : Doing) (rest : List ℕ) (current : Option Current) → IsBy d (record { leaf = leaf; current = current })
-        → Pushes d rest f slots.old → memory.give_entry d rest (Own slot) index ≡ reported f slots.new (Ok b)) }
-    ensures beside { SameBeside slots.old slots.new }
-    ensures unchanged { IfNone result (slots.new ≡ slots.old) }
-    ensures short { IfNone result (entry_count (content_at slots.old (InLeaf leaf slot)) ≤ index) }
-{
-    slots.laws();
-    slots.give_own(leaf, slot, index)
 }

@@ -25,7 +25,7 @@ pub fn refused_opens()
         → (q.client ≡ q.server → ⊥) → available (its_account s.trades.trading q.client) < q.donation.ram
         → paid system (opening (world_seen f s) q) ≡ false }
     ensures caps { (system : System) (f : Frame) (s : Slots) (q : world.Session) → AreLawful s → IsOf system f s → q.client < length s.own
-        → (q.client ≡ q.server → ⊥) → (s.trades.trading.memory.ledger.price ≡ 0 → q.donation.caps ≡ 0)
+        → (q.client ≡ q.server → ⊥) → (s.trades.trading.ledger.price ≡ 0 → q.donation.caps ≡ 0)
         → available_caps (its_account s.trades.trading q.client) < q.donation.caps → paid system (opening (world_seen f s) q) ≡ false }
 {}
 
@@ -35,7 +35,7 @@ pub fn refused_upgrades()
         → IsTaken s.trades.trading.sessions k → available (its_account s.trades.trading (client_of s.trades.trading k)) < n.ram
         → paid system (upgrading (world_seen f s) k n) ≡ false }
     ensures caps { (system : System) (f : Frame) (s : Slots) (k : ℕ) (n : Amount) → AreLawful s → IsOf system f s
-        → IsTaken s.trades.trading.sessions k → (s.trades.trading.memory.ledger.price ≡ 0 → n.caps ≡ 0)
+        → IsTaken s.trades.trading.sessions k → (s.trades.trading.ledger.price ≡ 0 → n.caps ≡ 0)
         → available_caps (its_account s.trades.trading (client_of s.trades.trading k)) < n.caps → paid system (upgrading (world_seen f s) k n) ≡ false }
 {}
 

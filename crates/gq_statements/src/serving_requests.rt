@@ -1,15 +1,15 @@
 // Requests that a serving leaf takes.
-ghost use Rattle.std.specs.Prelude.{◌≡◌, ◌<◌, ◌≤◌, ◌+◌, ℕ, if◌then◌else◌, false, not, nat_eq, OnErr, OnOk, get_or};
+ghost use Rattle.std.specs.Prelude.{◌≡◌, ◌<◌, ◌≤◌, ◌+◌, if◌then◌else◌, false, not, nat_eq, OnErr, OnOk, get_or};
 ghost use Rattle.gq_model.specs.machine.World as world;
 ghost use Rattle.gq_model.specs.machine.Doing.{Doing};
 ghost use Rattle.gq_model.specs.machine.Step as step;
 ghost use Rattle.gq_trade.specs.declared.requests.Ask.TheVariants as asks;
-ghost use Rattle.gq_slots.specs.Slots.{Frame, IsPaidBy, memory_of, world_seen};
+ghost use Rattle.gq_slots.specs.Slots.{Frame, memory_of, world_seen};
 ghost use Rattle.gq_slots.specs.Session_calls.{TakesOldest};
 ghost use Rattle.gq_statements.specs.Serving.{AreSections, Begins, IsNextRequest, IsSection, KnowsService, found, place, taken};
-ghost use Rattle.gq_statements.specs.Slot_statements.{IsPaying};
+ghost use Rattle.gq_trade.specs.Trading.{store_of};
+ghost use Rattle.gq_trade.specs.Trades.{IsLive};
 ghost use Rattle.gq_statements.specs.internal.Beginning.{can_pay, has_some, section_of};
-ghost use Rattle.gq_trade.specs.Stores.{store_of};
 ghost use Rattle.gq_model.specs.declared.fault.Wrong.TheVariants as wrong;
 
 use crate::paid_laws::lawful;
@@ -17,7 +17,7 @@ use gq_model::fault::Wrong;
 use gq_model::program::Section;
 use gq_slots::{Slots, sessions};
 use gq_tariff::round_up;
-use gq_trade::{Ask, Memory, Request};
+use gq_trade::{Ask, Request, Trades};
 
 /// What a leaf that serves knows of its program and its service: which sections it has, each at its place in `Section::ALL`. How many bytes the object of a
 /// session has, and whether capabilities are counted.
@@ -39,42 +39,45 @@ impl<'a> Provider<'a> {
 
     // What is wrong where the program has no section for a request: it can't be paid for, or the section is missing.
     fn wrong_without(&self, slots: &Slots, server: usize, ask: Ask) -> Wrong
-        requires paid { IsPaidBy slots.now server }
-        requires counted { self.now.counts_caps ≡ not (nat_eq slots.now.trades.trading.memory.ledger.price 0) }
+        requires live { IsLive slots.now.trades server }
+        requires counted { self.now.counts_caps ≡ not (nat_eq slots.now.trades.trading.ledger.price 0) }
         requires size { self.now.object ≤ 67108864 }
         ensures { result ≡ (if can_pay ask self.now.object (memory_of slots.now server) then wrong.MissingSection else wrong.ExceededQuota) }
     {
-        if self.can_pay(slots.trades().memory(), ask) {
+        if self.can_pay(slots.trades(), server, ask) {
             Wrong::MissingSection
         } else {
             Wrong::ExceededQuota
         }
     }
 
-    // Whether the account that pays can pay for what a request makes.
-    fn can_pay(&self, memory: &Memory, ask: Ask) -> bool
-        requires counted { self.now.counts_caps ≡ not (nat_eq memory.now.ledger.price 0) }
+    // Whether the account of a server can pay for what a request makes.
+    fn can_pay(&self, trades: &Trades, server: usize, ask: Ask) -> bool
+        requires live { IsLive trades.now server }
+        requires counted { self.now.counts_caps ≡ not (nat_eq trades.now.trading.ledger.price 0) }
         requires size { self.now.object ≤ 67108864 }
-        ensures { result ≡ can_pay ask self.now.object (store_of memory.now) }
+        ensures { result ≡ can_pay ask self.now.object (store_of trades.now.trading server) }
     {
+        trades.laws();
         match ask {
             Ask::Open => {
                 let price = round_up(u64::from(self.object) + 32);
-                let bytes = memory.accounts().avail(memory.payer());
-                price <= bytes && self.has_caps(memory)
+                let avail = trades.accounts().avail(trades.leaf_account(server));
+                price <= avail.ram && self.has_caps(trades, server)
             }
             Ask::Upgrade | Ask::Close | Ask::Call(_) => true,
         }
     }
 
-    // Whether it has a capability left, where they are counted.
-    fn has_caps(&self, memory: &Memory) -> bool
-        requires { self.now.counts_caps ≡ not (nat_eq memory.now.ledger.price 0) }
-        ensures { result ≡ has_some (store_of memory.now).caps }
+    // Whether the account of a server has a capability left, where they are counted.
+    fn has_caps(&self, trades: &Trades, server: usize) -> bool
+        requires live { IsLive trades.now server }
+        requires counted { self.now.counts_caps ≡ not (nat_eq trades.now.trading.ledger.price 0) }
+        ensures { result ≡ has_some (store_of trades.now.trading server).caps }
     {
-        let payer = memory.payer();
-        let accounts = memory.accounts();
-        !self.counts_caps || accounts.caps_used(payer) < accounts.caps(payer)
+        trades.laws();
+        let avail = trades.accounts().avail(trades.leaf_account(server));
+        !self.counts_caps || avail.caps > 0
     }
 }
 
@@ -119,7 +122,7 @@ pub fn accept(
     server: usize,
     request: Request,
 ) -> Result<(), Wrong>
-    requires paying { IsPaying slots.old server }
+    requires live { IsLive slots.old.trades server }
     requires first { IsNextRequest slots.old server request }
     requires knows { KnowsService slots.old request.session provider.now.object provider.now.counts_caps }
     ensures step { (e : Frame) (f : world.Request → Frame) (d : Doing) → d.x ≡ server → d.world ≡ world_seen e slots.old

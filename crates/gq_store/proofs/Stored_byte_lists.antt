@@ -76,6 +76,17 @@ listed_word n f o inside =
     let first : f (o + 0) ≡ f o = ap f (omega arith) in
     ap (λ k. little (take k (drop o xs))) few ∙ ap little (sym four) ∙ omega (arith, first)
 
+-- the number that one of the bytes spells
+pub listed_byte : (n : ℕ) (f : ℕ → ℕ) (o : ℕ) → o + 1 ≤ n → little (slice_range (listed n f) o (o + 1)) ≡ f o
+listed_byte n f o inside =
+    let xs = listed n f in
+    let few : o + 1 - o ≡ 1 = omega arith in
+    let long : length (take 1 (drop o xs)) ≡ 1 = length-take-le 1 (drop o xs) (omega (arith, length-drop o xs, length-listed n f)) in
+    let one : listed 1 (λ j. f (o + j)) ≡ take 1 (drop o xs) = listed_by 1 (λ j. f (o + j)) (take 1 (drop o xs)) 0 long
+    (λ k l. get_or-take 1 (drop o xs) k 0 l ∙ get_or-drop o xs k 0 ∙ get_or-listed n f (o + k) 0 (omega arith)) in
+    let first : f (o + 0) ≡ f o = ap f (omega arith) in
+    ap (λ k. little (take k (drop o xs))) few ∙ ap little (sym one) ∙ omega (arith, first)
+
 -- one byte that was put there
 pub put_here : (f g : ℕ → ℕ) (o b : ℕ) → PutsBytes f g o (b ∷ []) → g o ≡ b
 put_here f g o b p = ap g (omega arith) ∙ p.here 0 (omega arith)

@@ -1,18 +1,11 @@
 -- Accounts that are reported where they stand otherwise.
-use Rattle.std.proofs.Common.{◌≡◌, ◌∙◌, ◌<◌, ℕ, zero, suc, true, false, List, [], ◌∷◌, length, get_or, Some, IfSome, ap, sym}
+use Rattle.std.proofs.Common.{◌≡◌, ◌∙◌, ℕ, zero, suc, true, false, List, [], ◌∷◌, get_or, Some, ap, sym}
 use Rattle.std.specs.Prelude.{if◌then◌else◌, slice_get}
 use Rattle.gq_model.specs.machine.Accounts.{Account, account_line}
-use Rattle.gq_model.specs.machine.Scenario.{components}
-use Rattle.gq_model.specs.rules.Accept.{budgets, step_budgets}
 use Rattle.gq_model.proofs.Small_facts.{none_some, some_same}
-use Rattle.gq_resolve.specs.NodeTables.{node_rows}
-use Rattle.gq_init.specs.Account_values.{AccountValues, reported_of, with_label}
-use Rattle.gq_world.specs.Account_lines.{accounts_by, all_accounts}
-use Rattle.gq_world.specs.World_between_turns.{World}
-use Rattle.gq_world.proofs.World_account_lines.{account_at_node, line_is}
+use Rattle.gq_init.specs.Account_values.{AccountValues, reported_of}
 use Rattle.gq_traces.specs.Trace.{account_change, same_standing, standing_of}
 use Rattle.gq_traces.specs.internal.Noted.{standing_in}
-use Rattle.gq_traces.proofs.Leaves_standing.{from_some}
 
 pub noted_at : (xs : List AccountValues) (n k : ℕ) → k ≡ n → (b now : AccountValues) → slice_get xs n ≡ Some b → now ≡ get_or xs k now → now ≡ b
 noted_at xs n k at b now there is = is ∙ ap (λ j. get_or xs j now) at ∙ by xs n there
@@ -31,15 +24,3 @@ module _ (version : ℕ) (b : AccountValues) (a : Account) (now account : Accoun
 
   pub account_stands_else : same_standing (standing_in now) (standing_in account) ≡ false → account_line version a ≡ account_change version (standing_in b) a
   account_stands_else other = sym (ap (λ t. if t then [] else account_line version a) (sym test_is ∙ other))
-
-pub line_of_node : (w : World) → length w.world.leaves ≡ length (components w.scenario) → (n : ℕ) → n < length (node_rows w.scenario)
-    → (label line : List ℕ) (account : AccountValues) (version : ℕ) → version ≡ w.scenario.version → line ≡ account_line version (with_label label account)
-    → IfSome (slice_get (node_rows w.scenario) n) (λ r. label ≡ r.label) → IfSome (slice_get (all_accounts w) n) (λ a. account ≡ reported_of a)
-    → (a : Account) → slice_get (all_accounts w) n ≡ Some a → line ≡ account_line w.scenario.version a
-unfolding all_accounts
-line_of_node w leaves n less label line account version same is labelled reported a there =
-    let s = w.scenario in
-    let b = step_budgets (budgets s) in
-    let p = account_at_node s w.world b leaves n less in
-    from_some (slice_get (accounts_by s w.world b) n) (λ z. line ≡ account_line s.version z) a there
-    (line_is s w.world b (accounts_by s w.world b) n p label line account version same is labelled reported)

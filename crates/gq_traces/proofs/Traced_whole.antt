@@ -119,6 +119,7 @@ pub turns_refused : {W A : Type 0} (contents : W → Option (List ℕ)) (all : B
     → IsTurnsFault f (turned s text) → WritesAs {A = A} contents (trace_from all s text) out out (Err f)
 turns_refused contents all s text (fault.Load f) out h = absurd h
 turns_refused contents all s text (fault.NoComponent name) out h = absurd h
+turns_refused contents all s text (fault.NoOutcome number) out h = absurd h
 turns_refused contents all s text (fault.Turns f line) out h =
     nothing_written contents (trace_from all s text) out (fault.Turns f line) tt (ap (λ (t : Turned). with_turns t (trace_text all s)) h)
 turns_refused contents all s text fault.Memory out h = nothing_written contents (trace_from all s text) out fault.Memory tt tt
@@ -143,6 +144,7 @@ load_by f (Err g) go h = ap (λ t. Err (refused_with t)) (sym h)
 pub load_is : (all : Bool) (f : RunFault) (scenario turns : List ℕ) → GivesOf f scenario → IsFaultOf f (trace_written all scenario turns)
 load_is all (fault.Load f) scenario turns h = load_by f (loaded scenario) (λ s. trace_from all s turns) h
 load_is all (fault.NoComponent name) scenario turns h = absurd h
+load_is all (fault.NoOutcome number) scenario turns h = absurd h
 load_is all (fault.Turns f line) scenario turns h = absurd h
 load_is all fault.Memory scenario turns h = tt
 load_is all fault.Write scenario turns h = absurd h

@@ -43,10 +43,7 @@ pub(crate) fn use_of(machine: &Machine, leaf: LeafNo) -> Use
     ensures { IsUse machine.now.scenario machine.now.world leaf result }
 {
     Use {
-        used: Amount {
-            ram: machine.used(leaf),
-            caps: machine.caps_used(leaf),
-        },
+        used: machine.used(leaf),
         phase: machine.phase(leaf),
     }
 }

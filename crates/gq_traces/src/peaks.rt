@@ -63,10 +63,7 @@ fn quota_of(machine: &Machine, leaf: LeafNo) -> Amount
     ensures caps { counts_caps machine.now.scenario.version ≡ true → result.caps ≡ quota_in (system machine.now.scenario) Caps leaf machine.now.world }
 {
     let node = machine.table().node(leaf);
-    Amount {
-        ram: machine.quota(node),
-        caps: machine.caps(node),
-    }
+    machine.quota(node)
 }
 
 // What a leaf uses, after so many turns.

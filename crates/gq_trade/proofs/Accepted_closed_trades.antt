@@ -8,13 +8,13 @@ use Rattle.gq_tariff.specs.declared.amount.Amount.{Amount}
 use Rattle.gq_ram.specs.declared.account.Account.{Account}
 use Rattle.gq_ram.specs.Account_table.{available, available_caps}
 use Rattle.gq_store.specs.Store.{one_more}
-use Rattle.gq_trade.specs.Stores.{caps_left}
-use Rattle.gq_trade.specs.internal.Kept_rest.{rest_refl}
+use Rattle.gq_ram.specs.Account_stores.{caps_left}
+use Rattle.gq_ram.specs.internal.Kept_rest.{rest_refl}
 use Rattle.gq_trade.specs.Numbers.{IsTaken}
 use Rattle.gq_trade.specs.declared.requests.Ask.{Ask}
 use Rattle.gq_trade.specs.declared.requests.Ask.TheVariants.{Open, Upgrade, Close, Call}
 use Rattle.gq_trade.specs.declared.requests.Request.{Request}
-use Rattle.gq_trade.specs.Trading.{Trading, IsTrading, Accepts, Begins, account_no, account_of, its_account, parted}
+use Rattle.gq_trade.specs.Trading.{Trading, IsTrading, Accepts, Begins, account_of, its_account, parted}
 use Rattle.gq_trade.specs.Trading.{opened, raised, server_of, session_at, with_requests}
 use Rattle.gq_trade.proofs.Sessions_kept.{taken_from}
 use Rattle.gq_trade.specs.Trades.{Trades, IsTrades, IsSettled, with_trading}
@@ -55,12 +55,12 @@ module _ (w : Trades) (h : IsTrades w) (t : IsTrading w.trading) where
       → Begins a w.trading u k → IsTrades (with_trading w u)
   begun_kept Open u k taken low b =
       subst (λ y. IsTrades (with_trading w y)) (sym b.is)
-      (session_kept w h t u.memory (account_no w.trading (server_of w.trading k)) k (opened (session_at w.trading k) b.object) b.makes.others taken
+      (session_kept w h t u.ledger (account_of w.trading (server_of w.trading k)) k (opened (session_at w.trading k) b.object) b.makes.others taken
       refl refl refl (omega arith) (h.given k taken).level)
   begun_kept Upgrade u k taken low b =
       let l = low refl in
       subst (λ y. IsTrades (with_trading w y)) (sym b)
-      (session_kept w h t w.trading.memory w.trading.memory.payer k (raised (session_at w.trading k)) (rest_refl w.trading.memory) taken refl refl refl
+      (session_kept w h t w.trading.ledger 0 k (raised (session_at w.trading k)) (rest_refl 0 w.trading.ledger) taken refl refl refl
       (omega arith) (omega (arith, l)))
   begun_kept Close u k taken low b = subst (λ y. IsTrades (with_trading w y)) (sym b) h
   begun_kept (Call n) u k taken low b = subst (λ y. IsTrades (with_trading w y)) (sym b) h
@@ -142,13 +142,13 @@ module _ (w : Trades) (h : IsTrades w) (t : IsTrading w.trading) where
       let ne = nodes_apart w h t s.server s.client sl.there cl.there (λ e. (parties w h t k taken).apart (sym e)) in
       record {
         uncounted = h.uncounted;
-        settled = moved_settled u.tree u.leaves w.nodes u.memory.ledger.accounts (account_of u s.server) (account_of u s.client) s.donation h.settled yo xo;
-        sessions = each_unset (λ j. IsSettled u.leaves w.nodes u.memory.ledger.price) u.sessions k h.sessions;
+        settled = moved_settled u.tree u.leaves w.nodes u.ledger.accounts (account_of u s.server) (account_of u s.client) s.donation h.settled yo xo;
+        sessions = each_unset (λ j. IsSettled u.leaves w.nodes u.ledger.price) u.sessions k h.sessions;
         few = h.few;
         given = each_unset (λ j x. IsBounded x (upgrades j u.requests)) u.sessions k h.given;
         asks = subst AreApart (sym (clients_unset u.sessions k u.requests none)) h.asks;
         even = λ i lt. (
-          closed_even (λ d. d.ram) ram_kind u w.nodes u.memory k (λ j. refl) t.nodes taken xl yl xo yo ne (omega (arith, enough)) i lt (h.even i lt).0,
-          closed_even (λ d. d.caps) caps_kind u w.nodes u.memory k (λ j. refl) t.nodes taken xl yl xo yo ne (omega (arith, enough_caps)) i lt (h.even i lt).1,
+          closed_even (λ d. d.ram) ram_kind u w.nodes u.ledger k (λ j. refl) t.nodes taken xl yl xo yo ne (omega (arith, enough)) i lt (h.even i lt).0,
+          closed_even (λ d. d.caps) caps_kind u w.nodes u.ledger k (λ j. refl) t.nodes taken xl yl xo yo ne (omega (arith, enough_caps)) i lt (h.even i lt).1,
         );
       }

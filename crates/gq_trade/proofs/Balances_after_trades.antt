@@ -8,10 +8,10 @@ use Rattle.gq_ram.specs.Account_table.{Entries, account_at, its_account, no_amou
 use Rattle.gq_ram.specs.Account_tree.{Tree, AreNodes, account_of as account_in, donated, number, less, more}
 use Rattle.gq_ram.proofs.Quota_move_sequences.{giver_now, taker_now, other_now}
 use Rattle.gq_trade.specs.Numbers.{IsTaken}
-use Rattle.gq_trade.specs.Stores.{Memory}
-use Rattle.gq_trade.specs.Rest.{SameRest}
+use Rattle.gq_ram.specs.Account_stores.{SameRest}
+use Rattle.gq_ram.specs.Ledgers.{Ledger}
 use Rattle.gq_trade.specs.declared.session.Session.{Session}
-use Rattle.gq_trade.specs.Trading.{Trading, account_of, asked, client_of, node_of, given, server_of, session_at, upgraded, with_memory, with_more}
+use Rattle.gq_trade.specs.Trading.{Trading, account_of, asked, client_of, node_of, given, server_of, session_at, upgraded, with_ledger, with_more}
 use Rattle.gq_trade.specs.Trading.{with_session, with_sessions}
 use Rattle.gq_trade.specs.declared.trade_node.NodeState.{NodeState}
 use Rattle.gq_trade.specs.Balances.{IsEven, for_node, lent_for, quota, received_for}
@@ -51,17 +51,17 @@ for_sum j i m n = elim (eqb_tells j i) [
 ]
 
 -- what goes from the node a to the node b is less for the one and more for the other
-module _ (f : Amount → ℕ) (kind : IsKind f) (w : Trading) (a b : ℕ) (n : Amount) (nodes : AreNodes w.tree w.memory.ledger.accounts)
-    (al : a < length w.tree.parents) (bl : b < length w.tree.parents) (ao : IsOpen w.memory.ledger.accounts (number w.tree a))
-    (bo : IsOpen w.memory.ledger.accounts (number w.tree b)) (ne : b ≡ a → ⊥) (enough : f n ≤ quota f w a) where
+module _ (f : Amount → ℕ) (kind : IsKind f) (w : Trading) (a b : ℕ) (n : Amount) (nodes : AreNodes w.tree w.ledger.accounts)
+    (al : a < length w.tree.parents) (bl : b < length w.tree.parents) (ao : IsOpen w.ledger.accounts (number w.tree a))
+    (bo : IsOpen w.ledger.accounts (number w.tree b)) (ne : b ≡ a → ⊥) (enough : f n ≤ quota f w a) where
   abbrev es : Entries
-  es = w.memory.ledger.accounts
+  es = w.ledger.accounts
 
   numbers_apart : number w.tree b ≡ number w.tree a → ⊥
   numbers_apart e = ne (nodes.apart b a bl al e)
 
   abbrev after : Trading
-  after = with_memory w (record { ledger = donated w.tree w.memory.ledger a b n; payer = w.memory.payer })
+  after = with_ledger w ((donated w.tree w.ledger a b n))
 
   pub moved_quota : (i : ℕ) → i < length w.tree.parents → quota f after i + for_node a i (f n) ≡ quota f w i + for_node b i (f n)
   moved_quota i lt = elim (cases_eq i a) [
@@ -87,11 +87,11 @@ module _ (f : Amount → ℕ) (kind : IsKind f) (w : Trading) (a b : ℕ) (n : A
   ]
 
 -- what an account pays changes no quota
-pub rest_quota : (f : Amount → ℕ) (t : Tree) (m n : Memory) (i : ℕ) → SameRest m n
-    → f (account_in t n.ledger i).quota ≡ f (account_in t m.ledger i).quota
-rest_quota f t m n i s = elim (cases_eq (number t i) m.payer.0) [
+pub rest_quota : (f : Amount → ℕ) (t : Tree) (a : ℕ) (m n : Ledger) (i : ℕ) → SameRest a m n
+    → f (account_in t n i).quota ≡ f (account_in t m i).quota
+rest_quota f t a m n i s = elim (cases_eq (number t i) a) [
   | inl e ↦
-      ap (λ k. f (account_at n.ledger.accounts k).quota) e ∙ ap f s.quota ∙ ap (λ k. f (account_at m.ledger.accounts k).quota) (sym e)
+      ap (λ k. f (account_at n.accounts k).quota) e ∙ ap f s.quota ∙ ap (λ k. f (account_at m.accounts k).quota) (sym e)
   | inr ne ↦ ap (λ o. f (its_account o).quota) (s.accounts (number t i) ne)
 ]
 
@@ -99,9 +99,9 @@ rest_quota f t m n i s = elim (cases_eq (number t i) m.payer.0) [
 
 module _ (f : Amount → ℕ) (kind : IsKind f) (w : Trading) (ns : List NodeState) where
   -- a session is asked for, and its donation given
-  pub asked_even : (s : Session) → AreNodes w.tree w.memory.ledger.accounts → node_of w s.client < length w.tree.parents
-      → node_of w s.server < length w.tree.parents → IsOpen w.memory.ledger.accounts (account_of w s.client)
-      → IsOpen w.memory.ledger.accounts (account_of w s.server) → (node_of w s.server ≡ node_of w s.client → ⊥)
+  pub asked_even : (s : Session) → AreNodes w.tree w.ledger.accounts → node_of w s.client < length w.tree.parents
+      → node_of w s.server < length w.tree.parents → IsOpen w.ledger.accounts (account_of w s.client)
+      → IsOpen w.ledger.accounts (account_of w s.server) → (node_of w s.server ≡ node_of w s.client → ⊥)
       → f s.donation ≤ quota f w (node_of w s.client) → (i : ℕ) → i < length w.tree.parents → IsEven f w ns i → IsEven f (asked w s) ns i
   asked_even s nodes xl yl xo yo ne enough i lt h =
       let q = moved_quota f kind w (node_of w s.client) (node_of w s.server) s.donation nodes xl yl xo yo ne enough i lt in
@@ -110,9 +110,9 @@ module _ (f : Amount → ℕ) (kind : IsKind f) (w : Trading) (ns : List NodeSta
       omega (arith, h, q, l, r)
 
   -- more is given for a session
-  pub upgraded_even : (k : ℕ) (n : Amount) → AreNodes w.tree w.memory.ledger.accounts → IsTaken w.sessions k
+  pub upgraded_even : (k : ℕ) (n : Amount) → AreNodes w.tree w.ledger.accounts → IsTaken w.sessions k
       → node_of w (client_of w k) < length w.tree.parents → node_of w (server_of w k) < length w.tree.parents
-      → IsOpen w.memory.ledger.accounts (account_of w (client_of w k)) → IsOpen w.memory.ledger.accounts (account_of w (server_of w k))
+      → IsOpen w.ledger.accounts (account_of w (client_of w k)) → IsOpen w.ledger.accounts (account_of w (server_of w k))
       → (node_of w (server_of w k) ≡ node_of w (client_of w k) → ⊥) → f n ≤ quota f w (node_of w (client_of w k)) → (i : ℕ)
       → i < length w.tree.parents → IsEven f w ns i → IsEven f (upgraded w k n) ns i
   upgraded_even k n nodes t xl yl xo yo ne enough i lt h =
@@ -126,9 +126,9 @@ module _ (f : Amount → ℕ) (kind : IsKind f) (w : Trading) (ns : List NodeSta
       omega (arith, h, q, l, r, lp, rp)
 
   -- other memory, with the same quotas, and another session of the same client, server and donation in the place of one
-  pub session_even : (m : Memory) (k : ℕ) (s : Session) → ((i : ℕ) → quota f (with_memory w m) i ≡ quota f w i) → IsTaken w.sessions k
+  pub session_even : (m : Ledger) (k : ℕ) (s : Session) → ((i : ℕ) → quota f (with_ledger w m) i ≡ quota f w i) → IsTaken w.sessions k
       → s.client ≡ client_of w k → s.server ≡ server_of w k → f s.donation ≡ f (session_at w k).donation → (i : ℕ) → IsEven f w ns i
-      → IsEven f (with_session (with_memory w m) k s) ns i
+      → IsEven f (with_session (with_ledger w m) k s) ns i
   session_even m k s same t ec es ed i h =
       let l = sum_set (lent_for f w.leaves i) refl w.sessions k (Some s) t in
       let r = sum_set (received_for f w.leaves i) refl w.sessions k (Some s) t in
@@ -139,15 +139,15 @@ module _ (f : Amount → ℕ) (kind : IsKind f) (w : Trading) (ns : List NodeSta
       omega (arith, h, same i, l, r, lp, rp)
 
   -- a session ends, and its donation goes back, once what its object cost is paid no more
-  pub closed_even : (m : Memory) (k : ℕ) → ((i : ℕ) → quota f (with_memory w m) i ≡ quota f w i) → AreNodes w.tree m.ledger.accounts
+  pub closed_even : (m : Ledger) (k : ℕ) → ((i : ℕ) → quota f (with_ledger w m) i ≡ quota f w i) → AreNodes w.tree m.accounts
       → IsTaken w.sessions k → node_of w (client_of w k) < length w.tree.parents → node_of w (server_of w k) < length w.tree.parents
-      → IsOpen m.ledger.accounts (account_of w (client_of w k)) → IsOpen m.ledger.accounts (account_of w (server_of w k))
-      → (node_of w (client_of w k) ≡ node_of w (server_of w k) → ⊥) → f (session_at w k).donation ≤ quota f (with_memory w m) (node_of w (server_of w k))
+      → IsOpen m.accounts (account_of w (client_of w k)) → IsOpen m.accounts (account_of w (server_of w k))
+      → (node_of w (client_of w k) ≡ node_of w (server_of w k) → ⊥) → f (session_at w k).donation ≤ quota f (with_ledger w m) (node_of w (server_of w k))
       → (i : ℕ) → i < length w.tree.parents → IsEven f w ns i
-      → IsEven f (with_sessions (given (with_memory w m) (server_of w k) (client_of w k) (session_at w k).donation) (set w.sessions k None)) ns i
+      → IsEven f (with_sessions (given (with_ledger w m) (server_of w k) (client_of w k) (session_at w k).donation) (set w.sessions k None)) ns i
   closed_even m k same nodes t xl yl xo yo ne enough i lt h =
       let s = session_at w k in
-      let q = moved_quota f kind (with_memory w m) (node_of w s.server) (node_of w s.client) s.donation nodes yl xl yo xo ne enough i lt in
+      let q = moved_quota f kind (with_ledger w m) (node_of w s.server) (node_of w s.client) s.donation nodes yl xl yo xo ne enough i lt in
       let l = sum_set (lent_for f w.leaves i) refl w.sessions k None t in
       let r = sum_set (received_for f w.leaves i) refl w.sessions k None t in
       omega (arith, h, same i, q, l, r)

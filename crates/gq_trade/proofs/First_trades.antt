@@ -4,13 +4,12 @@ use Rattle.std.proofs.Common.{subst, ◌∙◌, arith}
 use Rattle.std.specs.Prelude.{is_some}
 use Rattle.gq_tariff.specs.declared.amount.Amount.{Amount}
 use Rattle.gq_ram.specs.declared.account.Account.{Account}
-use Rattle.gq_ram.specs.declared.account.AccountNo.{AccountNo}
+use Rattle.gq_store.specs.declared.AccountNo.{AccountNo}
 use Rattle.gq_ram.specs.Account_table.{Entries, account_at, its_account, no_amount, IsOpen}
 use Rattle.gq_ram.specs.Ledgers.{Ledger, first_ledger, price_where}
 use Rattle.gq_ram.specs.Account_tree.{Tree, account_of, number, parent}
 use Rattle.gq_ram.specs.Handing.{spent}
 use Rattle.gq_ram.specs.Opening.{IsOpened}
-use Rattle.gq_trade.specs.Stores.{Memory}
 use Rattle.gq_trade.specs.declared.trade_node.NodeState.{NodeState}
 use Rattle.gq_trade.specs.declared.trade_node.Stage.{Stage}
 use Rattle.gq_trade.specs.declared.trade_node.Stage.TheVariants.{Pending, Live, Ended}
@@ -125,11 +124,11 @@ module _ {total : ℕ} {caps : Option ℕ} {ps : List ℕ} {ns : List NodeState}
         alone = λ x k xl e. alone_at k (get_or es k None) x refl xl (sym (references k) ∙ e);
       }
 
-      pub first_kept : (m : Memory) (r : ℕ) → m.ledger.accounts ≡ new → m.ledger.price ≡ price_where caps
-          → ((i : ℕ) → i < length t.parents → (account_of t m.ledger i).quota.ram + spent (λ a. a.ram) t hs i ≡ (get_or hs i no_amount).ram)
-          → ((i : ℕ) → i < length t.parents → (account_of t m.ledger i).quota.caps + spent (λ a. a.caps) t hs i ≡ (get_or hs i no_amount).caps)
+      pub first_kept : (m : Ledger) (r : ℕ) → m.accounts ≡ new → m.price ≡ price_where caps
+          → ((i : ℕ) → i < length t.parents → (account_of t m i).quota.ram + spent (λ a. a.ram) t hs i ≡ (get_or hs i no_amount).ram)
+          → ((i : ℕ) → i < length t.parents → (account_of t m i).quota.caps + spent (λ a. a.caps) t hs i ≡ (get_or hs i no_amount).caps)
           → IsTrades (record {
-            trading = record { memory = m; tree = t; leaves = xs; objects = os; sessions = []; room = r; requests = [] };
+            trading = record { ledger = m; tree = t; leaves = xs; objects = os; sessions = []; room = r; requests = [] };
             nodes = ns;
           })
       first_kept m r am pm ram_even caps_even = record {

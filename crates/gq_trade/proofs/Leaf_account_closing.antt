@@ -4,14 +4,13 @@ use Rattle.std.specs.Prelude.{is_some}
 use Rattle.std.proofs.lemmas.List.{get_or-set_same, get_or-set_other}
 use Rattle.std.proofs.lemmas.Bool.{cases_eq}
 use Rattle.gq_ram.specs.declared.account.Account.{Account}
-use Rattle.gq_ram.specs.declared.account.AccountNo.{AccountNo}
+use Rattle.gq_store.specs.declared.AccountNo.{AccountNo}
 use Rattle.gq_ram.specs.Account_table.{Entries, account_at, its_account, left_to, with_caps, with_quota, IsOpen}
 use Rattle.gq_ram.proofs.Account_caller_facts.{open_there}
 use Rattle.gq_ram.specs.Ledgers.{Ledger, IsBalanced}
 use Rattle.gq_ram.specs.Account_tree.{Tree, AreNodes, number}
-use Rattle.gq_trade.specs.Stores.{Memory}
 use Rattle.gq_trade.specs.Rest.{IsClosed}
-use Rattle.gq_trade.specs.Trading.{Trading, IsTrading, Leaves, account_no, account_of, init_no, node_of, root_no, with_memory}
+use Rattle.gq_trade.specs.Trading.{Trading, IsTrading, Leaves, account_no, account_of, init_no, node_of, with_ledger}
 
 none_there : (o : Option Account) → o ≡ None → IsTrue (is_some o) → ⊥
 none_there None e h = cc
@@ -66,19 +65,18 @@ module _ (es : Entries) (a r : ℕ) (ao : IsOpen es a) (ro : IsOpen es r) (ne : 
     references = λ i pos lt h. reference_stays (number t i) (not_closed (number t i) h) ∙ n.references i pos lt (was_open_too (number t i) h);
   }
 
--- m is the memory once the account of the leaf x is closed
-pub closed_kept : (w : Trading) (x : ℕ) (n m : Memory) (a : AccountNo) → IsTrading w → IsBalanced w.memory.ledger → x < length w.leaves → 0 < node_of w x
-    → IsOpen w.memory.ledger.accounts (account_of w x) → a ≡ account_no w x → n.ledger ≡ w.memory.ledger
-    → IfSome (account_at n.ledger.accounts a.0).reference (λ init. IsClosed n m a init) → IsTrading (with_memory w m)
-closed_kept w x n m a h b xl pos o ea el closes =
-    let es : Entries = w.memory.ledger.accounts in
+-- m is the ledger once the account of the leaf x is closed
+pub closed_kept : (w : Trading) (x : ℕ) (m : Ledger) (a : AccountNo) → IsTrading w → IsBalanced w.ledger → x < length w.leaves → 0 < node_of w x
+    → IsOpen w.ledger.accounts (account_of w x) → a ≡ account_no w x
+    → IfSome (account_at w.ledger.accounts a.0).reference (λ init. IsClosed w.ledger m a init) → IsTrading (with_ledger w m)
+closed_kept w x m a h b xl pos o ea closes =
+    let es : Entries = w.ledger.accounts in
     let refers = h.nodes.references (node_of w x) pos (h.leaves x xl) o in
     let init = b.references (account_of w x) (init_no w x) refers in
-    let f : (account_at n.ledger.accounts a.0).reference ≡ Some (init_no w x) =
-    ap (λ (l : Ledger). (account_at l.accounts a.0).reference) el ∙ ap (λ (y : AccountNo). (account_at es y.0).reference) ea ∙ refers in
-    let c : IsClosed n m a (init_no w x) = subst (λ o. IfSome o (λ init. IsClosed n m a init)) f closes in
-    let e : left_to es (account_of w x) (init_no w x).0 ≡ m.ledger.accounts =
-    ap (λ (y : AccountNo). left_to es y.0 (init_no w x).0) (sym ea) ∙ ap (λ (l : Ledger). left_to l.accounts a.0 (init_no w x).0) (sym el) ∙ sym c.accounts in
+    let f : (account_at es a.0).reference ≡ Some (init_no w x) = ap (λ (y : AccountNo). (account_at es y.0).reference) ea ∙ refers in
+    let c : IsClosed w.ledger m a (init_no w x) = subst (λ o. IfSome o (λ init. IsClosed w.ledger m a init)) f closes in
+    let e : left_to es (account_of w x) (init_no w x).0 ≡ m.accounts =
+    ap (λ (y : AccountNo). left_to es y.0 (init_no w x).0) (sym ea) ∙ sym c.accounts in
     record {
       tree = h.tree;
       nodes = subst (AreNodes w.tree) e (nodes_after es (account_of w x) (init_no w x).0 o init.0 init.1 w.tree h.nodes);
@@ -90,20 +88,13 @@ closed_kept w x n m a h b xl pos o ea el closes =
     }
 
 -- and so the leaf's quota is with its init
-pub leaves_of : (w : Trading) (x : ℕ) (n m : Memory) (a root : AccountNo) → IsTrading w → x < length w.leaves → 0 < node_of w x
-    → IsOpen w.memory.ledger.accounts (account_of w x) → a.0 ≡ account_of w x → root.0 ≡ number w.tree 0
-    → n ≡ record { ledger = w.memory.ledger; payer = root }
-    → IfSome (account_at n.ledger.accounts a.0).reference (λ init. IsClosed n m a init) → Leaves w (with_memory w m) x
-leaves_of w x n m a root h xl pos o ea er en closes =
+pub leaves_of : (w : Trading) (x : ℕ) (m : Ledger) (a : AccountNo) → IsTrading w → x < length w.leaves → 0 < node_of w x
+    → IsOpen w.ledger.accounts (account_of w x) → a.0 ≡ account_of w x
+    → IfSome (account_at w.ledger.accounts a.0).reference (λ init. IsClosed w.ledger m a init) → Leaves w (with_ledger w m) x
+leaves_of w x m a h xl pos o ea closes =
     let refers = h.nodes.references (node_of w x) pos (h.leaves x xl) o in
     let la : a ≡ account_no w x = λ t. record { 0 = ea t } in
-    let f : (account_at n.ledger.accounts a.0).reference ≡ Some (init_no w x) =
-    ap (λ (k : Memory). (account_at k.ledger.accounts a.0).reference) en ∙ ap (λ j. (account_at w.memory.ledger.accounts j).reference) ea ∙ refers in
-    let c : IsClosed n m a (init_no w x) = subst (λ o. IfSome o (λ init. IsClosed n m a init)) f closes in
-    let ln : n ≡ record { ledger = w.memory.ledger; payer = root_no w } =
-    en ∙ (λ t. record { ledger = w.memory.ledger; payer = record { 0 = er t } }) in
-    record {
-      is = refl;
-      closed = subst (λ (b : AccountNo). IsClosed (record { ledger = w.memory.ledger; payer = root_no w }) m b (init_no w x)) la
-          (subst (λ (k : Memory). IsClosed k m a (init_no w x)) ln c);
-    }
+    let f : (account_at w.ledger.accounts a.0).reference ≡ Some (init_no w x) =
+    ap (λ j. (account_at w.ledger.accounts j).reference) ea ∙ refers in
+    let c : IsClosed w.ledger m a (init_no w x) = subst (λ o. IfSome o (λ init. IsClosed w.ledger m a init)) f closes in
+    record { is = refl; closed = subst (λ (b : AccountNo). IsClosed w.ledger m b (init_no w x)) la c }

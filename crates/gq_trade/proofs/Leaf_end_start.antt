@@ -6,16 +6,15 @@ use Rattle.std.proofs.lemmas.Bool.{cases_eq}
 use Rattle.std.proofs.lemmas.Bool.Decides.{eqb_tells}
 use Rattle.gq_tariff.specs.declared.amount.Amount.{Amount}
 use Rattle.gq_ram.specs.declared.account.Account.{Account}
-use Rattle.gq_ram.specs.declared.account.AccountNo.{AccountNo}
+use Rattle.gq_store.specs.declared.AccountNo.{AccountNo}
 use Rattle.gq_ram.specs.Account_table.{Entries, account_at, available, available_caps, its_account, has_members, is_it, left_to, no_amount, IsOpen}
-use Rattle.gq_ram.specs.Ledgers.{IsBalanced}
+use Rattle.gq_ram.specs.Ledgers.{Ledger, IsBalanced}
 use Rattle.gq_ram.proofs.Account_caller_facts.{is_same}
 use Rattle.gq_ram.specs.Account_tree.{number, parent, account_of as account_in}
 use Rattle.gq_ram.specs.Handing.{spent}
-use Rattle.gq_trade.specs.Stores.{Memory}
 use Rattle.gq_trade.specs.Numbers.{IsTaken}
 use Rattle.gq_trade.specs.Trading.{Trading, IsTrading, Leaves, client_of, handed_on, init_no, node_of, server_of}
-use Rattle.gq_trade.specs.Trading.{session_at, with_memory}
+use Rattle.gq_trade.specs.Trading.{session_at, with_ledger}
 use Rattle.gq_trade.proofs.Leaf_account_closing.{gone, heir_now, open_still, other_entry, reference_stays}
 use Rattle.gq_trade.specs.declared.trade_node.NodeState.{NodeState}
 use Rattle.gq_trade.specs.declared.trade_node.Stage.{Stage}
@@ -89,7 +88,7 @@ if_follower j ns P h (Some i) e = let r = follower_is 0 j i ns e in subst P (ome
 not_none : {A : Type 0} (a : A) → None ≡ Some a → ⊥
 not_none a e = cc
 
-module _ (w : Trades) (h : IsTrades w) (t : IsTrading w.trading) (b : IsBalanced w.trading.memory.ledger) (x : ℕ) (live : IsLive w x)
+module _ (w : Trades) (h : IsTrades w) (t : IsTrading w.trading) (b : IsBalanced w.trading.ledger) (x : ℕ) (live : IsLive w x)
     (alone : HasNoSessions w.trading x) where
   abbrev n : ℕ
   n = node_of w.trading x
@@ -98,7 +97,7 @@ module _ (w : Trades) (h : IsTrades w) (t : IsTrading w.trading) (b : IsBalanced
   init = parent w.trading.tree n
 
   abbrev es : Entries
-  es = w.trading.memory.ledger.accounts
+  es = w.trading.ledger.accounts
 
   abbrev now : List NodeState
   now = staged w.nodes n Ended
@@ -139,15 +138,15 @@ module _ (w : Trades) (h : IsTrades w) (t : IsTrading w.trading) (b : IsBalanced
   server_apart : (k : ℕ) → IsTaken w.trading.sessions k → node_of w.trading (server_of w.trading k) ≡ n → ⊥
   server_apart k taken e = (alone k taken).1 (t.apart (server_of w.trading k) x (server_there k taken) live.there e)
 
-  -- the memory once the account is closed
+  -- the ledger once the account is closed
   module _ (v : Trading) (leaves : Leaves w.trading v x) where
-    abbrev m : Memory
-    m = v.memory
+    abbrev m : Ledger
+    m = v.ledger
 
-    closed : m.ledger.accounts ≡ left_to es (number w.trading.tree n) (number w.trading.tree init)
+    closed : m.accounts ≡ left_to es (number w.trading.tree n) (number w.trading.tree init)
     closed = leaves.closed.accounts
 
-    settled_now : AreSettled w.trading.tree w.trading.leaves now m.ledger.accounts
+    settled_now : AreSettled w.trading.tree w.trading.leaves now m.accounts
     settled_now =
         let a = number w.trading.tree n in
         let r = number w.trading.tree init in
@@ -182,7 +181,7 @@ module _ (w : Trades) (h : IsTrades w) (t : IsTrading w.trading) (b : IsBalanced
           alone = λ y k l e. elim (cases_eq k a) [
             | inl at_a ↦
                 not_none (record { 0 = number w.trading.tree (node_of w.trading y) })
-                (sym (ap (λ j. (account_at m.ledger.accounts j).reference) at_a ∙ ap (λ (fs : Entries). (account_at fs a).reference) closed
+                (sym (ap (λ j. (account_at m.accounts j).reference) at_a ∙ ap (λ (fs : Entries). (account_at fs a).reference) closed
                 ∙ ap (λ o. (its_account o).reference) (gone es a r opened init_open apart)) ∙ e)
             | inr other ↦
                 h.settled.alone y k l (sym (ap (λ (fs : Entries). (account_at fs k).reference) closed
@@ -212,19 +211,19 @@ module _ (w : Trades) (h : IsTrades w) (t : IsTrading w.trading) (b : IsBalanced
       handed_now : f (handed (node_at now n)) ≡ 0
       handed_now = ap (λ (y : NodeState). f (handed y)) (staged_here w.nodes n Ended in_nodes) ∙ kind.none_is
 
-      gone_quota : quota f (with_memory w.trading m) n ≡ 0
+      gone_quota : quota f (with_ledger w.trading m) n ≡ 0
       gone_quota =
           ap (λ (fs : Entries). f (account_at fs (number w.trading.tree n)).quota) closed
           ∙ ap (λ o. f (its_account o).quota) (gone es (number w.trading.tree n) (number w.trading.tree init) opened init_open apart)
           ∙ kind.none_is
 
-      pub heir_quota : quota f (with_memory w.trading m) init ≡ quota f w.trading init + quota f w.trading n
+      pub heir_quota : quota f (with_ledger w.trading m) init ≡ quota f w.trading init + quota f w.trading n
       heir_quota =
           ap (λ (fs : Entries). f (account_at fs (number w.trading.tree init)).quota) closed
           ∙ ap (λ (y : Account). f y.quota) (heir_now es (number w.trading.tree n) (number w.trading.tree init) opened init_open apart)
           ∙ kind.heir_is (account_at es (number w.trading.tree init)) (account_at es (number w.trading.tree n))
 
-      other_quota : (i : ℕ) → i < length w.trading.tree.parents → (i ≡ n → ⊥) → (i ≡ init → ⊥) → quota f (with_memory w.trading m) i ≡ quota f w.trading i
+      other_quota : (i : ℕ) → i < length w.trading.tree.parents → (i ≡ n → ⊥) → (i ≡ init → ⊥) → quota f (with_ledger w.trading m) i ≡ quota f w.trading i
       other_quota i l nn ni =
           ap (λ (fs : Entries). f (account_at fs (number w.trading.tree i)).quota) closed
           ∙ ap (λ o. f (its_account o).quota) (other_entry es (number w.trading.tree n) (number w.trading.tree init) opened init_open apart
@@ -234,12 +233,12 @@ module _ (w : Trades) (h : IsTrades w) (t : IsTrading w.trading) (b : IsBalanced
           ≡ spent f w.trading.tree (map handed w.nodes) i + for_node init i (f no_amount)
       spent_now i = spent_staged f w.trading.tree w.nodes n (with_stage (node_at w.nodes n) Ended) i pos lt h.settled.count
 
-      even_now : (i : ℕ) → i < length w.trading.tree.parents → IsEven f (with_memory w.trading m) now i
+      even_now : (i : ℕ) → i < length w.trading.tree.parents → IsEven f (with_ledger w.trading m) now i
       even_now i l = elim (cases_eq i n) [
-        | inl e ↦ subst (λ j. IsEven f (with_memory w.trading m) now j) (sym e)
+        | inl e ↦ subst (λ j. IsEven f (with_ledger w.trading m) now j) (sym e)
             (omega (arith, gone_quota, lent_none, received_none, none_on now, handed_now))
         | inr nn ↦ elim (cases_eq i init) [
-          | inl e ↦ subst (λ j. IsEven f (with_memory w.trading m) now j) (sym e) (omega (
+          | inl e ↦ subst (λ j. IsEven f (with_ledger w.trading m) now j) (sym e) (omega (
             arith,
             even init init_there,
             heir_quota,
@@ -288,7 +287,7 @@ module _ (w : Trades) (h : IsTrades w) (t : IsTrading w.trading) (b : IsBalanced
     })
 
     -- its init can pay as much again
-    pub ram_back : (node_at w.nodes n).quantum.ram ≤ available (account_in w.trading.tree m.ledger init)
+    pub ram_back : (node_at w.nodes n).quantum.ram ≤ available (account_in w.trading.tree m init)
     ram_back =
         let e = ap (λ (fs : Entries). (account_at fs (number w.trading.tree init)).used.ram) closed
         ∙ ap (λ (y : Account). y.used.ram) (heir_now es (number w.trading.tree n) (number w.trading.tree init) opened init_open apart) in
@@ -300,7 +299,7 @@ module _ (w : Trades) (h : IsTrades w) (t : IsTrading w.trading) (b : IsBalanced
           b.within (number w.trading.tree init),
         )
 
-    pub caps_back : (node_at w.nodes n).quantum.caps ≤ available_caps (account_in w.trading.tree m.ledger init)
+    pub caps_back : (node_at w.nodes n).quantum.caps ≤ available_caps (account_in w.trading.tree m init)
     caps_back =
         let e = ap (λ (fs : Entries). (account_at fs (number w.trading.tree init)).used.caps) closed
         ∙ ap (λ (y : Account). y.used.caps) (heir_now es (number w.trading.tree n) (number w.trading.tree init) opened init_open apart) in
@@ -326,24 +325,24 @@ module _ (w : Trades) (h : IsTrades w) (t : IsTrading w.trading) (b : IsBalanced
             f.ram,
             ram_back,
             ap (λ (q : Amount). q.ram) (same_quantum n),
-            ap (λ j. available (account_in w.trading.tree m.ledger j)) f.beside,
-            ap (λ (y : Trading). available (account_in y.tree y.memory.ledger (parent y.tree i))) leaves.is,
+            ap (λ j. available (account_in w.trading.tree m j)) f.beside,
+            ap (λ (y : Trading). available (account_in y.tree y.ledger (parent y.tree i))) leaves.is,
           );
           caps = omega (
             arith,
             f.caps,
             caps_back,
             ap (λ (q : Amount). q.caps) (same_quantum n),
-            ap (λ j. available_caps (account_in w.trading.tree m.ledger j)) f.beside,
-            ap (λ (y : Trading). available_caps (account_in y.tree y.memory.ledger (parent y.tree i))) leaves.is,
+            ap (λ j. available_caps (account_in w.trading.tree m j)) f.beside,
+            ap (λ (y : Trading). available_caps (account_in y.tree y.ledger (parent y.tree i))) leaves.is,
           );
         }
 
 -- a pending node starts: it has its quantum from its init
 module _ (w : Trades) (h : IsTrades w) (t : IsTrading w.trading) (i : ℕ) (pos : 0 < i) (lt : i < length w.trading.tree.parents)
     (pending : (node_at w.nodes i).stage ≡ Pending)
-    (enough : (node_at w.nodes i).quantum.ram ≤ available (account_in w.trading.tree w.trading.memory.ledger (parent w.trading.tree i)))
-    (enough_caps : (node_at w.nodes i).quantum.caps ≤ available_caps (account_in w.trading.tree w.trading.memory.ledger (parent w.trading.tree i))) where
+    (enough : (node_at w.nodes i).quantum.ram ≤ available (account_in w.trading.tree w.trading.ledger (parent w.trading.tree i)))
+    (enough_caps : (node_at w.nodes i).quantum.caps ≤ available_caps (account_in w.trading.tree w.trading.ledger (parent w.trading.tree i))) where
   abbrev q : Amount
   q = (node_at w.nodes i).quantum
 
@@ -362,10 +361,10 @@ module _ (w : Trades) (h : IsTrades w) (t : IsTrading w.trading) (i : ℕ) (pos 
   not_ended : (node_at w.nodes i).stage ≡ Ended → ⊥
   not_ended e = let x : Pending ≡ Ended = sym pending ∙ e in cc
 
-  pub i_open : IsOpen w.trading.memory.ledger.accounts (number w.trading.tree i)
+  pub i_open : IsOpen w.trading.ledger.accounts (number w.trading.tree i)
   i_open = h.settled.opened i lt not_ended
 
-  pub p_open : IsOpen w.trading.memory.ledger.accounts (number w.trading.tree p)
+  pub p_open : IsOpen w.trading.ledger.accounts (number w.trading.tree p)
   p_open = h.settled.opened p p_there (λ e. not_both (node_at w.nodes p).stage (h.settled.inits i pos lt) e)
 
   i_in : i < length w.nodes
@@ -419,7 +418,7 @@ module _ (w : Trades) (h : IsTrades w) (t : IsTrading w.trading) (i : ℕ) (pos 
 
   pub started_kept : IsTrades (record { trading = handed_on w.trading i q; nodes = now_live })
   started_kept =
-      let es = w.trading.memory.ledger.accounts in
+      let es = w.trading.ledger.accounts in
       let moved_on = moved_settled w.trading.tree w.trading.leaves w.nodes es (number w.trading.tree p) (number w.trading.tree i) q h.settled p_open i_open in
       record {
         uncounted = λ z j. ap (λ (y : Amount). y.caps) (same_quanta j) ∙ h.uncounted z j;

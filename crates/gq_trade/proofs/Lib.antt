@@ -10,9 +10,6 @@ pub mod Settled_nodes_sessions
 pub mod Init_spending
 pub mod Session_sums
 pub mod Waiting_client_count
-pub mod Account_byte_views
-mod Chunk_grow_shrink
-mod Chunk_byte_writes
 pub mod Donation_account_store
 pub mod Lowest_free_number
 pub mod Oldest_request_position
@@ -21,4 +18,3 @@ pub mod Donation_bounds
 pub mod Leaf_account_closing
 pub mod Session_table_definition
 pub mod Sessions_kept
-pub mod Other_account_stores

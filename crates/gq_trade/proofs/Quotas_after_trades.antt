@@ -1,29 +1,29 @@
 -- What holds in every `Trades` holds after each call.
 use Rattle.std.proofs.Common.{◌≡◌, ℕ, ◌+◌, ◌<◌, ◌≤◌, List, length, Some, None, IfSome, get_or, slice_set, is_some, refl, sym, ap, subst, ◌∙◌, arith}
 use Rattle.gq_tariff.specs.declared.amount.Amount.{Amount}
-use Rattle.gq_ram.specs.declared.account.AccountNo.{AccountNo}
+use Rattle.gq_store.specs.declared.AccountNo.{AccountNo}
 use Rattle.gq_ram.specs.Account_table.{account_at, available, available_caps, IsOpen}
 use Rattle.gq_ram.specs.Ledgers.{Ledger, IsBalanced}
 use Rattle.gq_ram.specs.Account_tree.{donated, account_of as account_in, number, parent}
 use Rattle.gq_ram.specs.declared.account.Account.{Account}
 use Rattle.gq_ram.specs.Giving.{CanGive}
-use Rattle.gq_trade.specs.Stores.{Memory}
-use Rattle.gq_trade.specs.Rest.{IsClosed, SameRest}
+use Rattle.gq_ram.specs.Account_stores.{SameRest}
+use Rattle.gq_trade.specs.Rest.{IsClosed}
 use Rattle.gq_trade.specs.Balances.{no_node, node_at}
 use Rattle.gq_trade.specs.Leaf_ends.{CanStart, HasNoSessions, follower, staged, with_stage}
 use Rattle.gq_trade.specs.declared.trade_node.NodeState.{NodeState}
 use Rattle.gq_trade.specs.declared.trade_node.Stage.TheVariants.{Live, Ended}
 use Rattle.gq_trade.specs.internal.Trades_fields.{Holds}
-use Rattle.gq_trade.specs.internal.Kept_rest.{rest_refl}
+use Rattle.gq_ram.specs.internal.Kept_rest.{rest_refl}
 use Rattle.gq_trade.specs.Numbers.{IsTaken}
 use Rattle.gq_trade.specs.declared.requests.Ask.{Ask}
 use Rattle.gq_trade.specs.declared.requests.Ask.TheVariants.{Upgrade}
 use Rattle.gq_trade.specs.declared.requests.Request.{Request}
 use Rattle.gq_trade.specs.declared.session.Session.{Session}
 use Rattle.gq_trade.specs.Queues.{oldest_to}
-use Rattle.gq_trade.specs.Trading.{AreOfOthers, Begins, Leaves, account_no, handed_on, parted, root_no, with_requests}
-use Rattle.gq_trade.specs.Trading.{Trading, IsTrading, IsBetween, SameOthers, account_of, asked, client_of, found, given, its_account, node_of}
-use Rattle.gq_trade.specs.Trading.{server_of, session_at, upgraded, with_ask, with_memory, with_more, with_session}
+use Rattle.gq_trade.specs.Trading.{AreOfOthers, Begins, Leaves, account_no, handed_on, parted, with_requests}
+use Rattle.gq_trade.specs.Trading.{Trading, IsTrading, IsBetween, account_of, asked, client_of, found, given, its_account, node_of}
+use Rattle.gq_trade.specs.Trading.{server_of, session_at, upgraded, with_ask, with_ledger, with_more, with_session}
 use Rattle.gq_trade.specs.Trades.{Trades, AreParties, IsLive, IsTrades, with_trading}
 use Rattle.gq_trade.specs.Waiting.{IsIdle}
 use Rattle.gq_trade.proofs.Donation_bounds.{caps_within, ram_within}
@@ -34,24 +34,22 @@ use Rattle.gq_trade.proofs.Leaf_end_start as leaving
 use Rattle.gq_trade.proofs.Sessions_kept as trading
 use Rattle.gq_trade.proofs.Waiting_client_count.{idle_none}
 
--- what a donation makes of the memory, where i and j are the nodes of the leaves x and y
-pub given_is : (w : Trading) (m : Memory) (x y i j : ℕ) (n : Amount) → i ≡ node_of w x → j ≡ node_of w y
-    → m.ledger ≡ donated w.tree w.memory.ledger i j n → m.payer ≡ w.memory.payer → m ≡ (given w x y n).memory
-given_is w m x y i j n ei ej moved payer =
-    let e : m.ledger ≡ donated w.tree w.memory.ledger (node_of w x) (node_of w y) n =
-    moved ∙ ap (λ a. donated w.tree w.memory.ledger a j n) ei ∙ ap (λ a. donated w.tree w.memory.ledger (node_of w x) a n) ej in
-    λ t. record { ledger = e t; payer = payer t }
+-- what a donation makes of the ledger, where i and j are the nodes of the leaves x and y
+pub given_is : (w : Trading) (m : Ledger) (x y i j : ℕ) (n : Amount) → i ≡ node_of w x → j ≡ node_of w y
+    → m ≡ donated w.tree w.ledger i j n → m ≡ (given w x y n).ledger
+given_is w m x y i j n ei ej moved =
+    moved ∙ ap (λ a. donated w.tree w.ledger a j n) ei ∙ ap (λ a. donated w.tree w.ledger (node_of w x) a n) ej
 
 -- what the account of the node i has is what the leaf x has
-pub enough_of : (w : Trading) (x i n : ℕ) (f : Account → ℕ) → i ≡ node_of w x → n ≤ f (account_in w.tree w.memory.ledger i) → n ≤ f (its_account w x)
-enough_of w x i n f e le = subst (λ j. n ≤ f (account_in w.tree w.memory.ledger j)) e le
+pub enough_of : (w : Trading) (x i n : ℕ) (f : Account → ℕ) → i ≡ node_of w x → n ≤ f (account_in w.tree w.ledger i) → n ≤ f (its_account w x)
+enough_of w x i n f e le = subst (λ j. n ≤ f (account_in w.tree w.ledger j)) e le
 
 module _ (w : Trades) (h : Holds w) where
-  pub open_of : (x : ℕ) → IsLive w x → IsOpen w.trading.memory.ledger.accounts (account_of w.trading x)
+  pub open_of : (x : ℕ) → IsLive w x → IsOpen w.trading.ledger.accounts (account_of w.trading x)
   open_of x l = kept.live_open w h.trades h.trading x l
 
   pub can_give : (x y : ℕ) → IsLive w x → IsLive w y → (x ≡ y → ⊥)
-      → CanGive w.trading.tree w.trading.memory.ledger.accounts (node_of w.trading x) (node_of w.trading y)
+      → CanGive w.trading.tree w.trading.ledger.accounts (node_of w.trading x) (node_of w.trading y)
   can_give x y xl yl ne = record {
     nodes = h.trading.nodes;
     from = h.trading.leaves x xl.there;
@@ -79,23 +77,23 @@ module _ (w : Trades) (h : Holds w) where
   room_for_its k taken idle = room_for_one (client_of w.trading k) (parties_at k taken).client.there idle
 
   -- what was given for a session stays a small number
-  pub small_ram : (k i n : ℕ) → IsTaken w.trading.sessions k → IsIdle w.trading (client_of w.trading k) → IsBalanced w.trading.memory.ledger
-      → n ≤ available (account_in w.trading.tree w.trading.memory.ledger i) → (session_at w.trading k).donation.ram + n ≤ 2199023255552
+  pub small_ram : (k i n : ℕ) → IsTaken w.trading.sessions k → IsIdle w.trading (client_of w.trading k) → IsBalanced w.trading.ledger
+      → n ≤ available (account_in w.trading.tree w.trading.ledger i) → (session_at w.trading k).donation.ram + n ≤ 2199023255552
   small_ram k i n taken idle b le =
       let g = h.trades.given k taken in
-      let m = ram_within w.trading.memory.ledger (number w.trading.tree i) n b le in
+      let m = ram_within w.trading.ledger (number w.trading.tree i) n b le in
       omega (arith, g.ram, g.level, idle_none w.trading.sessions k w.trading.requests idle, m)
 
-  pub small_caps : (k i n : ℕ) → IsTaken w.trading.sessions k → IsIdle w.trading (client_of w.trading k) → IsBalanced w.trading.memory.ledger
-      → n ≤ available_caps (account_in w.trading.tree w.trading.memory.ledger i) → (session_at w.trading k).donation.caps + n ≤ 2199023255552
+  pub small_caps : (k i n : ℕ) → IsTaken w.trading.sessions k → IsIdle w.trading (client_of w.trading k) → IsBalanced w.trading.ledger
+      → n ≤ available_caps (account_in w.trading.tree w.trading.ledger i) → (session_at w.trading k).donation.caps + n ≤ 2199023255552
   small_caps k i n taken idle b le =
       let g = h.trades.given k taken in
-      let m = caps_within w.trading.memory.ledger (number w.trading.tree i) n b le in
+      let m = caps_within w.trading.ledger (number w.trading.tree i) n b le in
       omega (arith, g.caps, g.level, idle_none w.trading.sessions k w.trading.requests idle, m)
 
   pub asked_holds : (s : Session) → AreParties w s → s.donation.ram ≤ available (its_account w.trading s.client)
       → s.donation.caps ≤ available_caps (its_account w.trading s.client) → IsIdle w.trading s.client → s.level ≡ 0
-      → IsBalanced w.trading.memory.ledger → Holds (with_trading w (asked w.trading s))
+      → IsBalanced w.trading.ledger → Holds (with_trading w (asked w.trading s))
   asked_holds s p enough enough_caps idle zero b =
       let b2 : IsBetween (length w.trading.leaves) (length w.trading.objects) s =
       record { client = p.client.there; server = p.server.there; apart = p.apart; service = p.service } in
@@ -105,9 +103,9 @@ module _ (w : Trades) (h : Holds w) where
         trades = kept.asked_kept w h.trades h.trading s p.client p.server p.apart p.counted enough enough_caps idle zero b;
       }
 
-  pub upgraded_holds : (k : ℕ) (n : Amount) → IsTaken w.trading.sessions k → (w.trading.memory.ledger.price ≡ 0 → n.caps ≡ 0)
+  pub upgraded_holds : (k : ℕ) (n : Amount) → IsTaken w.trading.sessions k → (w.trading.ledger.price ≡ 0 → n.caps ≡ 0)
       → n.ram ≤ available (its_account w.trading (client_of w.trading k)) → n.caps ≤ available_caps (its_account w.trading (client_of w.trading k))
-      → IsIdle w.trading (client_of w.trading k) → IsBalanced w.trading.memory.ledger → Holds (with_trading w (upgraded w.trading k n))
+      → IsIdle w.trading (client_of w.trading k) → IsBalanced w.trading.ledger → Holds (with_trading w (upgraded w.trading k n))
   upgraded_holds k n taken counted enough enough_caps idle b =
       let p = parties_at k taken in
       let v : Trading = given w.trading (client_of w.trading k) (server_of w.trading k) n in
@@ -137,27 +135,18 @@ module _ (w : Trades) (h : Holds w) where
       let same : old ≡ session_at w.trading k = sym (ap found is) in
       record {
         trading = trading.changed_kept w.trading k old s h.trading is ec es ev;
-        trades = kept.session_kept w h.trades h.trading w.trading.memory w.trading.memory.payer k s (rest_refl w.trading.memory) taken
+        trades = kept.session_kept w h.trades h.trading w.trading.ledger 0 k s (rest_refl 0 w.trading.ledger) taken
             (ec ∙ ap (λ (x : Session). x.client) same) (es ∙ ap (λ (x : Session). x.server) same) (ed ∙ ap (λ (x : Session). x.donation) same)
             (subst (λ (x : Session). x.level ≤ s.level) same up)
             (most (subst (λ (x : Session). x.level ≤ 3) (sym same) (h.trades.given k taken).level));
       }
 
-  -- the memory of one account is other
-  pub memory_holds : (m : Memory) (a : AccountNo) → SameOthers w.trading.memory.ledger m.ledger a → IsOpen w.trading.memory.ledger.accounts a.0
-      → Holds (with_trading w (with_memory w.trading m))
-  memory_holds m a rest o = record {
-    trading = trading.others_kept w.trading m a h.trading rest o;
+  -- what one account has is other
+  pub rest_holds : (m : Ledger) (a : ℕ) → SameRest a w.trading.ledger m → Holds (with_trading w (with_ledger w.trading m))
+  rest_holds m a rest = record {
+    trading = trading.others_kept w.trading m a h.trading rest;
     trades = kept.memory_kept w h.trades h.trading m a rest;
   }
-
-  -- as a store of the account that pays
-  pub rest_holds : (m : Memory) → SameRest w.trading.memory m → IsOpen w.trading.memory.ledger.accounts w.trading.memory.payer.0
-      → Holds (with_trading w (with_memory w.trading m))
-  rest_holds m rest o =
-      let n : Memory = record { ledger = m.ledger; payer = w.trading.memory.payer } in
-      let e : m ≡ n = λ i. record { ledger = m.ledger; payer = rest.payer i } in
-      memory_holds m w.trading.memory.payer (subst (SameRest w.trading.memory) e rest) o
 
   -- a request has begun, and is taken
   pub accepted_holds : (u : Trades) (x : ℕ) (r : Request) (rest : List Request) → Holds u
@@ -185,41 +174,32 @@ module _ (w : Trades) (h : Holds w) where
         trades = ends.parted_kept w h.trades h.trading k taken enough enough_caps none;
       }
 
-  -- another account pays
-  pub payer_holds : (m : Memory) (a : AccountNo) → m.ledger ≡ w.trading.memory.ledger → IsOpen w.trading.memory.ledger.accounts a.0
-      → Holds (with_trading w (with_memory w.trading m))
-  payer_holds m a e o =
-      memory_holds m a (subst (λ (l : Ledger). SameOthers w.trading.memory.ledger l a) (sym e)
-      (rest_refl (record { ledger = w.trading.memory.ledger; payer = a }))) o
-
   -- a leaf ends
-  pub left_holds : IsBalanced w.trading.memory.ledger → (x : ℕ) → IsLive w x → HasNoSessions w.trading x → (v : Trading) → Leaves w.trading v x
+  pub left_holds : IsBalanced w.trading.ledger → (x : ℕ) → IsLive w x → HasNoSessions w.trading x → (v : Trading) → Leaves w.trading v x
       → Holds (record { trading = v; nodes = staged w.nodes (node_of w.trading x) Ended })
   left_holds b x live alone v l =
       let t = w.trading in
-      let m : Memory = record { ledger = t.memory.ledger; payer = root_no t } in
       let refers = h.trading.nodes.references (node_of t x) (h.trades.settled.below x live.there) (h.trading.leaves x live.there) (open_of x live) in
       record {
-        trading = subst IsTrading (sym l.is) (closed_kept t x m v.memory (account_no t x) h.trading b live.there (h.trades.settled.below x live.there)
-            (open_of x live) refl refl (subst (λ o. IfSome o (λ init. IsClosed m v.memory (account_no t x) init)) (sym refers) l.closed));
+        trading = subst IsTrading (sym l.is) (closed_kept t x v.ledger (account_no t x) h.trading b live.there (h.trades.settled.below x live.there)
+            (open_of x live) refl (subst (λ o. IfSome o (λ init. IsClosed t.ledger v.ledger (account_no t x) init)) (sym refers) l.closed));
         trades = leaving.left_kept w h.trades h.trading b x live alone v l;
       }
 
-  -- n is the memory with the root's account at hand, and m that in which the account of the leaf x is closed; old is what was known of its node i
-  module _ (b : IsBalanced w.trading.memory.ledger) (x : ℕ) (live : IsLive w x) (alone : HasNoSessions w.trading x) (n m : Memory) (a root : AccountNo)
-      (i : ℕ) (old : NodeState) (ei : i ≡ node_of w.trading x) (ea : a.0 ≡ number w.trading.tree i) (er : root.0 ≡ number w.trading.tree 0)
-      (en : n ≡ record { ledger = w.trading.memory.ledger; payer = root })
-      (closes : IfSome (account_at n.ledger.accounts a.0).reference (λ init. IsClosed n m a init)) (eo : old ≡ get_or w.nodes i old) where
+  -- m is the ledger in which the account of the leaf x is closed; old is what was known of its node i
+  module _ (b : IsBalanced w.trading.ledger) (x : ℕ) (live : IsLive w x) (alone : HasNoSessions w.trading x) (m : Ledger) (a : AccountNo)
+      (i : ℕ) (old : NodeState) (ei : i ≡ node_of w.trading x) (ea : a.0 ≡ number w.trading.tree i)
+      (closes : IfSome (account_at w.trading.ledger.accounts a.0).reference (λ init. IsClosed w.trading.ledger m a init))
+      (eo : old ≡ get_or w.nodes i old) where
     abbrev after : Trading
-    after = with_memory w.trading m
+    after = with_ledger w.trading m
 
     abbrev nodes : List NodeState
     nodes = slice_set w.nodes i (with_stage old Ended)
 
     leaves : Leaves w.trading after x
     leaves =
-        leaves_of w.trading x n m a root h.trading live.there (h.trades.settled.below x live.there) (open_of x live) (ea ∙ ap (number w.trading.tree) ei) er
-        en closes
+        leaves_of w.trading x m a h.trading live.there (h.trades.settled.below x live.there) (open_of x live) (ea ∙ ap (number w.trading.tree) ei) closes
 
     old_node : old ≡ node_at w.nodes i
     old_node = leaving.item w.nodes i old no_node (omega (arith, h.trading.leaves x live.there, h.trades.settled.count, ei)) eo
@@ -245,6 +225,6 @@ module _ (w : Trades) (h : Holds w) where
       let io = leaving.i_open w h.trades h.trading i can.below can.there can.pending can.ram can.caps in
       let po = leaving.p_open w h.trades h.trading i can.below can.there can.pending can.ram can.caps in
       record {
-        trading = trading.handed_kept t i (parent t.tree i) n (handed_on t i n).memory h.trading io po refl refl;
+        trading = trading.handed_kept t i (parent t.tree i) n (handed_on t i n).ledger h.trading io po refl refl;
         trades = leaving.started_kept w h.trades h.trading i can.below can.there can.pending can.ram can.caps;
       }

@@ -5,7 +5,7 @@ use Rattle.gq_ram.specs.declared.account.Account.{Account}
 use Rattle.gq_ram.specs.Account_table.{available, available_caps}
 use Rattle.gq_store.specs.Store.{one_more}
 use Rattle.gq_contents.specs.Contents.{size_of}
-use Rattle.gq_trade.specs.Stores.{caps_left}
+use Rattle.gq_ram.specs.Account_stores.{caps_left}
 use Rattle.gq_trade.specs.declared.session.Session.{Session}
 use Rattle.gq_trade.specs.Trading.{Trading, Frees, account_of, its_account, server_of, session_at}
 use Rattle.gq_trade.proofs.Accepted_closed_trades.{caps_enough}
@@ -26,11 +26,11 @@ module _ (w v : Trading) (k : ℕ) (s : Session) (is : s ≡ session_at w k) (fr
   bytes_back le =
       omega (arith, le, frees.back, ap (λ (x : Session). x.donation.ram) there, ap (λ (x : Account). available x) its_server)
 
-  pub caps_back : (w.memory.ledger.price ≡ 0 → s.donation.caps ≡ 0) → s.donation.caps ≤ available_caps (its_account w s.server) + 1
+  pub caps_back : (w.ledger.price ≡ 0 → s.donation.caps ≡ 0) → s.donation.caps ≤ available_caps (its_account w s.server) + 1
       → (session_at v k).donation.caps ≤ available_caps (its_account v (server_of v k))
   caps_back counted le =
-      let c : caps_left w.memory.ledger.price (its_account v s.server) ≡ one_more (caps_left w.memory.ledger.price (its_account w s.server)) =
-      subst (λ p. caps_left p (its_account v s.server) ≡ one_more (caps_left w.memory.ledger.price (its_account w s.server))) frees.others.whole.0
+      let c : caps_left w.ledger.price (its_account v s.server) ≡ one_more (caps_left w.ledger.price (its_account w s.server)) =
+      subst (λ p. caps_left p (its_account v s.server) ≡ one_more (caps_left w.ledger.price (its_account w s.server))) frees.others.whole.0
       frees.caps in
-      let e = caps_enough w.memory.ledger.price (its_account w s.server) (its_account v s.server) s.donation.caps c counted le in
+      let e = caps_enough w.ledger.price (its_account w s.server) (its_account v s.server) s.donation.caps c counted le in
       omega (arith, e, ap (λ (x : Session). x.donation.caps) there, ap (λ (x : Account). available_caps x) its_server)

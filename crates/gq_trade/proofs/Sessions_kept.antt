@@ -1,23 +1,23 @@
 -- What a call leaves of what holds of sessions and requests.
 use Rattle.std.proofs.Common.{◌≡◌, ℕ, zero, suc, ◌+◌, ◌<◌, inl, inr, List, [], ◌∷◌, ◌++◌, length, set, get_or, get_or-set_same, get_or-set_other, Option}
 use Rattle.std.proofs.Common.{Some, None}
-use Rattle.std.proofs.Common.{IsTrue, is_some, true, false, replicate, IfSome, IfNone, Result, Ok, Err, IfOk, refl, sym, ap, subst, ◌∙◌, arith}
+use Rattle.std.proofs.Common.{is_some, true, false, replicate, IfSome, IfNone, Result, Ok, Err, IfOk, refl, sym, ap, subst, ◌∙◌, arith}
 use Rattle.std.proofs.lemmas.Bool.{cases_eq}
 use Rattle.std.proofs.lemmas.Bool.Decides.{eqb_tells}
 use Rattle.gq_tariff.specs.declared.amount.Amount.{Amount}
-use Rattle.gq_ram.specs.declared.account.Account.{Account}
 use Rattle.gq_ram.specs.Account_table.{account_at, its_account, IsOpen}
 use Rattle.gq_ram.specs.Account_tree.{donated, number, parent}
 use Rattle.gq_ram.proofs.Quota_move_sequences.{nodes_kept}
 use Rattle.gq_model.specs.declared.program.Form.TheVariants as form
 use Rattle.gq_model.specs.machine.World as world
+use Rattle.gq_model.proofs.Small_facts.{none_some, some_same}
 use Rattle.gq_heap.specs.declared.heap.Heap.{Heap}
-use Rattle.gq_ram.specs.declared.account.AccountNo.{AccountNo}
+use Rattle.gq_store.specs.declared.AccountNo.{AccountNo}
 use Rattle.gq_tariff.specs.Prices.{up}
 use Rattle.gq_store.specs.Store.{one_more}
 use Rattle.gq_store.specs.declared.GrowFault.{GrowFault}
-use Rattle.gq_trade.specs.Stores.{Memory, store_at}
-use Rattle.gq_trade.specs.Rest.{SameRest}
+use Rattle.gq_ram.specs.Account_stores.{store_at, SameRest}
+use Rattle.gq_ram.specs.Ledgers.{Ledger}
 use Rattle.gq_contents.specs.declared.content.Content.{Content}
 use Rattle.gq_contents.specs.declared.content.Content.TheVariants as content
 use Rattle.gq_contents.specs.Contents.{seen, size_of}
@@ -32,7 +32,7 @@ use Rattle.gq_trade.specs.declared.requests.Request.{Request}
 use Rattle.gq_trade.specs.declared.session.Session.{Session}
 use Rattle.gq_trade.specs.Trading.{Trading, IsTrading, AreOf, AreBetween, IsBetween, account_of, entered, found, given, server_of, session_at, session_in}
 use Rattle.gq_trade.specs.Trading.{handed_on, with_ask}
-use Rattle.gq_trade.specs.Trading.{Accepts, AreOfOthers, Begins, Frees, Makes, SameOthers, account_no, with_memory, with_requests, with_session}
+use Rattle.gq_trade.specs.Trading.{Accepts, AreOfOthers, Begins, Frees, Makes, SameOthers, account_no, with_ledger, with_requests, with_session}
 use Rattle.gq_trade.specs.Trading.{with_sessions}
 
 -- another session stays where it is
@@ -74,6 +74,14 @@ between_at n m (None ∷ ss) (suc k) h t = between_at n m ss k h t
 between_at n m (Some s ∷ ss) zero h t = h.0
 between_at n m (Some s ∷ ss) (suc k) h t = between_at n m ss k h.1 t
 
+-- the same of the session at a number
+pub between_some : (n m : ℕ) (ss : List (Option Session)) (k : ℕ) (q : Session) → AreBetween n m ss → get_or ss k None ≡ Some q → IsBetween n m q
+between_some n m [] k q b e = absurd (none_some e)
+between_some n m (None ∷ ss) zero q b e = absurd (none_some e)
+between_some n m (None ∷ ss) (suc k) q b e = between_some n m ss k q b e
+between_some n m (Some s ∷ ss) zero q b e = subst (IsBetween n m) (some_same e) b.0
+between_some n m (Some s ∷ ss) (suc k) q b e = between_some n m ss k q b.1 e
+
 between_set : (n m : ℕ) (ss : List (Option Session)) (k : ℕ) (s : Session) → AreBetween n m ss → IsBetween n m s → AreBetween n m (set ss k (Some s))
 between_set n m [] k s h b = h
 between_set n m (None ∷ ss) zero s h b = (b, h)
@@ -83,11 +91,11 @@ between_set n m (Some t ∷ ss) (suc k) s h b = (h.0, between_set n m ss k s h.1
 
 -- CALLS
 
-pub given_kept : (w : Trading) (x y : ℕ) (n : Amount) → IsTrading w → IsOpen w.memory.ledger.accounts (account_of w x)
-    → IsOpen w.memory.ledger.accounts (account_of w y) → IsTrading (given w x y n)
+pub given_kept : (w : Trading) (x y : ℕ) (n : Amount) → IsTrading w → IsOpen w.ledger.accounts (account_of w x)
+    → IsOpen w.ledger.accounts (account_of w y) → IsTrading (given w x y n)
 given_kept w x y n h xo yo = record {
   tree = h.tree;
-  nodes = nodes_kept w.tree w.memory.ledger.accounts (account_of w x) (account_of w y) n h.nodes xo yo;
+  nodes = nodes_kept w.tree w.ledger.accounts (account_of w x) (account_of w y) n h.nodes xo yo;
   leaves = h.leaves;
   apart = h.apart;
   objects = h.objects;
@@ -96,15 +104,15 @@ given_kept w x y n h xo yo = record {
 }
 
 -- so much is handed to a node by its init
-pub handed_kept : (w : Trading) (i j : ℕ) (n : Amount) (m : Memory) → IsTrading w → IsOpen w.memory.ledger.accounts (number w.tree i)
-    → IsOpen w.memory.ledger.accounts (number w.tree (parent w.tree i)) → j ≡ parent w.tree i
-    → m ≡ record { ledger = donated w.tree w.memory.ledger j i n; payer = w.memory.payer } → IsTrading (with_memory w m)
+pub handed_kept : (w : Trading) (i j : ℕ) (n : Amount) (m : Ledger) → IsTrading w → IsOpen w.ledger.accounts (number w.tree i)
+    → IsOpen w.ledger.accounts (number w.tree (parent w.tree i)) → j ≡ parent w.tree i
+    → m ≡ donated w.tree w.ledger j i n → IsTrading (with_ledger w m)
 handed_kept w i j n m h io po e is =
-    let f : handed_on w i n ≡ with_memory w m =
-    ap (λ k. with_memory w (record { ledger = donated w.tree w.memory.ledger k i n; payer = w.memory.payer })) (sym e) ∙ ap (with_memory w) (sym is) in
+    let f : handed_on w i n ≡ with_ledger w m =
+    ap (λ k. with_ledger w (donated w.tree w.ledger k i n)) (sym e) ∙ ap (with_ledger w) (sym is) in
     subst IsTrading f (record {
       tree = h.tree;
-      nodes = nodes_kept w.tree w.memory.ledger.accounts (number w.tree (parent w.tree i)) (number w.tree i) n h.nodes po io;
+      nodes = nodes_kept w.tree w.ledger.accounts (number w.tree (parent w.tree i)) (number w.tree i) n h.nodes po io;
       leaves = h.leaves;
       apart = h.apart;
       objects = h.objects;
@@ -260,22 +268,21 @@ accepts_of w u v x r b taken rest =
 
 -- OBJECTS
 
--- m is the memory in which the account a has made a slice of n bytes
-pub makes_of : (r : Result Content GrowFault) (w : Trading) (m : Memory) (x n n0 : ℕ) (a : AccountNo) → a ≡ account_no w x → n0 ≡ n
-    → IfOk r (λ t. IsMadeBeside (store_at w.memory.ledger a.0) (store_at m.ledger a.0) t (world.Bytes form.Slice n0 (replicate n0 0)) n0)
-    → m.payer ≡ w.memory.payer → SameOthers w.memory.ledger m.ledger a → IfOk r (λ t. Makes w (with_memory w m) x n t)
-makes_of (Err e) w m x n n0 a ea en made payer rest = tt
-makes_of (Ok t) w m x n n0 a ea en made payer rest = record {
+-- m is the ledger in which the account a has made a slice of n bytes
+pub makes_of : (r : Result Content GrowFault) (w : Trading) (m : Ledger) (x n n0 : ℕ) (a : AccountNo) → a ≡ account_no w x → n0 ≡ n
+    → IfOk r (λ t. IsMadeBeside (store_at w.ledger a.0) (store_at m a.0) t (world.Bytes form.Slice n0 (replicate n0 0)) n0)
+    → SameOthers w.ledger m a → IfOk r (λ t. Makes w (with_ledger w m) x n t)
+makes_of (Err e) w m x n n0 a ea en made rest = tt
+makes_of (Ok t) w m x n n0 a ea en made rest = record {
   is = refl;
-  payer = payer;
   changes =
-      subst (λ (b : AccountNo). (heap : Heap) → Changes heap heap (store_at w.memory.ledger b.0) (store_at m.ledger b.0) content.Empty t) ea made.changes;
+      subst (λ (b : AccountNo). (heap : Heap) → Changes heap heap (store_at w.ledger b.0) (store_at m b.0) content.Empty t) ea made.changes;
   seen =
-      subst (λ (b : AccountNo). seen (store_at m.ledger b.0) t ≡ world.Bytes form.Slice n (replicate n 0)) ea
-      (subst (λ i. seen (store_at m.ledger a.0) t ≡ world.Bytes form.Slice i (replicate i 0)) en made.reads);
+      subst (λ (b : AccountNo). seen (store_at m b.0) t ≡ world.Bytes form.Slice n (replicate n 0)) ea
+      (subst (λ i. seen (store_at m a.0) t ≡ world.Bytes form.Slice i (replicate i 0)) en made.reads);
   size = made.size ∙ en;
-  pays = subst (λ (b : AccountNo). (heap : Heap) → Pays heap heap (store_at w.memory.ledger b.0) (store_at m.ledger b.0) content.Empty t) ea made.pays;
-  others = subst (λ (b : AccountNo). SameOthers w.memory.ledger m.ledger b) ea rest;
+  pays = subst (λ (b : AccountNo). (heap : Heap) → Pays heap heap (store_at w.ledger b.0) (store_at m b.0) content.Empty t) ea made.pays;
+  others = subst (λ (b : AccountNo). SameOthers w.ledger m b) ea rest;
 }
 
 -- the requests that stay, whether one was taken or none
@@ -319,56 +326,44 @@ removed_kept w k h o = record {
   requests = of_removed w.sessions k w.requests o h.requests;
 }
 
--- m is the memory in which the account a has freed a slice
-pub frees_of : (w : Trading) (m : Memory) (x : ℕ) (a : AccountNo) (t : Content) → a ≡ account_no w x
-    → ((heap : Heap) → Changes heap heap (store_at w.memory.ledger a.0) (store_at m.ledger a.0) t content.Empty)
-    → ((heap : Heap) → Pays heap heap (store_at w.memory.ledger a.0) (store_at m.ledger a.0) t content.Empty)
-    → (store_at m.ledger a.0).left ≡ (store_at w.memory.ledger a.0).left + up (size_of t + 32)
-    → (store_at m.ledger a.0).caps ≡ one_more (store_at w.memory.ledger a.0).caps → m.payer ≡ w.memory.payer
-    → SameOthers w.memory.ledger m.ledger a → Frees w (with_memory w m) x t
-frees_of w m x a t e changes pays back caps payer rest = record {
+-- m is the ledger in which the account a has freed a slice
+pub frees_of : (w : Trading) (m : Ledger) (x : ℕ) (a : AccountNo) (t : Content) → a ≡ account_no w x
+    → ((heap : Heap) → Changes heap heap (store_at w.ledger a.0) (store_at m a.0) t content.Empty)
+    → ((heap : Heap) → Pays heap heap (store_at w.ledger a.0) (store_at m a.0) t content.Empty)
+    → (store_at m a.0).left ≡ (store_at w.ledger a.0).left + up (size_of t + 32)
+    → (store_at m a.0).caps ≡ one_more (store_at w.ledger a.0).caps
+    → SameOthers w.ledger m a → Frees w (with_ledger w m) x t
+frees_of w m x a t e changes pays back caps rest = record {
   is = refl;
-  payer = payer;
-  changes = subst (λ (b : AccountNo). (heap : Heap) → Changes heap heap (store_at w.memory.ledger b.0) (store_at m.ledger b.0) t content.Empty) e changes;
-  pays = subst (λ (b : AccountNo). (heap : Heap) → Pays heap heap (store_at w.memory.ledger b.0) (store_at m.ledger b.0) t content.Empty) e pays;
+  changes = subst (λ (b : AccountNo). (heap : Heap) → Changes heap heap (store_at w.ledger b.0) (store_at m b.0) t content.Empty) e changes;
+  pays = subst (λ (b : AccountNo). (heap : Heap) → Pays heap heap (store_at w.ledger b.0) (store_at m b.0) t content.Empty) e pays;
   back =
-      subst (λ (b : AccountNo). (store_at m.ledger b.0).left ≡ (store_at w.memory.ledger b.0).left + up (size_of t + 32)) e back;
-  caps = subst (λ (b : AccountNo). (store_at m.ledger b.0).caps ≡ one_more (store_at w.memory.ledger b.0).caps) e caps;
-  others = subst (λ (b : AccountNo). SameOthers w.memory.ledger m.ledger b) e rest;
+      subst (λ (b : AccountNo). (store_at m b.0).left ≡ (store_at w.ledger b.0).left + up (size_of t + 32)) e back;
+  caps = subst (λ (b : AccountNo). (store_at m b.0).caps ≡ one_more (store_at w.ledger b.0).caps) e caps;
+  others = subst (λ (b : AccountNo). SameOthers w.ledger m b) e rest;
 }
 
--- MEMORY OF THE ACCOUNT THAT PAYS
+-- THE MEMORY OF ONE ACCOUNT
 
-was_open : (m n : Memory) (a : ℕ) → SameRest m n → IsOpen m.ledger.accounts m.payer.0 → IsOpen n.ledger.accounts a → IsOpen m.ledger.accounts a
-was_open m n a s p h = elim (cases_eq a m.payer.0) [
-  | inl e ↦ subst (IsOpen m.ledger.accounts) (sym e) p
-  | inr ne ↦ subst (λ (x : Option Account). IsTrue (is_some x)) (s.accounts a ne) h
-]
-
-reference_same : (m n : Memory) (a : ℕ) → SameRest m n
-    → (account_at n.ledger.accounts a).reference ≡ (account_at m.ledger.accounts a).reference
-reference_same m n a s = elim (cases_eq a m.payer.0) [
+reference_same : (p : ℕ) (m n : Ledger) (a : ℕ) → SameRest p m n
+    → (account_at n.accounts a).reference ≡ (account_at m.accounts a).reference
+reference_same p m n a s = elim (cases_eq a p) [
   | inl e ↦
-      subst (λ x. (account_at n.ledger.accounts x).reference ≡ (account_at m.ledger.accounts x).reference) (sym e) s.reference
+      subst (λ x. (account_at n.accounts x).reference ≡ (account_at m.accounts x).reference) (sym e) s.reference
   | inr ne ↦ ap (λ o. (its_account o).reference) (s.accounts a ne)
 ]
 
 -- the memory of one account is other
-pub others_kept : (w : Trading) (n : Memory) (a : AccountNo) → IsTrading w → SameOthers w.memory.ledger n.ledger a → IsOpen w.memory.ledger.accounts a.0
-    → IsTrading (with_memory w n)
-others_kept w n a h s o =
-    let l : Memory = record { ledger = w.memory.ledger; payer = a } in
-    let m : Memory = record { ledger = n.ledger; payer = a } in
-    record {
-      tree = h.tree;
-      nodes = record {
-        apart = h.nodes.apart;
-        references = λ i pos lt p.
-            reference_same l m (number w.tree i) s ∙ h.nodes.references i pos lt (was_open l m (number w.tree i) s o p);
-      };
-      leaves = h.leaves;
-      apart = h.apart;
-      objects = h.objects;
-      between = h.between;
-      requests = h.requests;
-    }
+pub others_kept : (w : Trading) (m : Ledger) (a : ℕ) → IsTrading w → SameRest a w.ledger m → IsTrading (with_ledger w m)
+others_kept w m a h s = record {
+  tree = h.tree;
+  nodes = record {
+    apart = h.nodes.apart;
+    references = λ i pos lt p. reference_same a w.ledger m (number w.tree i) s ∙ h.nodes.references i pos lt (s.were_open (number w.tree i) p);
+  };
+  leaves = h.leaves;
+  apart = h.apart;
+  objects = h.objects;
+  between = h.between;
+  requests = h.requests;
+}

@@ -6,8 +6,8 @@ use Rattle.gq_ram.specs.Account_table.{Entries, account_at, its_account, IsOpen}
 use Rattle.gq_ram.specs.Account_tree.{Tree, moved, number}
 use Rattle.gq_ram.proofs.Quota_move_sequences.{still_open, reference_kept}
 use Rattle.gq_trade.specs.Numbers.{added, free_number, IsTaken}
-use Rattle.gq_trade.specs.Stores.{Memory}
-use Rattle.gq_trade.specs.Rest.{SameRest}
+use Rattle.gq_ram.specs.Account_stores.{SameRest}
+use Rattle.gq_ram.specs.Ledgers.{Ledger}
 use Rattle.gq_trade.specs.declared.session.Session.{Session}
 use Rattle.gq_trade.specs.Trading.{session_in}
 use Rattle.gq_trade.specs.declared.trade_node.NodeState.{NodeState}
@@ -65,14 +65,14 @@ pub moved_settled : (t : Tree) (leaves : List ℕ) (ns : List NodeState) (es : E
 moved_settled t leaves ns es x y n h xo yo =
     settled_kept t leaves ns es (moved es x y n) h (still_open es x y n) (λ a. reference_kept es x y n a xo yo)
 
-reference_same : (m n : Memory) (a : ℕ) → SameRest m n
-    → (account_at n.ledger.accounts a).reference ≡ (account_at m.ledger.accounts a).reference
-reference_same m n a s = elim (cases_eq a m.payer.0) [
+reference_same : (p : ℕ) (m n : Ledger) (a : ℕ) → SameRest p m n
+    → (account_at n.accounts a).reference ≡ (account_at m.accounts a).reference
+reference_same p m n a s = elim (cases_eq a p) [
   | inl e ↦
-      subst (λ x. (account_at n.ledger.accounts x).reference ≡ (account_at m.ledger.accounts x).reference) (sym e) s.reference
+      subst (λ x. (account_at n.accounts x).reference ≡ (account_at m.accounts x).reference) (sym e) s.reference
   | inr ne ↦ ap (λ o. (its_account o).reference) (s.accounts a ne)
 ]
 
-pub rest_settled : (t : Tree) (leaves : List ℕ) (ns : List NodeState) (m n : Memory) → AreSettled t leaves ns m.ledger.accounts → SameRest m n
-    → AreSettled t leaves ns n.ledger.accounts
-rest_settled t leaves ns m n h s = settled_kept t leaves ns m.ledger.accounts n.ledger.accounts h s.still_open (λ a. reference_same m n a s)
+pub rest_settled : (t : Tree) (leaves : List ℕ) (ns : List NodeState) (a : ℕ) (m n : Ledger) → AreSettled t leaves ns m.accounts → SameRest a m n
+    → AreSettled t leaves ns n.accounts
+rest_settled t leaves ns a m n h s = settled_kept t leaves ns m.accounts n.accounts h s.still_open (λ k. reference_same a m n k s)

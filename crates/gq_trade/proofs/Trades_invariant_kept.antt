@@ -2,14 +2,13 @@
 use Rattle.std.proofs.Common.{◌≡◌, ℕ, [], ◌∷◌, ◌++◌, Option, None, ◌<◌, ◌≤◌, List, length, set, Some, refl, sym, ap}
 use Rattle.std.proofs.Common.{subst, ◌∙◌, arith}
 use Rattle.gq_tariff.specs.declared.amount.Amount.{Amount}
-use Rattle.gq_ram.specs.declared.account.AccountNo.{AccountNo}
 use Rattle.gq_ram.specs.Account_table.{available, available_caps, IsOpen}
-use Rattle.gq_ram.specs.Ledgers.{IsBalanced}
-use Rattle.gq_trade.specs.Stores.{Memory}
+use Rattle.gq_ram.specs.Ledgers.{Ledger, IsBalanced}
+use Rattle.gq_ram.specs.Account_stores.{SameRest}
 use Rattle.gq_trade.specs.Numbers.{IsTaken}
 use Rattle.gq_trade.specs.declared.session.Session.{Session}
 use Rattle.gq_trade.specs.Trading.{IsTrading, IsBetween, account_of, asked, client_of, its_account}
-use Rattle.gq_trade.specs.Trading.{SameOthers, node_of, server_of, session_at, upgraded, with_memory, with_more}
+use Rattle.gq_trade.specs.Trading.{node_of, server_of, session_at, upgraded, with_ledger, with_more}
 use Rattle.gq_trade.specs.Trading.{with_session}
 use Rattle.gq_trade.proofs.Sessions_kept.{between_at}
 use Rattle.gq_trade.specs.declared.trade_node.Stage.{Stage}
@@ -37,7 +36,7 @@ module _ (w : Trades) (h : IsTrades w) (t : IsTrading w.trading) where
   pub node_there : (x : ℕ) → x < length w.trading.leaves → node_of w.trading x < length w.trading.tree.parents
   node_there x lt = t.leaves x lt
 
-  pub live_open : (x : ℕ) → IsLive w x → IsOpen w.trading.memory.ledger.accounts (account_of w.trading x)
+  pub live_open : (x : ℕ) → IsLive w x → IsOpen w.trading.ledger.accounts (account_of w.trading x)
   live_open x l = h.settled.opened (node_of w.trading x) (t.leaves x l.there) (λ e. not_both (node_at w.nodes (node_of w.trading x)).stage l.live e)
 
   pub nodes_apart : (x y : ℕ) → x < length w.trading.leaves → y < length w.trading.leaves → (x ≡ y → ⊥)
@@ -56,9 +55,9 @@ module _ (w : Trades) (h : IsTrades w) (t : IsTrading w.trading) where
   -- ASKED FOR
 
   pub asked_kept : (s : Session) → IsLive w s.client → IsLive w s.server → (s.client ≡ s.server → ⊥)
-      → (w.trading.memory.ledger.price ≡ 0 → s.donation.caps ≡ 0) → s.donation.ram ≤ available (its_account w.trading s.client)
+      → (w.trading.ledger.price ≡ 0 → s.donation.caps ≡ 0) → s.donation.ram ≤ available (its_account w.trading s.client)
       → s.donation.caps ≤ available_caps (its_account w.trading s.client) → IsIdle w.trading s.client → s.level ≡ 0
-      → IsBalanced w.trading.memory.ledger → IsTrades (with_trading w (asked w.trading s))
+      → IsBalanced w.trading.ledger → IsTrades (with_trading w (asked w.trading s))
   asked_kept s cl sl apart counted enough enough_caps idle zero_level b =
       let v = w.trading in
       let xl = t.leaves s.client cl.there in let yl = t.leaves s.server sl.there in
@@ -66,8 +65,8 @@ module _ (w : Trades) (h : IsTrades w) (t : IsTrading w.trading) where
       let ne = nodes_apart s.client s.server cl.there sl.there apart in
       record {
         uncounted = h.uncounted;
-        settled = moved_settled v.tree v.leaves w.nodes v.memory.ledger.accounts (account_of v s.client) (account_of v s.server) s.donation h.settled xo yo;
-        sessions = each_added (λ j. IsSettled v.leaves w.nodes v.memory.ledger.price) s v.sessions
+        settled = moved_settled v.tree v.leaves w.nodes v.ledger.accounts (account_of v s.client) (account_of v s.server) s.donation h.settled xo yo;
+        sessions = each_added (λ j. IsSettled v.leaves w.nodes v.ledger.price) s v.sessions
             (record { client = cl.live; server = sl.live; counted = counted }) h.sessions;
         few = h.few;
         asks =
@@ -76,8 +75,8 @@ module _ (w : Trades) (h : IsTrades w) (t : IsTrading w.trading) where
             (ap (λ o. (found o).client) (added_here s v.sessions)) (subst AreApart (sym e) h.asks) (subst (AreOther s.client) (sym e) idle);
         given =
             let r : Request = record { session = free_number v.sessions; server = s.server; ask = Open } in
-            let nr = ram_within v.memory.ledger (account_of v s.client) s.donation.ram b enough in
-            let nc = caps_within v.memory.ledger (account_of v s.client) s.donation.caps b enough_caps in
+            let nr = ram_within v.ledger (account_of v s.client) s.donation.ram b enough in
+            let nc = caps_within v.ledger (account_of v s.client) s.donation.caps b enough_caps in
             each_added (λ k u. IsBounded u (upgrades k (v.requests ++ r ∷ []))) s v.sessions
             (record { level = omega (arith, zero_level); ram = omega (arith, nr); caps = omega (arith, nc) })
             (λ k taken. waits_more (session_in v.sessions k) k v.requests r (h.given k taken));
@@ -87,9 +86,9 @@ module _ (w : Trades) (h : IsTrades w) (t : IsTrading w.trading) where
         );
       }
 
-  pub upgraded_kept : (k : ℕ) (n : Amount) → IsTaken w.trading.sessions k → (w.trading.memory.ledger.price ≡ 0 → n.caps ≡ 0)
+  pub upgraded_kept : (k : ℕ) (n : Amount) → IsTaken w.trading.sessions k → (w.trading.ledger.price ≡ 0 → n.caps ≡ 0)
       → n.ram ≤ available (its_account w.trading (client_of w.trading k)) → n.caps ≤ available_caps (its_account w.trading (client_of w.trading k))
-      → IsIdle w.trading (client_of w.trading k) → IsBalanced w.trading.memory.ledger → IsTrades (with_trading w (upgraded w.trading k n))
+      → IsIdle w.trading (client_of w.trading k) → IsBalanced w.trading.ledger → IsTrades (with_trading w (upgraded w.trading k n))
   upgraded_kept k n taken counted enough enough_caps idle b =
       let v = w.trading in
       let s = session_at v k in
@@ -100,8 +99,8 @@ module _ (w : Trades) (h : IsTrades w) (t : IsTrading w.trading) where
       let old = h.sessions k taken in
       record {
         uncounted = h.uncounted;
-        settled = moved_settled v.tree v.leaves w.nodes v.memory.ledger.accounts (account_of v s.client) (account_of v s.server) n h.settled xo yo;
-        sessions = each_set (λ j. IsSettled v.leaves w.nodes v.memory.ledger.price) v.sessions k (with_more s n)
+        settled = moved_settled v.tree v.leaves w.nodes v.ledger.accounts (account_of v s.client) (account_of v s.server) n h.settled xo yo;
+        sessions = each_set (λ j. IsSettled v.leaves w.nodes v.ledger.price) v.sessions k (with_more s n)
             (record { client = old.client; server = old.server; counted = λ z. omega (arith, old.counted z, counted z) }) h.sessions;
         few = h.few;
         asks =
@@ -113,8 +112,8 @@ module _ (w : Trades) (h : IsTrades w) (t : IsTrading w.trading) where
         given =
             let ts : List (Option Session) = set v.sessions k (Some (with_more s n)) in
             let r : Request = record { session = k; server = (session_in ts k).server; ask = Upgrade } in
-            let nr = ram_within v.memory.ledger (account_of v s.client) n.ram b enough in
-            let nc = caps_within v.memory.ledger (account_of v s.client) n.caps b enough_caps in
+            let nr = ram_within v.ledger (account_of v s.client) n.ram b enough in
+            let nc = caps_within v.ledger (account_of v s.client) n.caps b enough_caps in
             each_set (λ j u. IsBounded u (upgrades j (v.requests ++ r ∷ []))) v.sessions k (with_more s n)
             (upgrade_bounded s k (session_in ts k).server n v.requests nr (omega (arith, nc)) (h.given k taken))
             (λ j u. waits_more (session_in v.sessions j) j v.requests r (h.given j u));
@@ -124,20 +123,18 @@ module _ (w : Trades) (h : IsTrades w) (t : IsTrading w.trading) where
         );
       }
 
-  -- the memory of one account is other, and one session of the same client, server and donation
-  pub session_kept : (m : Memory) (a : AccountNo) (k : ℕ) (s : Session) → SameOthers w.trading.memory.ledger m.ledger a → IsTaken w.trading.sessions k
+  -- what one account has is other, and one session of the same client, server and donation
+  pub session_kept : (m : Ledger) (a k : ℕ) (s : Session) → SameRest a w.trading.ledger m → IsTaken w.trading.sessions k
       → s.client ≡ client_of w.trading k → s.server ≡ server_of w.trading k → s.donation ≡ (session_at w.trading k).donation
-      → (session_at w.trading k).level ≤ s.level → s.level ≤ 3 → IsTrades (with_trading w (with_session (with_memory w.trading m) k s))
+      → (session_at w.trading k).level ≤ s.level → s.level ≤ 3 → IsTrades (with_trading w (with_session (with_ledger w.trading m) k s))
   session_kept m a k s rest taken ec es ed up most =
       let v = w.trading in
-      let l : Memory = record { ledger = v.memory.ledger; payer = a } in
-      let n : Memory = record { ledger = m.ledger; payer = a } in
       let old = h.sessions k taken in
       record {
         uncounted = λ z. h.uncounted (sym rest.whole.0 ∙ z);
-        settled = rest_settled v.tree v.leaves w.nodes l n h.settled rest;
+        settled = rest_settled v.tree v.leaves w.nodes a v.ledger m h.settled rest;
         sessions = subst (λ p. Each (λ j. IsSettled v.leaves w.nodes p) (set v.sessions k (Some s))) (sym rest.whole.0)
-            (each_set (λ j. IsSettled v.leaves w.nodes v.memory.ledger.price) v.sessions k s (record {
+            (each_set (λ j. IsSettled v.leaves w.nodes v.ledger.price) v.sessions k s (record {
               client = ap (λ x. (node_at w.nodes (node_of v x)).stage) ec ∙ old.client;
               server = ap (λ x. (node_at w.nodes (node_of v x)).stage) es ∙ old.server;
               counted = λ z. ap (λ (d : Amount). d.caps) ed ∙ old.counted z;
@@ -152,29 +149,27 @@ module _ (w : Trades) (h : IsTrades w) (t : IsTrading w.trading) where
               caps = omega (arith, b.caps, up, ap (λ (d : Amount). d.caps) ed);
             }) h.given;
         even = λ i lt. (
-          session_even (λ d. d.ram) ram_kind v w.nodes m k s (λ j. rest_quota (λ d. d.ram) v.tree l n j rest) taken ec es
+          session_even (λ d. d.ram) ram_kind v w.nodes m k s (λ j. rest_quota (λ d. d.ram) v.tree a v.ledger m j rest) taken ec es
               (ap (λ (d : Amount). d.ram) ed) i (h.even i lt).0,
-          session_even (λ d. d.caps) caps_kind v w.nodes m k s (λ j. rest_quota (λ d. d.caps) v.tree l n j rest) taken ec es
+          session_even (λ d. d.caps) caps_kind v w.nodes m k s (λ j. rest_quota (λ d. d.caps) v.tree a v.ledger m j rest) taken ec es
               (ap (λ (d : Amount). d.caps) ed) i (h.even i lt).1,
         );
       }
 
-  -- the memory of one account is other
-  pub memory_kept : (m : Memory) (a : AccountNo) → SameOthers w.trading.memory.ledger m.ledger a → IsTrades (with_trading w (with_memory w.trading m))
+  -- what one account has is other
+  pub memory_kept : (m : Ledger) (a : ℕ) → SameRest a w.trading.ledger m → IsTrades (with_trading w (with_ledger w.trading m))
   memory_kept m a rest =
       let v = w.trading in
-      let l : Memory = record { ledger = v.memory.ledger; payer = a } in
-      let n : Memory = record { ledger = m.ledger; payer = a } in
       record {
         uncounted = λ z. h.uncounted (sym rest.whole.0 ∙ z);
-        settled = rest_settled v.tree v.leaves w.nodes l n h.settled rest;
+        settled = rest_settled v.tree v.leaves w.nodes a v.ledger m h.settled rest;
         sessions = subst (λ p. Each (λ j. IsSettled v.leaves w.nodes p) v.sessions) (sym rest.whole.0) h.sessions;
         few = h.few;
         asks = h.asks;
         given = h.given;
         even = λ i lt. (
-          omega (arith, (h.even i lt).0, rest_quota (λ d. d.ram) v.tree l n i rest),
-          omega (arith, (h.even i lt).1, rest_quota (λ d. d.caps) v.tree l n i rest),
+          omega (arith, (h.even i lt).0, rest_quota (λ d. d.ram) v.tree a v.ledger m i rest),
+          omega (arith, (h.even i lt).1, rest_quota (λ d. d.caps) v.tree a v.ledger m i rest),
         );
       }
 

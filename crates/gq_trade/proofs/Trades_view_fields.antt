@@ -4,4 +4,4 @@ use Rattle.gq_trade.specs.internal.Trades_fields.{trades_of}
 use Rattle.gq_trade.specs.Trades.{Trades}
 
 abbrev pub here : Inside → Trades
-here i = trades_of i.memory i.tree i.leaves.items i.objects.items i.sessions i.requests i.nodes.items
+here i = trades_of i.accounts i.tree i.leaves.items i.objects.items i.sessions i.requests i.nodes.items

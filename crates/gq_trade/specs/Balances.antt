@@ -47,11 +47,11 @@ received f w i = sum_by (received_for f w.leaves i) w.sessions
 
 -- the stored quota of a node
 abbrev pub quota : (Amount → ℕ) → Trading → ℕ → ℕ
-quota f w i = f (account_of w.tree w.memory.ledger i).quota
+quota f w i = f (account_of w.tree w.ledger i).quota
 
 -- what its memory costs
 abbrev pub use_of : (Amount → ℕ) → Trading → ℕ → ℕ
-use_of f w i = f (account_of w.tree w.memory.ledger i).used
+use_of f w i = f (account_of w.tree w.ledger i).used
 
 -- The quota of the node i, what it has lent and what it has handed on are together what it was handed and has received.
 abbrev pub IsEven : (Amount → ℕ) → Trading → List NodeState → ℕ → Type 0

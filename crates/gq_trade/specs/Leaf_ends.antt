@@ -42,8 +42,8 @@ pub record CanStart (w : Trades) (i : ℕ) : Type 0 where
   pub below : 0 < i
   pub there : i < length w.trading.tree.parents
   pub pending : (node_at w.nodes i).stage ≡ Pending
-  pub ram : (node_at w.nodes i).quantum.ram ≤ available (account_in w.trading.tree w.trading.memory.ledger (parent w.trading.tree i))
-  pub caps : (node_at w.nodes i).quantum.caps ≤ available_caps (account_in w.trading.tree w.trading.memory.ledger (parent w.trading.tree i))
+  pub ram : (node_at w.nodes i).quantum.ram ≤ available (account_in w.trading.tree w.trading.ledger (parent w.trading.tree i))
+  pub caps : (node_at w.nodes i).quantum.caps ≤ available_caps (account_in w.trading.tree w.trading.ledger (parent w.trading.tree i))
 
 -- a node is live from now on, and has its quantum from its init
 abbrev pub started : Trades → Option ℕ → Trades

@@ -4,7 +4,6 @@ pub mod Trades_plan
 pub mod Trades
 pub mod Waiting
 pub mod internal
-pub mod Stores
 pub mod Rest
 pub mod Lends
 pub mod Numbers

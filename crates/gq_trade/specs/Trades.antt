@@ -30,7 +30,7 @@ pub record AreParties (w : Trades) (s : Session) : Type 0 where
   pub apart : s.client ≡ s.server → ⊥
   pub service : s.service < length w.trading.objects
   -- where capabilities are not counted none are given for it
-  pub counted : w.trading.memory.ledger.price ≡ 0 → s.donation.caps ≡ 0
+  pub counted : w.trading.ledger.price ≡ 0 → s.donation.caps ≡ 0
 
 -- the leaf x can ask the leaf y for a session: both are live, no request of x waits, and a number is free
 pub record CanAskServer (w : Trades) (x y : ℕ) : Type 0 where
@@ -79,10 +79,10 @@ pub record IsSettled (leaves : List ℕ) (ns : List NodeState) (price : ℕ) (s 
 
 pub record IsTrades (w : Trades) : Type 0 where
   -- where capabilities are not counted, no node is given any
-  pub uncounted : w.trading.memory.ledger.price ≡ 0 → (i : ℕ) → (node_at w.nodes i).quantum.caps ≡ 0
-  pub settled : AreSettled w.trading.tree w.trading.leaves w.nodes w.trading.memory.ledger.accounts
+  pub uncounted : w.trading.ledger.price ≡ 0 → (i : ℕ) → (node_at w.nodes i).quantum.caps ≡ 0
+  pub settled : AreSettled w.trading.tree w.trading.leaves w.nodes w.trading.ledger.accounts
   pub sessions : (k : ℕ) → IsTaken w.trading.sessions k
-      → IsSettled w.trading.leaves w.nodes w.trading.memory.ledger.price (session_in w.trading.sessions k)
+      → IsSettled w.trading.leaves w.nodes w.trading.ledger.price (session_in w.trading.sessions k)
   -- each leaf has one request at most
   pub few : length w.trading.leaves ≤ 64
   pub asks : AreApart (clients w.trading)
@@ -90,7 +90,7 @@ pub record IsTrades (w : Trades) : Type 0 where
   -- of bytes and of capabilities
   pub even : (i : ℕ) → i < length w.trading.tree.parents → IsEven (λ n. n.ram) w.trading w.nodes i × IsEven (λ n. n.caps) w.trading w.nodes i
 
--- As a store of the account that pays, it changes this account's memory alone.
-pub record SameButMemory (w v : Trades) : Type 0 where
-  pub trading : SameTrading w.trading v.trading
+-- As a store of the account a, it changes this account's memory alone.
+pub record SameButMemory (a : ℕ) (w v : Trades) : Type 0 where
+  pub trading : SameTrading a w.trading v.trading
   pub nodes : v.nodes ≡ w.nodes

@@ -43,5 +43,5 @@ pub record IsFirst (total : ℕ) (caps : Option ℕ) (ps : List ℕ) (ns : List 
   pub sessions : w.trading.sessions ≡ []
   pub room : w.trading.room ≡ n
   pub requests : w.trading.requests ≡ []
-  pub unused : (i : ℕ) → i < length ps → (account_of w.trading.tree w.trading.memory.ledger i).used ≡ no_amount
-  pub ledger : w.trading.memory.ledger ≡ with_accounts (first_ledger total caps) w.trading.memory.ledger.accounts
+  pub unused : (i : ℕ) → i < length ps → (account_of w.trading.tree w.trading.ledger i).used ≡ no_amount
+  pub ledger : w.trading.ledger ≡ with_accounts (first_ledger total caps) w.trading.ledger.accounts

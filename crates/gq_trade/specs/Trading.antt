@@ -2,7 +2,7 @@
 use Rattle.std.specs.Prelude.{◌≡◌, ℕ, ◌+◌, ◌<◌, ◌≤◌, false, true, List, [], ◌∷◌, ◌++◌, length, replicate, Option, Some, None, get_or, slice_set}
 use Rattle.gq_tariff.specs.declared.amount.Amount.{Amount}
 use Rattle.gq_ram.specs.declared.account.Account.{Account}
-use Rattle.gq_ram.specs.declared.account.AccountNo.{AccountNo}
+use Rattle.gq_store.specs.declared.AccountNo.{AccountNo}
 use Rattle.gq_ram.specs.Account_table.{available, available_caps}
 use Rattle.gq_ram.specs.Ledgers.{Ledger}
 use Rattle.gq_ram.specs.Account_tree.{Tree, IsTree, AreNodes, donated, number, parent}
@@ -12,8 +12,8 @@ use Rattle.gq_model.specs.machine.World as world
 use Rattle.gq_tariff.specs.Prices.{up}
 use Rattle.gq_heap.specs.declared.heap.Heap.{Heap}
 use Rattle.gq_store.specs.Store.{Store, one_more}
-use Rattle.gq_trade.specs.Stores.{Memory, store_at}
-use Rattle.gq_trade.specs.Rest.{IsClosed, SameRest}
+use Rattle.gq_ram.specs.Account_stores.{store_at, SameRest}
+use Rattle.gq_trade.specs.Rest.{IsClosed}
 use Rattle.gq_trade.specs.Numbers.{added, free_number, IsTaken}
 use Rattle.gq_trade.specs.declared.requests.Ask.{Ask}
 use Rattle.gq_trade.specs.declared.requests.Ask.TheVariants.{Open, Upgrade, Close, Call}
@@ -29,7 +29,7 @@ use Rattle.gq_trade.specs.declared.session.SlotId.{SlotId}
 use Rattle.gq_trade.specs.declared.session.SlotId.TheVariants.{InObject}
 
 pub record Trading : Type 0 where
-  pub memory : Memory
+  pub ledger : Ledger
   pub tree : Tree
   -- the node of each leaf
   pub leaves : List ℕ
@@ -48,7 +48,7 @@ abbrev pub account_of : Trading → ℕ → ℕ
 account_of w x = number w.tree (node_of w x)
 
 abbrev pub its_account : Trading → ℕ → Account
-its_account w x = trees.account_of w.tree w.memory.ledger (node_of w x)
+its_account w x = trees.account_of w.tree w.ledger (node_of w x)
 
 -- a session that is not accepted yet
 abbrev pub fresh : ℕ → SlotId → ℕ → ℕ → Amount → Session
@@ -86,7 +86,7 @@ server_of w k = (session_at w k).server
 
 -- what one account pays leaves what all others have
 abbrev pub SameOthers : Ledger → Ledger → AccountNo → Type 0
-SameOthers l m a = SameRest (record { ledger = l; payer = a }) (record { ledger = m; payer = a })
+SameOthers l m a = SameRest a.0 l m
 
 -- WHAT HOLDS
 
@@ -109,7 +109,7 @@ AreBetween n m (Some s ∷ ss) = IsBetween n m s × AreBetween n m ss
 
 pub record IsTrading (w : Trading) : Type 0 where
   pub tree : IsTree w.tree
-  pub nodes : AreNodes w.tree w.memory.ledger.accounts
+  pub nodes : AreNodes w.tree w.ledger.accounts
   pub leaves : (x : ℕ) → x < length w.leaves → node_of w x < length w.tree.parents
   pub apart : (x y : ℕ) → x < length w.leaves → y < length w.leaves → node_of w x ≡ node_of w y → x ≡ y
   pub objects : (i : ℕ) → i < length w.objects → get_or w.objects i 0 ≤ 67108864
@@ -118,18 +118,18 @@ pub record IsTrading (w : Trading) : Type 0 where
 
 -- CALLS
 
-abbrev pub with_memory : Trading → Memory → Trading
-with_memory w m = record { memory = m; tree = w.tree; leaves = w.leaves; objects = w.objects; sessions = w.sessions; room = w.room; requests = w.requests }
+abbrev pub with_ledger : Trading → Ledger → Trading
+with_ledger w l = record { ledger = l; tree = w.tree; leaves = w.leaves; objects = w.objects; sessions = w.sessions; room = w.room; requests = w.requests }
 
 abbrev pub with_sessions : Trading → List (Option Session) → Trading
-with_sessions w ss = record { memory = w.memory; tree = w.tree; leaves = w.leaves; objects = w.objects; sessions = ss; room = w.room; requests = w.requests }
+with_sessions w ss = record { ledger = w.ledger; tree = w.tree; leaves = w.leaves; objects = w.objects; sessions = ss; room = w.room; requests = w.requests }
 
 abbrev pub with_requests : Trading → List Request → Trading
-with_requests w rs = record { memory = w.memory; tree = w.tree; leaves = w.leaves; objects = w.objects; sessions = w.sessions; room = w.room; requests = rs }
+with_requests w rs = record { ledger = w.ledger; tree = w.tree; leaves = w.leaves; objects = w.objects; sessions = w.sessions; room = w.room; requests = rs }
 
 -- so much goes from the account of one leaf to that of another
 abbrev pub given : Trading → ℕ → ℕ → Amount → Trading
-given w x y n = with_memory w (record { ledger = donated w.tree w.memory.ledger (node_of w x) (node_of w y) n; payer = w.memory.payer })
+given w x y n = with_ledger w (donated w.tree w.ledger (node_of w x) (node_of w y) n)
 
 -- a request of a session behind all others
 abbrev pub with_ask : Trading → ℕ → Ask → Trading
@@ -181,22 +181,21 @@ upgraded w k n = with_ask (with_session (given w (client_of w k) (server_of w k)
 
 -- ACCEPTED REQUESTS
 
--- the account of a leaf by its number, and its memory
+-- the account of a leaf by its number, and what it has as a store
 abbrev pub account_no : Trading → ℕ → AccountNo
 account_no w x = record { 0 = account_of w x }
 
 abbrev pub store_of : Trading → ℕ → Store
-store_of w x = store_at w.memory.ledger (account_of w x)
+store_of w x = store_at w.ledger (account_of w x)
 
 -- a slice t of n bytes, which read 0, is made and paid for by the leaf x
 pub record Makes (w v : Trading) (x n : ℕ) (t : Content) : Type 0 where
-  pub is : v ≡ with_memory w v.memory
-  pub payer : v.memory.payer ≡ w.memory.payer
+  pub is : v ≡ with_ledger w v.ledger
   pub changes : (heap : Heap) → Changes heap heap (store_of w x) (store_of v x) content.Empty t
   pub seen : seen (store_of v x) t ≡ world.Bytes form.Slice n (replicate n 0)
   pub size : size_of t ≡ n
   pub pays : (heap : Heap) → Pays heap heap (store_of w x) (store_of v x) content.Empty t
-  pub others : SameOthers w.memory.ledger v.memory.ledger (account_no w x)
+  pub others : SameOthers w.ledger v.ledger (account_no w x)
 
 -- how many bytes the object of a session has, and what it costs
 abbrev pub object_size : Trading → ℕ → ℕ
@@ -234,8 +233,8 @@ raised s = record {
 -- the session is accepted, and has an object that its server has paid for
 pub record Opens (w v : Trading) (k : ℕ) : Type 0 where
   pub object : Content
-  pub makes : Makes w (with_memory w v.memory) (server_of w k) (object_size w k) object
-  pub is : v ≡ with_session (with_memory w v.memory) k (opened (session_at w k) object)
+  pub makes : Makes w (with_ledger w v.ledger) (server_of w k) (object_size w k) object
+  pub is : v ≡ with_session (with_ledger w v.ledger) k (opened (session_at w k) object)
 
 -- what a request does to its session as it is accepted
 abbrev pub Begins : Ask → Trading → Trading → ℕ → Type 0
@@ -283,13 +282,12 @@ caps_then w k = available_caps (its_account w (server_of w k)) + 1
 
 -- a slice that the leaf x has paid for is free
 pub record Frees (w v : Trading) (x : ℕ) (t : Content) : Type 0 where
-  pub is : v ≡ with_memory w v.memory
-  pub payer : v.memory.payer ≡ w.memory.payer
+  pub is : v ≡ with_ledger w v.ledger
   pub changes : (heap : Heap) → Changes heap heap (store_of w x) (store_of v x) t content.Empty
   pub pays : (heap : Heap) → Pays heap heap (store_of w x) (store_of v x) t content.Empty
   pub back : (store_of v x).left ≡ (store_of w x).left + up (size_of t + 32)
   pub caps : (store_of v x).caps ≡ one_more (store_of w x).caps
-  pub others : SameOthers w.memory.ledger v.memory.ledger (account_no w x)
+  pub others : SameOthers w.ledger v.ledger (account_no w x)
 
 -- what was given for a session goes back to its client, and its number is free
 abbrev pub parted : Trading → ℕ → Trading
@@ -297,29 +295,26 @@ parted w k = with_sessions (given w (server_of w k) (client_of w k) (session_at 
 
 -- Its object is freed, then what was given for it goes back to its client, and its number is free.
 pub record Closes (w v : Trading) (k : ℕ) : Type 0 where
-  pub between : Memory
-  pub frees : Frees w (with_memory w between) (server_of w k) (session_at w k).object
-  pub is : v ≡ with_sessions (given (with_memory w between) (server_of w k) (client_of w k) (session_at w k).donation) (slice_set w.sessions k None)
+  pub between : Ledger
+  pub frees : Frees w (with_ledger w between) (server_of w k) (session_at w k).object
+  pub is : v ≡ with_sessions (given (with_ledger w between) (server_of w k) (client_of w k) (session_at w k).donation) (slice_set w.sessions k None)
 
 -- LEAVES THAT END
 
--- the accounts of the root and of a leaf's init
-abbrev pub root_no : Trading → AccountNo
-root_no w = record { 0 = number w.tree 0 }
-
+-- the account of a leaf's init
 abbrev pub init_no : Trading → ℕ → AccountNo
 init_no w x = record { 0 = number w.tree (parent w.tree (node_of w x)) }
 
 -- so much goes from the account of a node's init to that of the node
 abbrev pub handed_on : Trading → ℕ → Amount → Trading
-handed_on w i n = with_memory w (record { ledger = donated w.tree w.memory.ledger (parent w.tree i) i n; payer = w.memory.payer })
+handed_on w i n = with_ledger w (donated w.tree w.ledger (parent w.tree i) i n)
 
--- The account of the leaf x is closed, and the root's pays.
+-- The account of the leaf x is closed.
 pub record Leaves (w v : Trading) (x : ℕ) : Type 0 where
-  pub is : v ≡ with_memory w v.memory
-  pub closed : IsClosed (record { ledger = w.memory.ledger; payer = root_no w }) v.memory (account_no w x) (init_no w x)
+  pub is : v ≡ with_ledger w v.ledger
+  pub closed : IsClosed w.ledger v.ledger (account_no w x) (init_no w x)
 
--- As a store of the account that pays, it changes this account's memory alone: all other accounts keep what they have, and so do sessions and requests.
-pub record SameButMemory (w v : Trading) : Type 0 where
-  pub is : v ≡ with_memory w v.memory
-  pub memory : SameRest w.memory v.memory
+-- As a store of the account a, it changes this account's memory alone: all other accounts keep what they have, and so do sessions and requests.
+pub record SameButMemory (a : ℕ) (w v : Trading) : Type 0 where
+  pub is : v ≡ with_ledger w v.ledger
+  pub rest : SameRest a w.ledger v.ledger

@@ -1,3 +1,2 @@
 pub mod Store_rest
-pub mod Kept_rest
 pub mod Trades_fields

@@ -5,8 +5,6 @@
 //! - [`Numbered`]: values by their numbers, where a new one takes the lowest that is free.
 //! - `requests`: what waits for a server, the oldest first.
 //! - `trade_node`: what is known of a node beside its account.
-//! - [`Memory`]: the memory of many accounts as a store of chunks. A chunk is a dataspace of the account that pays, and has its number.
-//! - `objects`: the objects of sessions, which are made in that memory.
 //!
 //! ```rust
 //! use gq_trade::SlotId;
@@ -36,21 +34,18 @@
 //!
 //! - The slots of leaves and sessions (`put`, `clear`, `kind`, `handle`): `Slots` of `gq_slots`.
 //! - The end of a leaf with all that it holds (`end`): `gq_slots::ending_leaves`.
-//! - Memory by address (`load`, `store`, `load4`, `store4`): `gq_region::region_addresses`.
+//! - Memory by address (`load`, `store`): `gq_region::region_addresses`.
 //!
 //! `Trades::new` makes room for sessions and requests, as much as its caller says, and who asks shows that there is room. As many sessions as pages and one
 //! for each leaf are enough. That is an invariant of the machine, which knows that an accepted session costs a page.
 #![tactic(auto)]
 
-mod account_memory;
 pub mod numbered_values;
-mod objects;
 pub mod requests;
 pub mod session;
 pub mod trade_node;
 pub mod trades;
 
-pub use account_memory::Memory;
 pub use numbered_values::Numbered;
 pub use requests::{Ask, Request};
 pub use session::{Session, SlotId};

@@ -107,6 +107,13 @@ impl Requests {
         Some(self.requests.remove(place))
     }
 
+    /// All of them, the oldest first.
+    pub fn as_slice(&self) -> &[Request]
+        ensures { result.now ≡ self.now }
+    {
+        self.requests.as_slice()
+    }
+
     // The place of the oldest request to a server, or how many there are.
     fn place_to(&self, server: usize) -> usize
         ensures { result ≡ place_to server self.now }

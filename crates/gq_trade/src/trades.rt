@@ -1,18 +1,19 @@
 // Sessions, requests and donations over the accounts of a scenario.
 ghost use Rattle.std.specs.Prelude.{◌≡◌, ℕ, ◌+◌, ◌<◌, ◌≤◌, ◌%◌, ◌↔◌, length, get_or, option_map, Some, None, IfOk, OnOk, OnErr, IsErrOf, IfSome};
-ghost use Rattle.std.specs.Prelude.{IfNone};
+ghost use Rattle.std.specs.Prelude.{IfNone, IsTrue, false, is_some};
 ghost use Rattle.gq_tariff.specs.Prices.{up};
-ghost use Rattle.gq_ram.specs.Account_table.{available, available_caps, IsOpen};
+ghost use Rattle.gq_ram.specs.Account_table.{account_at, available, available_caps, has_members, IsOpen};
 ghost use Rattle.gq_ram.specs.Account_tree.{number};
 ghost use Rattle.gq_contents.specs.declared.content.Content.TheVariants as content;
 ghost use Rattle.gq_contents.specs.Contents.{IsSlice, size_of};
 ghost use Rattle.gq_contents.specs.Paid.{IsPaidWhereLeft};
 ghost use Rattle.gq_trade.specs.Numbers.{free_number, IsTaken};
+ghost use Rattle.gq_trade.specs.Rest.{IsClosed};
 ghost use Rattle.gq_trade.specs.declared.requests.Ask.TheVariants as ask;
 ghost use Rattle.gq_trade.specs.Queues.{IsOldest, oldest_to, request_of};
 ghost use Rattle.gq_trade.specs.Trading.{Accepts, AreOfOthers, Begins, Closes, Frees, IsOfOldest, IsTrading, LacksBytes, LacksCaps, Leaves, Makes, Opens};
 ghost use Rattle.gq_trade.specs.Trading.{account_no, asked, bytes_then, caps_then, client_of, fresh, its_account, node_of, opened, parted, raised, server_of};
-ghost use Rattle.gq_trade.specs.Trading.{session_at, store_of, upgraded, with_ask, with_memory, with_session, with_slot};
+ghost use Rattle.gq_trade.specs.Trading.{session_at, store_of, upgraded, with_ask, with_session, with_slot};
 ghost use Rattle.gq_ram.specs.Giving.{CanGive, IsAfforded};
 ghost use Rattle.gq_trade.specs.declared.trade_node.Stage.TheVariants as Stage;
 ghost use Rattle.gq_trade.specs.Leaf_ends.{CanStart, Ends, HasNoSessions, follower, staged, started};
@@ -21,14 +22,12 @@ ghost use Rattle.gq_trade.specs.Balances.{node_at, quota, use_of};
 ghost use Rattle.gq_trade.specs.Waiting.{IsIdle};
 ghost use Rattle.gq_trade.specs.Trades.{AreParties, CanAskServer, HasAccount, IsLive, IsTrades, with_trading};
 
-use crate::account_memory::Memory;
 use crate::numbered_values::Numbered;
-use crate::objects::{free_slice_of, make_slice_for};
 use crate::requests::{Ask, Request, Requests};
 use crate::session::{Session, SlotId};
 use crate::trade_node::{NodeState, Stage, follower, handed_to};
 use gq_contents::Content;
-use gq_ram::{AccountFault, AccountNo, AccountTree, Accounts};
+use gq_ram::{AccountFault, AccountNo, AccountTree, Accounts, afford};
 use gq_store::{ByteStore, ChunkNo, GrowFault};
 use gq_tariff::{Amount, price_slice};
 use std::alloc::{AllocError, Global};
@@ -39,7 +38,7 @@ use std::marker::Model;
 /// memory.
 #[derive(Drop)]
 pub struct Trades {
-    memory: Memory,
+    accounts: Accounts,
     tree: AccountTree,
     // The node of each leaf.
     leaves: Vec<usize>,
@@ -56,9 +55,9 @@ impl Model for Trades {
 
     ghost Value = { Trades };
 
-    ghost view = { λ t. trades_of t.memory t.tree t.leaves.items t.objects.items t.sessions t.requests t.nodes.items };
+    ghost view = { λ t. trades_of t.accounts t.tree t.leaves.items t.objects.items t.sessions t.requests t.nodes.items };
 
-    ghost invariant = { λ t. Holds (trades_of t.memory t.tree t.leaves.items t.objects.items t.sessions t.requests t.nodes.items) };
+    ghost invariant = { λ t. Holds (trades_of t.accounts t.tree t.leaves.items t.objects.items t.sessions t.requests t.nodes.items) };
 }
 
 /// The nodes of a scenario in preorder, the root first.
@@ -93,13 +92,11 @@ impl Trades {
     {
         let handed = handed_to(alloc, plan.nodes.as_slice())?;
         let mut accounts = Accounts::new(alloc, total, caps)?;
-        let root = accounts.root();
         let tree = AccountTree::open(alloc, &mut accounts, plan.parents)?;
         tree.hand_out(&mut accounts, handed.as_slice());
-        let memory = Memory::new(accounts, root);
         let sessions = Numbered::new(alloc, room)?;
         Ok(Trades {
-            memory,
+            accounts,
             tree,
             leaves: plan.leaves,
             objects: plan.objects,
@@ -124,15 +121,15 @@ impl Trades {
     ) -> Result<usize, AccountFault>
         requires can { CanAskServer self.old client server }
         requires service { service < length self.old.trading.objects }
-        requires counted { self.old.trading.memory.ledger.price ≡ 0 → donation.caps ≡ 0 }
+        requires counted { self.old.trading.ledger.price ≡ 0 → donation.caps ≡ 0 }
         ensures number { IfOk result (λ k. k ≡ free_number self.old.trading.sessions) }
         ensures asked { OnOk result (self.new ≡ with_trading self.old (asked self.old.trading (fresh client slot_id server service donation))) }
         ensures afforded { IsAfforded result (available (its_account self.old.trading client)) (available_caps (its_account self.old.trading client)) donation }
         ensures unchanged { OnErr result (self.new ≡ self.old) }
     {
-        self.memory.accounts().laws();
+        self.accounts.laws();
         let (from, to) = self.givers(client, server);
-        self.memory.donate(&self.tree, from, to, donation)?;
+        self.tree.donate(&mut self.accounts, from, to, donation)?;
         let number = self.sessions.add(Session {
             client,
             slot_id,
@@ -156,17 +153,17 @@ impl Trades {
     /// last. Refused as `ask` is.
     pub fn upgrade(&mut self, session: usize, donation: Amount) -> Result<(), AccountFault>
         requires there { IsTaken self.old.trading.sessions session }
-        requires counted { self.old.trading.memory.ledger.price ≡ 0 → donation.caps ≡ 0 }
+        requires counted { self.old.trading.ledger.price ≡ 0 → donation.caps ≡ 0 }
         requires idle { IsIdle self.old.trading (client_of self.old.trading session) }
         ensures upgraded { OnOk result (self.new ≡ with_trading self.old (upgraded self.old.trading session donation)) }
         ensures afforded { IsAfforded result (available (its_account self.old.trading (client_of self.old.trading session)))
             (available_caps (its_account self.old.trading (client_of self.old.trading session))) donation }
         ensures unchanged { OnErr result (self.new ≡ self.old) }
     {
-        self.memory.accounts().laws();
+        self.accounts.laws();
         let old = self.between(session);
         let (from, to) = self.givers(old.client, old.server);
-        self.memory.donate(&self.tree, from, to, donation)?;
+        self.tree.donate(&mut self.accounts, from, to, donation)?;
         let raised = self.sessions.at_mut(session);
         raised.donation.ram += donation.ram;
         raised.donation.caps += donation.caps;
@@ -293,7 +290,7 @@ impl Trades {
     {
         let account = self.account_of(leaf);
         let size = self.objects[service];
-        make_slice_for(&mut self.memory, account, size)
+        Content::make_slice(&mut self.accounts, account, size)
     }
 
     // A session is accepted, with this object.
@@ -347,17 +344,14 @@ impl Trades {
             (available_caps (its_account self.now.trading session.now.server) + 1) session.now.donation }
     {
         let account = self.account_of(session.server);
-        let accounts = self.memory.accounts();
+        let accounts = &self.accounts;
         accounts.laws();
-        let price = price_slice(u64::from(session.object.size()));
-        if session.donation.ram.saturating_sub(price) > accounts.avail(account) {
-            return Err(AccountFault::Exceeded);
-        }
-        let caps = accounts.caps(account) - accounts.caps_used(account);
-        if session.donation.caps.saturating_sub(1) > caps {
-            return Err(AccountFault::CapsExceeded);
-        }
-        Ok(())
+        let avail = accounts.avail(account);
+        let then = Amount {
+            ram: avail.ram + price_slice(u64::from(session.object.size())),
+            caps: avail.caps + 1,
+        };
+        afford(then, session.donation)
     }
 
     // Makes a slice free that a leaf has paid for.
@@ -368,7 +362,7 @@ impl Trades {
         ensures nodes { self.new.nodes ≡ self.old.nodes }
     {
         let account = self.account_of(leaf);
-        free_slice_of(&mut self.memory, account, slice);
+        slice.free_slice(&mut self.accounts, account);
     }
 
     // What was given for a session goes back to its client, which its server has, and the number is free.
@@ -383,7 +377,7 @@ impl Trades {
     {
         let old = self.between(session);
         let (from, to) = self.givers(old.server, old.client);
-        self.memory.give(&self.tree, from, to, old.donation);
+        self.tree.give(&mut self.accounts, from, to, old.donation);
         self.sessions.remove(session);
     }
 
@@ -419,6 +413,13 @@ impl Trades {
         self.requests.of_session(session)
     }
 
+    /// The requests that wait, the oldest first.
+    pub fn requests(&self) -> &[Request]
+        ensures { result.now ≡ self.now.trading.requests }
+    {
+        self.requests.as_slice()
+    }
+
     // The session of a number that is taken: its client and server are live, and two leaves.
     #[inline(always)]
     fn between(&self, session: usize) -> Session
@@ -437,7 +438,7 @@ impl Trades {
         requires apart { from ≡ to → ⊥ }
         ensures from { result.0 ≡ node_of self.now.trading from }
         ensures to { result.1 ≡ node_of self.now.trading to }
-        ensures can { CanGive self.now.trading.tree self.now.trading.memory.ledger.accounts result.0 result.1 }
+        ensures can { CanGive self.now.trading.tree self.now.trading.ledger.accounts result.0 result.1 }
     {
         (self.leaves[from], self.leaves[to])
     }
@@ -485,7 +486,7 @@ impl Trades {
     }
 
     /// Ends a leaf from which and to which there is no session: its account is closed, with all that it has in memory, and its quota of both kinds goes to
-    /// its init. A node that starts after it has its quantum from now on. The root's account pays.
+    /// its init. A node that starts after it has its quantum from now on.
     pub fn end(&mut self, leaf: usize)
         requires leaf { IsLive self.old leaf }
         requires alone { HasNoSessions self.old.trading leaf }
@@ -506,13 +507,11 @@ impl Trades {
         ensures nodes { self.new.nodes ≡ staged self.old.nodes (node_of self.old.trading leaf) Stage.Ended }
         ensures follower { IfSome (follower (node_of self.old.trading leaf) self.new.nodes) (λ i. CanStart self.new i) }
     {
-        self.memory.accounts().laws();
-        let root = self.tree.account(0);
+        self.accounts.laws();
         let node = self.leaves[leaf];
         let account = self.tree.account(node);
         let old = self.nodes[node];
-        self.memory.pay_by(root);
-        self.memory.close(account);
+        close(&mut self.accounts, account);
         self.nodes[node] = NodeState {
             stage: Stage::Ended,
             ..old
@@ -527,7 +526,7 @@ impl Trades {
     {
         let old = self.nodes[node];
         let init = self.tree.parent(node);
-        self.memory.give(&self.tree, init, node, old.quantum);
+        self.tree.give(&mut self.accounts, init, node, old.quantum);
         self.nodes[node] = NodeState {
             stage: Stage::Live,
             ..old
@@ -559,47 +558,31 @@ impl Trades {
         self.nodes[node].stage
     }
 
-    /// The quota of a node that has not ended, in bytes: what it was handed and was given for sessions, less what it has lent and handed on.
-    pub fn quota(&self, node: usize) -> u64
+    /// The quota of a node that has not ended: what it was handed and was given for sessions, less what it has lent and handed on.
+    pub fn quota(&self, node: usize) -> Amount
         requires { HasAccount self.now node }
-        ensures { result ≡ quota (λ n. n.ram) self.now.trading node }
+        ensures ram { result.ram ≡ quota (λ n. n.ram) self.now.trading node }
+        ensures caps { result.caps ≡ quota (λ n. n.caps) self.now.trading node }
     {
         let account = self.open_account(node);
-        self.memory.accounts().quota(account)
+        self.accounts.quota(account)
     }
 
-    /// The quota of a node that has not ended, in capabilities.
-    pub fn caps(&self, node: usize) -> u64
+    /// What a node that has not ended has in use: what its memory costs. No capabilities where these are not counted.
+    pub fn used(&self, node: usize) -> Amount
         requires { HasAccount self.now node }
-        ensures { result ≡ quota (λ n. n.caps) self.now.trading node }
+        ensures ram { result.ram ≡ use_of (λ n. n.ram) self.now.trading node }
+        ensures caps { result.caps ≡ use_of (λ n. n.caps) self.now.trading node }
     {
         let account = self.open_account(node);
-        self.memory.accounts().caps(account)
-    }
-
-    /// The bytes that a node, which has not ended, has in use: what its memory costs.
-    pub fn used(&self, node: usize) -> u64
-        requires { HasAccount self.now node }
-        ensures { result ≡ use_of (λ n. n.ram) self.now.trading node }
-    {
-        let account = self.open_account(node);
-        self.memory.accounts().used(account)
-    }
-
-    /// The capabilities that a node, which has not ended, has in use; 0 where they are not counted.
-    pub fn caps_used(&self, node: usize) -> u64
-        requires { HasAccount self.now node }
-        ensures { result ≡ use_of (λ n. n.caps) self.now.trading node }
-    {
-        let account = self.open_account(node);
-        self.memory.accounts().caps_used(account)
+        self.accounts.used(account)
     }
 
     /// How many pages of 4096 bytes nobody has in use.
     pub fn free_pages(&self) -> u32
-        ensures { result ≡ self.now.trading.memory.ledger.spaces.free }
+        ensures { result ≡ self.now.trading.ledger.spaces.free }
     {
-        self.memory.accounts().free_pages()
+        self.accounts.free_pages()
     }
 
     // The account of a node that has not ended, which is open.
@@ -607,7 +590,7 @@ impl Trades {
     fn open_account(&self, node: usize) -> AccountNo
         requires { HasAccount self.now node }
         ensures is { result.0 ≡ number self.now.trading.tree node }
-        ensures open { IsOpen self.now.trading.memory.ledger.accounts result.0 }
+        ensures open { IsOpen self.now.trading.ledger.accounts result.0 }
     {
         let _nodes = &self.nodes;
         self.tree.account(node)
@@ -618,22 +601,18 @@ impl Trades {
     fn account_of(&self, leaf: usize) -> AccountNo
         requires { IsLive self.now leaf }
         ensures is { result ≡ account_no self.now.trading leaf }
-        ensures open { IsOpen self.now.trading.memory.ledger.accounts result.0 }
+        ensures open { IsOpen self.now.trading.ledger.accounts result.0 }
     {
         self.open_account(self.leaves[leaf])
     }
 
-    /// Another leaf pays from now on: as a store, this has what its account has.
+    /// The account of a leaf, which is open if the leaf is live.
     #[inline(always)]
-    pub fn pay_by(&mut self, leaf: usize)
-        requires leaf { IsLive self.old leaf }
-        ensures { self.new ≡ with_trading self.old (with_memory self.old.trading (record {
-          ledger = self.old.trading.memory.ledger;
-          payer = account_no self.old.trading leaf;
-        })) }
+    pub fn leaf_account(&self, leaf: usize) -> AccountNo
+        requires { leaf < length self.now.trading.leaves }
+        ensures { result ≡ account_no self.now.trading leaf }
     {
-        let account = self.account_of(leaf);
-        self.memory.pay_by(account);
+        self.tree.account(self.leaves[leaf])
     }
 
     /// What holds in every `Trades`. It does nothing.
@@ -649,53 +628,64 @@ impl Trades {
         self.sessions.laws();
     }
 
-    /// The memory of all accounts.
-    pub fn memory(&self) -> &Memory
-        ensures { result.now ≡ self.now.trading.memory }
+    /// All accounts, with what they have in memory.
+    pub fn accounts(&self) -> &Accounts
+        ensures { result.now ≡ self.now.trading.ledger }
     {
-        &self.memory
+        &self.accounts
     }
 }
 
+// Closes an account that is the reference account of no other: its dataspaces are removed, and its quota of both kinds goes to its reference account. What all
+// other accounts have in memory stays.
+fn close(accounts: &mut Accounts, account: AccountNo)
+    requires open { IsOpen accounts.old.accounts account.0 }
+    requires alone { has_members accounts.old.accounts account ≡ false }
+    requires below { IsTrue (is_some (account_at accounts.old.accounts account.0).reference) }
+    ensures { IfSome (account_at accounts.old.accounts account.0).reference (λ init. IsClosed accounts.old accounts.new account init) }
+{
+    accounts.laws();
+    match accounts.close(account) {
+        Ok(()) => accounts.laws(),
+        Err(_) => unreachable!(),
+    }
+}
+
+// As a store it is its accounts: what they have in memory is no part of sessions and requests.
 impl ByteStore for Trades {
-    ghost use Rattle.gq_trade.specs.Stores.{store_of as store_of_memory};
+    ghost use Rattle.gq_ram.specs.Account_stores.{store_at};
     ghost use Rattle.gq_trade.specs.Trades.{SameButMemory};
 
-    ghost state = { λ t. store_of_memory t.trading.memory };
+    ghost state = { λ t. store_at t.trading.ledger };
 
     ghost same_rest = { SameButMemory };
 
-    fn grow(&mut self, pages: u32) -> Result<ChunkNo, GrowFault> {
-        let _open = self.memory.payer();
-        self.memory.grow(pages)
+    fn grow(&mut self, account: AccountNo, pages: u32) -> Result<ChunkNo, GrowFault> {
+        self.accounts.grow(account, pages)
     }
 
-    fn shrink(&mut self, chunk: ChunkNo) {
-        let _open = self.memory.payer();
-        self.memory.shrink(chunk);
+    fn shrink(&mut self, account: AccountNo, chunk: ChunkNo) {
+        self.accounts.shrink(account, chunk);
     }
 
     fn load(&self, chunk: ChunkNo, offset: u32) -> u8 {
-        self.memory.load(chunk, offset)
+        ByteStore::load(&self.accounts, chunk, offset)
     }
 
     fn store(&mut self, chunk: ChunkNo, offset: u32, value: u8) {
-        let _open = self.memory.payer();
-        self.memory.store(chunk, offset, value);
+        ByteStore::store(&mut self.accounts, chunk, offset, value);
     }
 
     fn load4(&self, chunk: ChunkNo, offset: u32) -> u32 {
-        self.memory.load4(chunk, offset)
+        ByteStore::load4(&self.accounts, chunk, offset)
     }
 
     fn store4(&mut self, chunk: ChunkNo, offset: u32, value: u32) {
-        let _open = self.memory.payer();
-        self.memory.store4(chunk, offset, value);
+        ByteStore::store4(&mut self.accounts, chunk, offset, value);
     }
 
     fn clear(&mut self, chunk: ChunkNo, offset: u32, size: u32) {
-        let _open = self.memory.payer();
-        self.memory.clear(chunk, offset, size);
+        ByteStore::clear(&mut self.accounts, chunk, offset, size);
     }
 
     ghost use Rattle.gq_trade.specs.internal.Store_rest.{rest_refl as refl_of, rest_trans as trans_of};

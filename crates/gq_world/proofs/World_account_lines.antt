@@ -234,6 +234,19 @@ module _ (s : Scenario) (w : World) (reported : List ℕ) (all : List Account) (
       let same : line ≡ account_line s.version p.account = e ∙ (λ i. account_line (v i) (with_label (named i) (known i))) in
       subst (λ (o : Option Account). IfSome o (λ a. line ≡ account_line s.version a)) (sym p.account_there) same
 
+-- the line of the account of a node
+pub line_of_node : (w : worlds.World) → length w.world.leaves ≡ length (components w.scenario) → (n : ℕ) → n < length (node_rows w.scenario)
+    → (label line : List ℕ) (account : AccountValues) (version : ℕ) → version ≡ w.scenario.version → line ≡ account_line version (with_label label account)
+    → IfSome (slice_get (node_rows w.scenario) n) (λ r. label ≡ r.label) → IfSome (slice_get (all_accounts w) n) (λ a. account ≡ reported_of a)
+    → (a : Account) → slice_get (all_accounts w) n ≡ Some a → line ≡ account_line w.scenario.version a
+unfolding all_accounts
+line_of_node w leaves n less label line account version same is labelled reported a there =
+    let s = w.scenario in
+    let b = step_budgets (budgets s) in
+    let p = account_at_node s w.world b leaves n less in
+    subst (λ (o : Option Account). IfSome o (λ z. line ≡ account_line s.version z)) there
+    (line_is s w.world b (accounts_by s w.world b) n p label line account version same is labelled reported)
+
 -- BUDGETS
 
 pub steps_at : (all : List Budget) (x : ℕ) (b : Budget) → x < length all → b ≡ get_or all x b → slice_index (step_budgets all) x ≡ b.steps

@@ -1,5 +1,5 @@
 // The accounts of a machine's nodes.
-ghost use Rattle.std.specs.Prelude.{ℕ, ◌==◌, if◌then◌else◌, ◌≡◌, ◌<◌, length, slice_get, slice_index, IfSome};
+ghost use Rattle.std.specs.Prelude.{if◌then◌else◌, ◌≡◌, ◌<◌, length, slice_get, slice_index, IfSome};
 ghost use Rattle.gq_model.specs.machine.Scenario.{components};
 ghost use Rattle.gq_model.specs.rules.Accept.{step_budgets};
 ghost use Rattle.gq_resolve.specs.NodeTables.{node_rows};
@@ -39,12 +39,11 @@ fn leaf_account(machine: &Machine, budgets: &[Budget], leaf: LeafNo) -> LeafAcco
     ensures { ReportsOf machine.now.scenario machine.now.world (step_budgets budgets.now) leaf result }
 {
     let budget = steps_of(budgets, leaf);
-    let caps = counted(
-        machine.table().scenario().version(),
-        machine.caps_used(leaf),
-    );
-    let ram = machine.used(leaf);
-    let used = Amount { ram, caps };
+    let held = machine.used(leaf);
+    let used = Amount {
+        ram: held.ram,
+        caps: counted(machine.table().scenario().version(), held.caps),
+    };
     LeafAccount::new(used, machine.steps(leaf), budget, machine.phase(leaf))
 }
 
@@ -54,10 +53,7 @@ pub(crate) fn account_of(machine: &Machine, budgets: &[Budget], node: NodeNo) ->
     requires node { node < length (node_rows machine.now.scenario) }
     ensures { IfSome (slice_get (accounts_by machine.now.scenario machine.now.world (step_budgets budgets.now)) node) (λ a. result ≡ reported_of a) }
 {
-    let quota = Amount {
-        ram: machine.quota(node),
-        caps: machine.caps(node),
-    };
+    let quota = machine.quota(node);
     let leaf = match machine.table().leaf(node) {
         Some(leaf) => Some(leaf_account(machine, budgets, leaf)),
         None => None,

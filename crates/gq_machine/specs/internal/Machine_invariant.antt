@@ -14,7 +14,6 @@ use Rattle.gq_bytecode.specs.declared.operation.Operation.TheVariants.{End}
 use Rattle.gq_laws.specs.Session_links.{IsLinkedWorld}
 use Rattle.gq_laws.specs.Room.{IsRoomy}
 use Rattle.gq_laws.specs.Leaf_phases.{AreReady}
-use Rattle.gq_slots.specs.Slots.{IsPaidBy}
 use Rattle.gq_statements.specs.Systems.{IsOf}
 use Rattle.gq_statements.specs.Serving.{AreSections}
 use Rattle.gq_statements.specs.declared.actor.Current.{Current}
@@ -52,14 +51,13 @@ pub record Holds (f : Fixed) (m : MachineState) : Type 0 where
   pub roomy : IsRoomy (world_of f.table m.leaves.items m.slots)
   pub phases : AreReady (system f.table) (world_of f.table m.leaves.items m.slots)
 
--- a leaf that takes a step, and pays
+-- a leaf that takes a step
 pub record CanStep (f : Fixed) (m : MachineState) (x : ℕ) : Type 0 where
   pub holds : Holds f m
   pub component : Component
   pub component_is : slice_get (components f.table) x ≡ Some component
   pub leaf : Coded
   pub leaf_is : slice_get m.leaves.items x ≡ Some leaf
-  pub paid : IsPaidBy m.slots x
   pub countable : leaf.state.steps + 1 < 2 ^ 64
 
 -- it is a leaf of which this holds
@@ -72,12 +70,12 @@ pub record IsNext (m : MachineState) (x : ℕ) (does : Operation) : Type 0 where
   pub active : OfLeaf (λ l. Active l.state.phase) (slice_get m.leaves.items x)
   pub next : OfLeaf (λ l. operation_of l ≡ Some does) (slice_get m.leaves.items x)
 
--- a leaf that takes a step and pays, of which this operation is next
+-- a leaf that takes a step, of which this operation is next
 pub record CanDo (f : Fixed) (m : MachineState) (x : ℕ) (does : Operation) : Type 0 where
   pub can : CanStep f m x
   pub next : IsNext m x does
 
--- a leaf that takes a step of its own, and pays
+-- a leaf that takes a step of its own
 pub record CanAct (f : Fixed) (m : MachineState) (x : ℕ) : Type 0 where
   pub can : CanStep f m x
   pub active : OfLeaf (λ l. Active l.state.phase) (slice_get m.leaves.items x)
@@ -88,12 +86,12 @@ pub record CanGoOn (f : Fixed) (m : MachineState) (x turns : ℕ) : Type 0 where
   pub active : OfLeaf (λ l. Active l.state.phase) (slice_get m.leaves.items x)
   pub countable : OfLeaf (λ l. l.state.steps + turns < 2 ^ 64) (slice_get m.leaves.items x)
 
--- a leaf that waits for a request, and pays
+-- a leaf that waits for a request
 pub record CanServe (f : Fixed) (m : MachineState) (x : ℕ) : Type 0 where
   pub can : CanStep f m x
   pub serves : OfLeaf (λ l. l.state.phase ≡ Serving) (slice_get m.leaves.items x)
 
--- a leaf at the end of a section for its current request, which pays
+-- a leaf at the end of a section for its current request
 pub record EndsSection (f : Fixed) (m : MachineState) (x : ℕ) (current : Current) : Type 0 where
   pub can : CanStep f m x
   pub next : IsNext m x End
@@ -111,9 +109,8 @@ pub record LeavesState {A : Type 0} (result : Result A Wrong) (f : Fixed) (old n
   pub leaves : OnErr result (new.leaves.items ≡ old.leaves.items)
   pub slots : OnErr result (new.slots ≡ old.slots)
 
--- after a step the leaf takes steps of its own as before, of which one more is counted, and it still pays
+-- after a step the leaf takes steps of its own as before, of which one more is counted
 pub record ActsOn (old new : MachineState) (x : ℕ) : Type 0 where
-  pub paid : IsPaidBy new.slots x
   pub active : OfLeaf (λ l. Active l.state.phase) (slice_get new.leaves.items x)
   pub counted : (n : ℕ) → OfLeaf (λ l. l.state.steps + (n + 1) < 2 ^ 64) (slice_get old.leaves.items x)
       → OfLeaf (λ l. l.state.steps + n < 2 ^ 64) (slice_get new.leaves.items x)

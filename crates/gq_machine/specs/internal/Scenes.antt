@@ -9,4 +9,4 @@ pub record SameScene (t u : Slots) : Type 0 where
   pub leaves : u.trades.trading.leaves ≡ t.trades.trading.leaves
   pub objects : u.trades.trading.objects ≡ t.trades.trading.objects
   pub room : u.trades.trading.room ≡ t.trades.trading.room
-  pub price : u.trades.trading.memory.ledger.price ≡ t.trades.trading.memory.ledger.price
+  pub price : u.trades.trading.ledger.price ≡ t.trades.trading.ledger.price

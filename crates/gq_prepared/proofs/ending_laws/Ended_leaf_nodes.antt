@@ -252,7 +252,7 @@ module _ (s : Scenario) (f g : Frame) (t u : Slots) (x : ℕ) (c : Component) (r
 
   -- ALL OF IT
 
-  price_same : u.trades.trading.memory.ledger.price ≡ w.memory.ledger.price
+  price_same : u.trades.trading.ledger.price ≡ w.ledger.price
   price_same = whole.price ∙ ends.ends.leaves.closed.whole.0
 
   pub of_then : IsOf (system s) g u

@@ -70,7 +70,7 @@ pub record SameWhole (w v : Trades) : Type 0 where
   pub parents : v.trading.tree.parents ≡ w.trading.tree.parents
   pub leaves : v.trading.leaves ≡ w.trading.leaves
   pub objects : v.trading.objects ≡ w.trading.objects
-  pub price : v.trading.memory.ledger.price ≡ w.trading.memory.ledger.price
+  pub price : v.trading.ledger.price ≡ w.trading.ledger.price
 
 pub started_whole : (w : Trades) (o : Option ℕ) → SameWhole w (started w o)
 started_whole w None = record { parents = refl; leaves = refl; objects = refl; price = refl }

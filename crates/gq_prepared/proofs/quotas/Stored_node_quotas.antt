@@ -1,5 +1,5 @@
 -- The quota that the definition gives each node is the quota that is stored for it.
-use Rattle.std.proofs.Common.{◌≡◌, ◌==◌, ℕ, ◌-◌, ◌<◌, inl, inr, true, cond, List, [], ◌∷◌, length, get_or, Option, Some, None}
+use Rattle.std.proofs.Common.{◌≡◌, ℕ, ◌-◌, ◌<◌, inl, inr, true, cond, List, [], ◌∷◌, length, get_or, Option, Some, None}
 use Rattle.std.proofs.Common.{refl, ap, sym, ◌∙◌, arith}
 use Rattle.std.specs.Prelude.{slice_get, sum_by}
 use Rattle.std.proofs.lemmas.Bool.{cases_Bool}
@@ -150,7 +150,7 @@ module _ (s : Scenario) (f : Frame) (t : Slots) (reported : List ℕ) (ready : I
   -- an init has what it has not handed on
   init_stored : (r : Resource) → Counts r s.version → (n m : ℕ) (row : NodeRow) → slice_get (node_rows s) n ≡ Some row → row.leaf ≡ None
       → slice_get (all_spent r now s) n ≡ Some m → IsEven (part r) trading nodes n
-      → part r row.quantum - m ≡ part r (account_of trading.tree trading.memory.ledger n).quota
+      → part r row.quantum - m ≡ part r (account_of trading.tree trading.ledger n).quota
   init_stored r counts n m row e is at even =
       let other : (x : ℕ) → x < length trading.leaves → get_or trading.leaves x 0 ≡ n → ⊥ = λ x less same. no_leaf x less same in
       let gave = none_lent (part r) trading.leaves (length trading.objects) n trading.sessions other l.trading.between in
@@ -171,14 +171,14 @@ module _ (s : Scenario) (f : Frame) (t : Slots) (reported : List ℕ) (ready : I
 
   -- the stored quota of each node
   quota_reported : (n : ℕ) (row : NodeRow) (a : Account) → slice_get (node_rows s) n ≡ Some row → slice_get (accounts s now reported) n ≡ Some a
-      → a.quota ≡ amount_in s.version (account_of trading.tree trading.memory.ledger n).quota.ram
-      (account_of trading.tree trading.memory.ledger n).quota.caps
+      → a.quota ≡ amount_in s.version (account_of trading.tree trading.ledger n).quota.ram
+      (account_of trading.tree trading.ledger n).quota.caps
   quota_reported n row a e g =
       elim (account_reported s now reported all_there n row a e g) [
         | inl i ↦
             i.quotas
             ∙ amount_same s.version (init_quota Ram now i.first row.quantum i.children) (init_quota Caps now i.first row.quantum i.children)
-            (account_of trading.tree trading.memory.ledger n).quota.ram (account_of trading.tree trading.memory.ledger n).quota.caps
+            (account_of trading.tree trading.ledger n).quota.ram (account_of trading.tree trading.ledger n).quota.caps
             (init_stored Ram tt n (given_on Ram now i.first i.children) row e i.is (i.handed Ram) (l.trades.even n below).0)
             (λ counted. init_stored Caps counted n (given_on Caps now i.first i.children) row e i.is (i.handed Caps) (l.trades.even n below).1)
         | inr i ↦
@@ -196,8 +196,8 @@ module _ (s : Scenario) (f : Frame) (t : Slots) (reported : List ℕ) (ready : I
             ∙ amount_same s.version (quota_in Ram now y c leaf) (quota_in Caps now y c leaf) (its_account trading y).quota.ram
             (its_account trading y).quota.caps
             (omega (arith, ram, ram_of)) (λ counted. omega (arith, caps, caps_of))
-            ∙ ap (λ k. amount_in s.version (account_of trading.tree trading.memory.ledger k).quota.ram
-            (account_of trading.tree trading.memory.ledger k).quota.caps) (node_here y n (place_of s n row y e i.is))
+            ∙ ap (λ k. amount_in s.version (account_of trading.tree trading.ledger k).quota.ram
+            (account_of trading.tree trading.ledger k).quota.caps) (node_here y n (place_of s n row y e i.is))
       ]
     where
       below : n < length trading.tree.parents
@@ -208,8 +208,8 @@ module _ (s : Scenario) (f : Frame) (t : Slots) (reported : List ℕ) (ready : I
 
 pub quota_stored : (s : Scenario) (f : Frame) (t : Slots) (reported : List ℕ) (n : ℕ) (a : Account) → IsReady s → AreLawful t → IsOf (system s) f t
     → AreNodesOf s t.trades → slice_get (accounts s (world_seen f t) reported) n ≡ Some a
-    → a.quota ≡ amount_in s.version (account_of t.trades.trading.tree t.trades.trading.memory.ledger n).quota.ram
-    (account_of t.trades.trading.tree t.trades.trading.memory.ledger n).quota.caps
+    → a.quota ≡ amount_in s.version (account_of t.trades.trading.tree t.trades.trading.ledger n).quota.ram
+    (account_of t.trades.trading.tree t.trades.trading.ledger n).quota.caps
 quota_stored s f t reported n a ready l o p g =
     let count = accounts_count s (world_seen f t) reported (all_there s f t reported ready l o p) in
     let within = slice_get_within (accounts s (world_seen f t) reported) n a g in
@@ -226,5 +226,5 @@ pub caps_used : (s : Scenario) (f : Frame) (t : Slots) (x : ℕ) (leaf : world.L
     → slice_get (world_seen f t).leaves x ≡ Some leaf → counts_caps s.version ≡ true → held Caps (world_seen f t) x leaf
     ≡ (its_account t.trades.trading x).used.caps
 caps_used s f t x leaf ready l o p e two =
-    let price : t.trades.trading.memory.ledger.price ≡ 1 = p.price ∙ ap (λ b. cond b 1 0) two in
+    let price : t.trades.trading.ledger.price ≡ 1 = p.price ∙ ap (λ b. cond b 1 0) two in
     sym ((l.held f x leaf e).caps (λ none. omega (arith, price, none)))

@@ -1,13 +1,13 @@
--- Another content in a slot, and another memory and heap.
+-- Another content in a slot, and another ledger and heap.
+use Rattle.gq_ram.specs.Ledgers.{Ledger}
 use Rattle.std.specs.Prelude.{ℕ, List, [], Option, None, Some, get_or, slice_get, slice_set}
 use Rattle.gq_model.specs.machine.World as world
 use Rattle.gq_heap.specs.declared.heap.Heap.{Heap}
-use Rattle.gq_trade.specs.Stores.{Memory}
 use Rattle.gq_contents.specs.declared.content.Content.{Content}
 use Rattle.gq_trade.specs.declared.session.Session.{Session}
 use Rattle.gq_trade.specs.declared.session.SlotId.{SlotId}
 use Rattle.gq_trade.specs.declared.session.SlotId.TheVariants.{InLeaf, InSession, InObject}
-use Rattle.gq_trade.specs.Trading.{Trading, session_at, with_memory, with_session, with_slot}
+use Rattle.gq_trade.specs.Trading.{Trading, session_at, with_ledger, with_session, with_slot}
 use Rattle.gq_trade.specs.Trades.{with_trading}
 use Rattle.gq_slots.specs.Slots.{Slots}
 
@@ -38,9 +38,9 @@ put_own own (InObject k) t = own
 abbrev pub put : Slots → SlotId → Content → Slots
 put s p t = record { trades = with_trading s.trades (put_trading s.trades.trading p t); own = put_own s.own p t; heaps = s.heaps }
 
--- another memory, and another heap of the leaf x
-abbrev pub with_store : Slots → Memory → ℕ → Heap → Slots
-with_store s m x h = record { trades = with_trading s.trades (with_memory s.trades.trading m); own = s.own; heaps = slice_set s.heaps x h }
+-- another ledger, and another heap of the leaf x
+abbrev pub with_store : Slots → Ledger → ℕ → Heap → Slots
+with_store s m x h = record { trades = with_trading s.trades (with_ledger s.trades.trading m); own = s.own; heaps = slice_set s.heaps x h }
 
 -- a world with these peaks of the leaf x
 abbrev pub peaks_in : world.World → ℕ → List ℕ → Option world.Leaf → world.World

@@ -44,7 +44,7 @@ counted price n = if nat_eq price 0 then None else Some n
 pub record IsHolder (s : Slots) (x : ℕ) (h : Heap) : Type 0 where
   pub keeps : KeepsContents h (memory_of s x) (contents s x)
   pub ram : (memory_of s x).left + held_by Ram s x h ≡ (its_account s.trades.trading x).quota.ram
-  pub caps : plus_caps (held_by Caps s x h) (memory_of s x).caps ≡ counted s.trades.trading.memory.ledger.price (its_account s.trades.trading x).quota.caps
+  pub caps : plus_caps (held_by Caps s x h) (memory_of s x).caps ≡ counted s.trades.trading.ledger.price (its_account s.trades.trading x).quota.caps
   pub peaked : raised_by (places_used (memory_of s x) (contents s x)) classes (peaks h) ≡ peaks h
   -- there is a peak for each class
   pub eight : length (peaks h) ≡ 8

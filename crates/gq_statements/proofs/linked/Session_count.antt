@@ -173,7 +173,7 @@ module _ (system : System) (f : Frame) (s : Slots) (l : AreLawful s) (h : IsLink
       let a = accepted_split n (length t.objects) t.sessions l.trading.between in
       let b = below_times (λ x. count (accepted_to x) t.sessions) n in
       let c = below_le (λ x. 4096 * count (accepted_to x) t.sessions) (λ x. (its_account t x).used.ram) n used_most in
-      let d = apart_within (λ z. z.used.ram) refl t.memory.ledger.accounts (account_of t) n accounts_apart in
+      let d = apart_within (λ z. z.used.ram) refl t.ledger.accounts (account_of t) n accounts_apart in
       omega (arith, a, b, c, d, l.balanced.pages, l.balanced.small)
 
   few_fresh : count fresh s.trades.trading.sessions ≤ 64

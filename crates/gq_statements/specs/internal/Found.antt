@@ -1,28 +1,15 @@
 -- Which bytes a statement names.
 use Rattle.std.specs.Prelude.{◌≡◌, ℕ, List, [], Option, Some, None, Err}
-use Rattle.gq_tariff.specs.Prices.{up}
 use Rattle.gq_model.specs.declared.program.OperandSlot.{OperandSlot}
 use Rattle.gq_model.specs.machine.World as world
 use Rattle.gq_model.specs.machine.Doing.{Doing, Stepped}
 use Rattle.gq_model.specs.declared.fault.Wrong.TheVariants.{WrongKind}
 use Rattle.gq_model.specs.machine.Memory.{bytes_at, pool_at}
-use Rattle.gq_contents.specs.declared.content.Content.{Content}
-use Rattle.gq_contents.specs.declared.content.Content.TheVariants.{Empty, Block, Slice, Space, Pool, Link, Waiting}
-use Rattle.gq_contents.specs.Contents.{bytes_in, entry_count, entry_size, size_of}
+use Rattle.gq_store.specs.declared.extent.Extent.{Extent}
+use Rattle.gq_contents.specs.Contents.{bytes_in, entry_count, entry_size, extent_of}
 use Rattle.gq_trade.specs.declared.session.SlotId.{SlotId}
 use Rattle.gq_trade.specs.Seen_sessions.{slot_id_seen}
-use Rattle.gq_trade.specs.Trades.{IsLive}
 use Rattle.gq_slots.specs.Slots.{Frame, IsSlot, IsSlotId, Slots, content_at, holder, slot_of, world_seen}
-
--- how many bytes it has, if it is one of bytes
-abbrev pub byte_count : Content → Option ℕ
-byte_count Empty = None
-byte_count (Block p n) = Some n
-byte_count (Slice k n) = Some n
-byte_count (Space k n) = Some (up n)
-byte_count (Pool p) = None
-byte_count (Link k) = None
-byte_count (Waiting k) = None
 
 -- a slot with other bytes
 abbrev pub with_bytes : List ℕ → world.Slot → world.Slot
@@ -32,23 +19,18 @@ with_bytes new (world.Pool n entries) = world.Pool n entries
 with_bytes new (world.Link k) = world.Link k
 with_bytes new (world.Waiting k) = world.Waiting k
 
--- n bytes in a slot that is there, of a leaf that is live
-pub record AreBytes (s : Slots) (p : SlotId) (n : ℕ) : Type 0 where
-  pub there : IsSlotId s p
-  pub live : IsLive s.trades (holder s p)
-  pub size : n ≡ size_of (content_at s p)
+-- A step goes on with the bytes of a slot in the world w, which lie there.
+pub record IsFoundAt (d : Doing) (w : world.World) (place : OperandSlot) (s : Slots) (e : Extent) : Type 0 where
+  pub slot_id : SlotId
+  pub there : IsSlotId s slot_id
+  pub is : extent_of (content_at s slot_id) ≡ Some e
+  pub goes : (go : List ℕ → (List ℕ → world.World) → Stepped) → bytes_at d w place go
+      ≡ go (bytes_in (slot_of s slot_id)) (λ new. world.with_slot w (slot_id_seen slot_id) (with_bytes new (slot_of s slot_id)))
 
--- n bytes in a slot that is there, which the leaf x pays for
-pub record AreOwnBytes (s : Slots) (x : ℕ) (p : SlotId) (n : ℕ) : Type 0 where
-  pub there : IsSlotId s p
-  pub own : holder s p ≡ x
-  pub size : n ≡ size_of (content_at s p)
-
--- A step goes on with the bytes of this slot in the world w, or none are named.
-abbrev pub IsFound : Doing → world.World → OperandSlot → Slots → Option (SlotId × ℕ) → Type 0
+-- A step goes on with the bytes that lie there in the world w, or none are named.
+abbrev pub IsFound : Doing → world.World → OperandSlot → Slots → Option Extent → Type 0
 IsFound d w place s None = (go : List ℕ → (List ℕ → world.World) → Stepped) → bytes_at d w place go ≡ Err WrongKind
-IsFound d w place s (Some f) = (go : List ℕ → (List ℕ → world.World) → Stepped) → bytes_at d w place go
-    ≡ go (bytes_in (slot_of s f.0)) (λ new. world.with_slot w (slot_id_seen f.0) (with_bytes new (slot_of s f.0)))
+IsFound d w place s (Some e) = IsFoundAt d w place s e
 
 -- the entries of a pool
 abbrev pub entries_in : world.Slot → List (Option (List ℕ))

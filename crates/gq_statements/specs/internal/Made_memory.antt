@@ -8,7 +8,7 @@ use Rattle.gq_model.specs.machine.Doing.{Doing, Stepped, fill, need}
 use Rattle.gq_model.specs.declared.fault.Wrong.TheVariants.{WrongKind}
 use Rattle.gq_trade.specs.declared.session.SlotId.{SlotId}
 use Rattle.gq_trade.specs.Seen_sessions.{slot_id_seen}
-use Rattle.gq_slots.specs.Slots.{Frame, IsPaidBy, IsSlot, IsSlotId, Slots, holder, settled_in, world_seen}
+use Rattle.gq_slots.specs.Slots.{Frame, IsSlot, IsSlotId, Slots, holder, settled_in, world_seen}
 use Rattle.gq_slots.specs.Calls.{Settles}
 use Rattle.gq_statements.specs.Systems.{IsOf}
 
@@ -26,11 +26,10 @@ abbrev pub IsUnpaid : Slots → SlotId → world.Slot → Type 0
 IsUnpaid s p slot = (system : System) (f : Frame) → IsOf system f s
     → paid system (settled_in (holder s p) (world.with_slot (world_seen f s) (slot_id_seen p) slot)) ≡ false
 
--- a slot in which something can be made: it is there, and its leaf pays
+-- a slot in which something can be made: it is there, of a leaf that is there
 pub record IsPayable (s : Slots) (p : SlotId) : Type 0 where
   pub slot : IsSlot p
   pub there : IsSlotId s p
-  pub paid : IsPaidBy s (holder s p)
   pub below : holder s p < length s.own
 
 -- This is made in the slot p; or nothing changes, and it could not be paid.

@@ -300,6 +300,7 @@ pub record IsSilent (all : Bool) (x n : ℕ) (old new : worlds.World) (before af
 abbrev pub IsTurnsFault : RunFault → Turned → Type 0
 IsTurnsFault (fault.Load f) t = ⊥
 IsTurnsFault (fault.NoComponent name) t = ⊥
+IsTurnsFault (fault.NoOutcome number) t = ⊥
 IsTurnsFault (fault.Turns f line) t = t ≡ Err (f, line)
 IsTurnsFault fault.Memory t = Unit {0}
 IsTurnsFault fault.Write t = ⊥

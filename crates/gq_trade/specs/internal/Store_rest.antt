@@ -1,17 +1,17 @@
 -- What stays of all else along several calls of the store.
-use Rattle.std.proofs.Common.{refl, ap, ◌∙◌}
-use Rattle.gq_trade.specs.internal.Kept_rest.{rest_refl as memory_refl, rest_trans as memory_trans}
-use Rattle.gq_trade.specs.Trading.{Trading, with_memory}
+use Rattle.std.proofs.Common.{ℕ, refl, ap, ◌∙◌}
+use Rattle.gq_ram.specs.internal.Kept_rest.{rest_refl as ledger_refl, rest_trans as ledger_trans}
+use Rattle.gq_trade.specs.Trading.{Trading, with_ledger}
 use Rattle.gq_trade.specs.Trades.{Trades, SameButMemory}
 
-pub rest_refl : (w : Trades) → SameButMemory w w
-rest_refl w = record { trading = record { is = refl; memory = memory_refl w.trading.memory }; nodes = refl }
+pub rest_refl : (a : ℕ) (w : Trades) → SameButMemory a w w
+rest_refl a w = record { trading = record { is = refl; rest = ledger_refl a w.trading.ledger }; nodes = refl }
 
-pub rest_trans : (u v w : Trades) → SameButMemory u v → SameButMemory v w → SameButMemory u w
-rest_trans u v w p q = record {
+pub rest_trans : (a : ℕ) (u v w : Trades) → SameButMemory a u v → SameButMemory a v w → SameButMemory a u w
+rest_trans a u v w p q = record {
   trading = record {
-    is = q.trading.is ∙ ap (λ (x : Trading). with_memory x w.trading.memory) p.trading.is;
-    memory = memory_trans u.trading.memory v.trading.memory w.trading.memory p.trading.memory q.trading.memory;
+    is = q.trading.is ∙ ap (λ (x : Trading). with_ledger x w.trading.ledger) p.trading.is;
+    rest = ledger_trans a u.trading.ledger v.trading.ledger w.trading.ledger p.trading.rest q.trading.rest;
   };
   nodes = q.nodes ∙ p.nodes;
 }

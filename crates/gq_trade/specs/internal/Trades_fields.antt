@@ -1,8 +1,8 @@
 -- The fields of numbered values, and those of `Trades`.
 use Rattle.std.specs.Prelude.{ℕ, ◌<◌, ◌≤◌, List, Option, length}
 use Rattle.gq_ram.specs.Account_tree.{Tree}
+use Rattle.gq_ram.specs.Ledgers.{Ledger}
 use Rattle.gq_trade.specs.Numbers.{Numbers, IsTaken}
-use Rattle.gq_trade.specs.Stores.{Memory}
 use Rattle.gq_trade.specs.Trading.{IsTrading}
 use Rattle.gq_trade.specs.Trades.{Trades, IsTrades}
 use Rattle.gq_trade.specs.declared.trade_node.NodeState.{NodeState}
@@ -17,10 +17,10 @@ pub record IsNumbered {A : Type 0} (places : List (Option A)) (room capacity low
   pub below : (k : ℕ) → k < low → IsTaken places k
 
 -- what the fields of `Trades` stand for
-abbrev pub trades_of : Memory → Tree → List ℕ → List ℕ → Numbers Session → List Request → List NodeState → Trades
-trades_of memory tree leaves objects sessions requests nodes = record {
+abbrev pub trades_of : Ledger → Tree → List ℕ → List ℕ → Numbers Session → List Request → List NodeState → Trades
+trades_of ledger tree leaves objects sessions requests nodes = record {
   trading = record {
-    memory = memory;
+    ledger = ledger;
     tree = tree;
     leaves = leaves;
     objects = objects;

@@ -6,6 +6,6 @@ use Rattle.benchmark.proofs.heap_timings.alloc_all.Goals as goal
 
 pub loop-preserved : goal.loop-preserved
 loop-preserved g c =
-    let old = g.S.ByteStore.state c.loop.store in let new = g.S.ByteStore.state c.alloc.new.store in let p = c.in_ok-place.place in
+    let old = g.S.ByteStore.state c.loop.store 0 in let new = g.S.ByteStore.state c.alloc.new.store 0 in let p = c.in_ok-place.place in
     subst (λ (ps : List Place). AreInUse c.alloc.new.self new ps) (sym c.in_ok-keep.ensures)
     (last_made c.loop.heap c.alloc.new.self old new c.args.size p c.loop.places.items c.loop.invariant c.in_ok-place.ensures.ok)

@@ -1,6 +1,6 @@
 -- A statement on memory.
-use Rattle.std.proofs.Common.{◌≡◌, ◌+◌, ◌<◌, ◌^◌, ℕ, suc, Some, refl, sym, ap, subst, ◌∙◌, arith}
-use Rattle.std.specs.Prelude.{OnOk, Result, get_or, slice_get, slice_set}
+use Rattle.std.proofs.Common.{◌≡◌, ◌+◌, ◌<◌, ◌^◌, suc, Some, refl, sym, ap, subst, ◌∙◌, arith}
+use Rattle.std.specs.Prelude.{OnOk, Result, slice_get, slice_set}
 use Rattle.std.proofs.lemmas.Result.{on_err_weaker}
 use Rattle.gq_model.specs.declared.fault.Wrong.{Wrong}
 use Rattle.gq_statements.specs.Slot_statements.{done}
@@ -12,27 +12,13 @@ use Rattle.gq_laws.proofs.session_links.Written_world_links.{set_here}
 use Rattle.gq_statements.specs.Systems.{stage_in}
 use Rattle.gq_leaf.specs.Coded.{Coded, IsStanding, operation_of}
 use Rattle.gq_leaf.specs.Leaf_steps.{on}
-use Rattle.gq_trade.specs.Trading.{account_no, node_of}
-use Rattle.gq_ram.specs.Account_tree.{number}
-use Rattle.gq_slots.specs.Slots.{IsPaidBy, Slots}
-use Rattle.gq_slots.specs.Calls.{SameBeside}
 use Rattle.gq_machine.specs.Machine_world.{frame_of, world_of}
 use Rattle.gq_machine.specs.internal.Machine_invariant.{OfLeaf}
 use Rattle.gq_machine.proofs.Machine_leaf_frames.{elsewhere, leaf_set}
 use Rattle.gq_machine.proofs.Machine_invariant_step.{kept_one}
-use Rattle.gq_machine.proofs.Stepping_leaf_facts.{active_live, at_current, item_there, links, live, of_leaf, on_ok, standing}
+use Rattle.gq_machine.proofs.Stepping_leaf_facts.{active_live, at_current, item_there, live, of_leaf, on_ok, standing}
 use Rattle.gq_machine.proofs.Slot_system_kept.{scene_beside}
 use Rattle.gq_machine.proofs.leaf_statements.memory.Goals as goal
-
--- who paid pays
-still_pays : (s t : Slots) (x : ℕ) → SameBeside s t → IsPaidBy s x → IsPaidBy t x
-still_pays s t x b paid =
-    let a = b.accounts in
-    let node : node_of t.trades.trading x ≡ node_of s.trades.trading x = ap (λ ns. get_or ns x 0) a.leaves in
-    a.payer ∙ paid ∙ sym (λ i. record { 0 = number (a.tree i) (node i) })
-
-pub memory-done-requires-clause-linked : goal.memory-done-requires-clause-linked
-memory-done-requires-clause-linked c = links c.args.fixed.now c.args.state.now c.requires.does.can.holds c.lawful.ensures
 
 pub returns-clause-step : goal.returns-clause-step
 returns-clause-step c =
@@ -62,7 +48,6 @@ returns-clause-acts c = on_ok c.memory-done.result _ (λ e.
     let new_there : slice_get (slice_set ls x new) x ≡ Some new = set_here ls x new old there in
     let steps : new.state.steps ≡ suc old.state.steps = ap (λ (l : Coded). l.state.steps) to in
     record {
-      paid = still_pays c.args.state.now.slots c.memory-done.new.slots x c.memory-done.ensures.leaves.beside can.paid;
       active = subst (OfLeaf (λ (l : Coded). Active l.state.phase)) (sym new_there) (subst Active (sym (ap (λ (l : Coded). l.state.phase) to))
           (of_leaf (λ l. Active l.state.phase) (slice_get ls x) old there c.requires.does.next.active));
       counted = λ n h.
@@ -95,7 +80,6 @@ memory-done-requires-clause-acting c =
           live c.args.fixed.now m can.holds c.lawful.ensures c.args.number can.component can.leaf can.component_is can.leaf_is
           (active_live can.leaf.state.phase (of_leaf (λ l. Active l.state.phase) (slice_get m.leaves.items c.args.number) can.leaf can.leaf_is
           c.requires.does.next.active));
-      paid = c.requires.does.can.paid;
       current =
           let there = item_there c.args.state.now.leaves.items c.args.number can.leaf c.index_mut-leaf.result.now can.leaf_is c.index_mut-leaf.ensures.value in
           at_current c.args.fixed.now c.args.state.now can.holds c.lawful.ensures c.args.number can.component c.index_mut-leaf.result.now can.component_is

@@ -94,7 +94,7 @@ returns-in-Missing-clause-can c other =
     let active = of_leaf (λ l. Active l.state.phase) (slice_get m.leaves.items x) old there c.requires.acts.active in
     still_can f m n x c.requires.acts.can c.lawful.ensures old c.run-pause.new.self there active refl refl (1 - c.run-pause.result.1)
     c.run-pause.ensures.counts.stays
-    (one_left c.run-pause.result.1 c.if-left-eq0.false c.run-pause.ensures.counts.within) c.run-pause.ensures.ran c.requires.acts.can.paid
+    (one_left c.run-pause.result.1 c.if-left-eq0.false c.run-pause.ensures.counts.within) c.run-pause.ensures.ran
 
 pub returns-in-Missing-clause-active : goal.returns-in-Missing-clause-active
 returns-in-Missing-clause-active c =
@@ -159,7 +159,7 @@ returns-in-Shared-clause-can c other =
     let active = of_leaf (λ l. Active l.state.phase) (slice_get m.leaves.items x) old there c.requires.acts.active in
     still_can f m n x c.requires.acts.can c.lawful.ensures old c.run-pause.new.self there active refl refl (1 - c.run-pause.result.1)
     c.run-pause.ensures.counts.stays
-    (one_left c.run-pause.result.1 c.if-left-eq0.false c.run-pause.ensures.counts.within) c.run-pause.ensures.ran c.requires.acts.can.paid
+    (one_left c.run-pause.result.1 c.if-left-eq0.false c.run-pause.ensures.counts.within) c.run-pause.ensures.ran
 
 pub returns-in-Shared-clause-active : goal.returns-in-Shared-clause-active
 returns-in-Shared-clause-active c =

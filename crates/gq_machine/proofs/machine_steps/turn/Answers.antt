@@ -1,20 +1,16 @@
 -- One turn of a leaf.
-use Rattle.std.proofs.Common.{◌≡◌, ◌∙◌, ap, sym, subst, arith}
-use Rattle.std.specs.Prelude.{slice_get}
-use Rattle.gq_model.specs.declared.phase.Phase.{Phase}
+use Rattle.std.proofs.Common.{◌≡◌, ◌∙◌, sym, subst, arith}
 use Rattle.gq_model.specs.declared.phase.Phase.TheVariants as phase
 use Rattle.gq_model.specs.machine.Scenario.{components, system}
 use Rattle.gq_model.proofs.Small_facts.{get_within}
 use Rattle.gq_bytecode.specs.Nexts.{Active}
-use Rattle.gq_trade.specs.declared.trade_node.Stage.TheVariants.{Live}
-use Rattle.gq_statements.specs.Systems.{stage_in}
 use Rattle.gq_leaf.specs.Coded.{Coded}
 use Rattle.gq_leaf.specs.Idle_phases.{Rests}
 use Rattle.gq_machine.specs.Machine_world.{frame_of}
 use Rattle.gq_machine.specs.internal.Machine_invariant.{Holds, OfLeaf}
 use Rattle.gq_machine.proofs.Resting_phases.{acts, at_rest}
 use Rattle.gq_machine.proofs.Machine_unchanged_world.{holds_same, from_err}
-use Rattle.gq_machine.proofs.Stepping_leaf_facts.{active_live, item_there, standing}
+use Rattle.gq_machine.proofs.Stepping_leaf_facts.{can_step, item_there, standing}
 use Rattle.gq_machine.proofs.machine_steps.turn.Goals as goal
 
 pub returns-in-Pending-clause-step : goal.returns-in-Pending-clause-step
@@ -36,38 +32,14 @@ pub returns-in-Err-clause-holds : goal.returns-in-Err-clause-holds
 returns-in-Err-clause-holds c =
     let f = c.args.fixed.now in
     from_err c.accept.result (Holds f c.accept.new.state) _ _ c.accept.ensures.leaves.holds c.accept.ensures.leaves.leaves c.accept.ensures.leaves.slots (λ e g.
-    holds_same f c.pay.new.state c.accept.new.state e g c.pay.ensures.can.holds)
-
-pub pay-requires-clause-starts : goal.pay-requires-clause-starts
-pay-requires-clause-starts c =
-    let f = c.args.fixed.now in
-    let m = c.args.state.now in
-    let x = c.args.number in
-    let less = c.requires.leaf in
-    let count = c.requires.holds.count in
-    let leaf = get_within m.leaves.items x (omega (arith, less, count)) in
-    let there = item_there m.leaves.items x leaf.0 c.index.result.now leaf.1 c.index.ensures in
-    subst (OfLeaf (λ (l : Coded). stage_in l.state.phase ≡ Live)) (sym there)
-    (subst (λ (p : Phase). stage_in p ≡ Live) c.phase.ensures (ap stage_in c.in-Serving.is))
-
-pub pay-requires-in-Running-clause-starts : goal.pay-requires-in-Running-clause-starts
-pay-requires-in-Running-clause-starts c =
-    let f = c.args.fixed.now in
-    let m = c.args.state.now in
-    let x = c.args.number in
-    let less = c.requires.leaf in
-    let count = c.requires.holds.count in
-    let leaf = get_within m.leaves.items x (omega (arith, less, count)) in
-    let there = item_there m.leaves.items x leaf.0 c.index.result.now leaf.1 c.index.ensures in
-    subst (OfLeaf (λ (l : Coded). stage_in l.state.phase ≡ Live)) (sym there)
-    (subst (λ (p : Phase). stage_in p ≡ Live) c.phase.ensures (active_live c.phase.result (acts c.phase.result c.in-Running.is)))
+    holds_same f c.args.state.now c.accept.new.state e g c.requires.holds)
 
 pub accept-requires : goal.accept-requires
 accept-requires c =
     record {
       serves = record {
         can =
-            c.pay.ensures.can;
+            can_step c.args.fixed.now c.args.state.now c.args.number c.requires.holds c.requires.leaf c.requires.countable;
         serves =
             let f = c.args.fixed.now in
             let m = c.args.state.now in
@@ -76,8 +48,7 @@ accept-requires c =
             let count = c.requires.holds.count in
             let leaf = get_within m.leaves.items x (omega (arith, less, count)) in
             let there = item_there m.leaves.items x leaf.0 c.index.result.now leaf.1 c.index.ensures in
-            subst (λ ls. OfLeaf (λ (l : Coded). l.state.phase ≡ phase.Serving) (slice_get ls x)) (sym c.pay.ensures.leaves)
-            (subst (OfLeaf (λ (l : Coded). l.state.phase ≡ phase.Serving)) (sym there) (sym c.phase.ensures ∙ c.in-Serving.is));
+            subst (OfLeaf (λ (l : Coded). l.state.phase ≡ phase.Serving)) (sym there) (sym c.phase.ensures ∙ c.in-Serving.is);
       };
     }
 
@@ -85,7 +56,7 @@ pub act-requires-clause-acts : goal.act-requires-clause-acts
 act-requires-clause-acts c =
     record {
       can =
-          c.pay-in-Running.ensures.can;
+          can_step c.args.fixed.now c.args.state.now c.args.number c.requires.holds c.requires.leaf c.requires.countable;
       active =
           let f = c.args.fixed.now in
           let m = c.args.state.now in
@@ -94,6 +65,5 @@ act-requires-clause-acts c =
           let count = c.requires.holds.count in
           let leaf = get_within m.leaves.items x (omega (arith, less, count)) in
           let there = item_there m.leaves.items x leaf.0 c.index.result.now leaf.1 c.index.ensures in
-          subst (λ ls. OfLeaf (λ (l : Coded). Active l.state.phase) (slice_get ls x)) (sym c.pay-in-Running.ensures.leaves)
-          (subst (OfLeaf (λ (l : Coded). Active l.state.phase)) (sym there) (subst Active c.phase.ensures (acts c.phase.result c.in-Running.is)));
+          subst (OfLeaf (λ (l : Coded). Active l.state.phase)) (sym there) (subst Active c.phase.ensures (acts c.phase.result c.in-Running.is));
     }

@@ -61,17 +61,13 @@ returns-in-Ok-clause-leaves c =
       slots = search rules;
     }
 
-pub accept-requires-clause-paying : goal.accept-requires-clause-paying
-accept-requires-clause-paying c =
-    record {
-      live =
-          let can = c.requires.serves.can in
-          let m = c.args.state.now in
-          let x = c.args.number in
-          let serves = of_leaf (λ l. l.state.phase ≡ phase.Serving) (slice_get m.leaves.items x) can.leaf can.leaf_is c.requires.serves.serves in
-          live c.args.fixed.now m can.holds c.lawful.ensures x can.component can.leaf can.component_is can.leaf_is (ap stage_in serves);
-      paid = c.requires.serves.can.paid;
-    }
+pub accept-requires-clause-live : goal.accept-requires-clause-live
+accept-requires-clause-live c =
+    let can = c.requires.serves.can in
+    let m = c.args.state.now in
+    let x = c.args.number in
+    let serves = of_leaf (λ l. l.state.phase ≡ phase.Serving) (slice_get m.leaves.items x) can.leaf can.leaf_is c.requires.serves.serves in
+    live c.args.fixed.now m can.holds c.lawful.ensures x can.component can.leaf can.component_is can.leaf_is (ap stage_in serves)
 
 pub accept-requires-clause-first : goal.accept-requires-clause-first
 accept-requires-clause-first c =

@@ -1,15 +1,13 @@
-use Rattle.gq_trade.specs.Trading.{account_no}
+use Rattle.gq_model.specs.machine.Program.{bytes_of, spelled}
 use Rattle.gq_slots.specs.Slots.{slot_of}
-use Rattle.std.specs.Prelude.{[], ◌∷◌}
 use Rattle.gq_contents.specs.Contents.{put_in}
 use Rattle.gq_region.specs.Region_addresses.{bytes_at}
-use Rattle.gq_memory_rows.proofs.Serving_session_kept.{serves_paid, serves_stored}
+use Rattle.gq_memory_rows.proofs.Serving_session_kept.{serves_stored}
 use Rattle.gq_memory_rows.proofs.buffers_rows.write.Goals as goal
 
 pub returns-in-Link : goal.returns-in-Link
 returns-in-Link c =
     let s = c.args.slots.now in
-    let p = c.pay_by.new.self in
-    let v = serves_paid s p (account_no s.trades.trading 1) c.args.session c.pay_by.ensures c.requires in
-    serves_stored p c.store.new.slots c.args.session (bytes_at c.args.addresses.now p 1 3 1) (λ f. put_in f.1 (c.args.value ∷ []) (slot_of p f.0))
-    c.store.result c.store.ensures.there c.store.ensures.stored v
+    serves_stored s c.store.new.slots c.args.session (bytes_at c.args.addresses.now s 1 c.args.address (bytes_of c.args.width))
+    (λ f. put_in f.1 (spelled (bytes_of c.args.width) c.args.value) (slot_of s f.0)) c.store.result c.store.ensures.there c.store.ensures.stored
+    c.requires.serves

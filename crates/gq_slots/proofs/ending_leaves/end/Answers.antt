@@ -1,4 +1,4 @@
-use Rattle.std.proofs.Common.{ap, refl, set, subst, sym, ◌∙◌}
+use Rattle.std.proofs.Common.{refl, set, subst, sym}
 use Rattle.gq_ram.specs.Ledgers.{IsBalanced}
 use Rattle.gq_trade.specs.Leaf_ends.{HasNoSessions}
 use Rattle.gq_trade.specs.Trades.{IsLive}
@@ -13,8 +13,8 @@ invariant_of-slots c =
     let e = c.slots.view_is in
     let x = c.args.leaf in
     ended_kept s c.end.new.self c.clear_all.new.own.items (set s.heaps x c.new.result) x c.new.result c.slots.invariant c.laws.ensures.trades
-    c.laws.ensures.trading (subst IsBalanced (c.accounts.ensures ∙ ap (λ m. m.ledger) c.memory.ensures) c.laws-2.ensures)
-    (subst IsBalanced (c.accounts-2.ensures ∙ ap (λ m. m.ledger) c.memory-2.ensures) c.laws-3.ensures)
+    c.laws.ensures.trading (subst IsBalanced c.accounts.ensures c.laws-2.ensures)
+    (subst IsBalanced c.accounts-2.ensures c.laws-3.ensures)
     (subst (λ (y : Slots). IsLive y.trades x) (sym e) c.requires.leaf) (subst (λ (y : Slots). HasNoSessions y.trades.trading x) (sym e) c.requires.alone)
     c.end.ensures (record { keeps = c.new.ensures.keeps; peaks = c.new.ensures.peaks }) c.clear_all.ensures refl
 
@@ -24,6 +24,6 @@ returns c =
     let e = c.slots.view_is in
     let x = c.args.leaf in
     leaf_ends c.args.slots.now s c.end.new.self c.clear_all.new.own.items (set s.heaps x c.new.result) x c.new.result e c.slots.invariant
-    c.laws.ensures.trades c.laws.ensures.trading (subst IsBalanced (c.accounts.ensures ∙ ap (λ m. m.ledger) c.memory.ensures) c.laws-2.ensures)
+    c.laws.ensures.trades c.laws.ensures.trading (subst IsBalanced c.accounts.ensures c.laws-2.ensures)
     (subst (λ (y : Slots). IsLive y.trades x) (sym e) c.requires.leaf) (subst (λ (y : Slots). HasNoSessions y.trades.trading x) (sym e) c.requires.alone)
     c.end.ensures (record { keeps = c.new.ensures.keeps; peaks = c.new.ensures.peaks }) c.clear_all.ensures refl

@@ -18,13 +18,13 @@ invariant_of-slots c =
     let l = c.laws.ensures in
     let co = live_open s.trades c.args.client l.trades l.trading (subst (λ (y : Slots). IsLive y.trades c.args.client) (sym e) c.requires.can.client) in
     let vo = live_open s.trades c.args.server l.trades l.trading (subst (λ (y : Slots). IsLive y.trades c.args.server) (sym e) c.requires.can.server) in
-    let b = subst IsBalanced (c.accounts.ensures ∙ ap (λ m. m.ledger) c.memory.ensures) c.laws-2.ensures in
-    let d = subst IsBalanced (c.accounts-2.ensures ∙ ap (λ m. m.ledger) c.memory-2.ensures) c.laws-3.ensures in
+    let b = subst IsBalanced c.accounts.ensures c.laws-2.ensures in
+    let d = subst IsBalanced c.accounts-2.ensures c.laws-3.ensures in
     kept_or_not c.ask-asked.result s c.ask-asked.new.self
     (asked s.trades.trading (fresh c.args.client c.args.slot_id c.args.server c.args.service c.args.donation)) c.ask-asked.ensures.asked
     c.ask-asked.ensures.unchanged c.slots.invariant
     (λ ok. opened_kept s c.args.client c.args.slot_id c.args.server c.args.service c.args.donation l.trading.requests c.slots.invariant co vo b
-    (subst (λ y. IsBalanced y.trading.memory.ledger) ok d))
+    (subst (λ y. IsBalanced y.trading.ledger) ok d))
 
 pub returns-clause-world : goal.returns-clause-world
 returns-clause-world c =

@@ -26,8 +26,8 @@ invariant_of-slots c =
     (subst (λ (y : Slots). IsTaken y.trades.trading.sessions k) (sym e) c.requires.there)
     (λ j lt. ap (λ y. content_at y (InSession k j)) e ∙ c.requires.empty j lt)
     (subst (λ (y : Slots). AreOfOthers k y.trades.trading.requests) (sym e) c.requires.none_waits)
-    (subst IsBalanced (c.accounts.ensures ∙ ap (λ m. m.ledger) c.memory.ensures) c.laws-2.ensures)
-    (subst IsBalanced (c.accounts-2.ensures ∙ ap (λ m. m.ledger) c.memory-2.ensures) c.laws-3.ensures) a.nodes a.ok a.err
+    (subst IsBalanced c.accounts.ensures c.laws-2.ensures)
+    (subst IsBalanced c.accounts-2.ensures c.laws-3.ensures) a.nodes a.ok a.err
 
 pub returns-clause-ends : goal.returns-clause-ends
 returns-clause-ends c =

@@ -21,11 +21,11 @@ invariant_of-slots c =
     let settled = l.trades.sessions k taken in
     let co = live_open s.trades (client_of t k) l.trades l.trading (record { there = between.client; live = settled.client }) in
     let vo = live_open s.trades (server_of t k) l.trades l.trading (record { there = between.server; live = settled.server }) in
-    let b = subst IsBalanced (c.accounts.ensures ∙ ap (λ m. m.ledger) c.memory.ensures) c.laws-2.ensures in
-    let d = subst IsBalanced (c.accounts-2.ensures ∙ ap (λ m. m.ledger) c.memory-2.ensures) c.laws-3.ensures in
+    let b = subst IsBalanced c.accounts.ensures c.laws-2.ensures in
+    let d = subst IsBalanced c.accounts-2.ensures c.laws-3.ensures in
     kept_or_not c.upgrade-upgraded.result s c.upgrade-upgraded.new.self (upgraded t k c.args.donation) c.upgrade-upgraded.ensures.upgraded
     c.upgrade-upgraded.ensures.unchanged c.slots.invariant
-    (λ ok. upgraded_kept s k c.args.donation taken c.slots.invariant co vo b (subst (λ y. IsBalanced y.trading.memory.ledger) ok d))
+    (λ ok. upgraded_kept s k c.args.donation taken c.slots.invariant co vo b (subst (λ y. IsBalanced y.trading.ledger) ok d))
 
 pub returns-clause-world : goal.returns-clause-world
 returns-clause-world c =

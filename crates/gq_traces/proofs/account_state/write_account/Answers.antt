@@ -4,7 +4,7 @@ use Rattle.std.specs.Prelude.{slice_get}
 use Rattle.gq_model.specs.machine.Scenario.{Scenario}
 use Rattle.gq_resolve.specs.NodeTables.{node_rows}
 use Rattle.gq_scenario.specs.Component_trees.{version_number}
-use Rattle.gq_traces.proofs.Printed_accounts.{line_of_node}
+use Rattle.gq_world.proofs.World_account_lines.{line_of_node}
 use Rattle.gq_traces.proofs.Sequential_text_writes.{goes_text}
 use Rattle.gq_traces.proofs.account_state.write_account.Goals as goal
 

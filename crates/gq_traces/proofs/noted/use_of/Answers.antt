@@ -18,6 +18,6 @@ returns c =
       leaf = l.0;
       there = l.1;
       phase = from_some (slice_get m.world.leaves x) (λ l. c.phase.result ≡ l.phase) l.0 l.1 c.phase.ensures;
-      ram = from_some (slice_get m.world.leaves x) (λ l. c.used.result ≡ held Ram m.world x l) l.0 l.1 c.used.ensures;
-      caps = λ two. from_some (slice_get m.world.leaves x) (λ l. c.caps_used.result ≡ held Caps m.world x l) l.0 l.1 (c.caps_used.ensures two);
+      ram = from_some (slice_get m.world.leaves x) (λ l. c.used.result.ram ≡ held Ram m.world x l) l.0 l.1 c.used.ensures.ram;
+      caps = λ two. from_some (slice_get m.world.leaves x) (λ l. c.used.result.caps ≡ held Caps m.world x l) l.0 l.1 (c.used.ensures.caps two);
     }

@@ -9,21 +9,16 @@ quota-requires c =
     let m = c.args.machine.now in
     node_within m.scenario c.table.result.now c.args.leaf c.node-node.result c.table.ensures c.requires.leaf c.node-node.ensures.node
 
-pub caps-requires : goal.caps-requires
-caps-requires c =
-    let m = c.args.machine.now in
-    node_within m.scenario c.table.result.now c.args.leaf c.node-node.result c.table.ensures c.requires.leaf c.node-node.ensures.node
-
 pub returns-clause-ram : goal.returns-clause-ram
 returns-clause-ram c =
     let m = c.args.machine.now in
     let less = node_within m.scenario c.table.result.now c.args.leaf c.node-node.result c.table.ensures c.requires.leaf c.node-node.ensures.node in
     let place = place_of_leaf m.scenario c.table.result.now c.args.leaf c.node-node.result c.table.ensures c.requires.leaf c.node-node.ensures.place in
-    ram_is m.scenario m.world c.requires.leaves c.args.leaf c.node-node.result place less c.quota.result (c.quota.ensures [])
+    ram_is m.scenario m.world c.requires.leaves c.args.leaf c.node-node.result place less c.quota.result.ram (c.quota.ensures.ram [])
 
 pub returns-clause-caps : goal.returns-clause-caps
 returns-clause-caps c two =
     let m = c.args.machine.now in
     let less = node_within m.scenario c.table.result.now c.args.leaf c.node-node.result c.table.ensures c.requires.leaf c.node-node.ensures.node in
     let place = place_of_leaf m.scenario c.table.result.now c.args.leaf c.node-node.result c.table.ensures c.requires.leaf c.node-node.ensures.place in
-    caps_is m.scenario m.world c.requires.leaves c.args.leaf c.node-node.result place less c.caps.result two (c.caps.ensures [])
+    caps_is m.scenario m.world c.requires.leaves c.args.leaf c.node-node.result place less c.quota.result.caps two (c.quota.ensures.caps [])

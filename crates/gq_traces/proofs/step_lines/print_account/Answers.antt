@@ -10,7 +10,8 @@ use Rattle.gq_world.specs.Account_lines.{all_accounts}
 use Rattle.gq_model.proofs.Small_facts.{set_there}
 use Rattle.gq_traces.specs.internal.Noted.{standing_in}
 use Rattle.gq_traces.specs.internal.Printed_steps.{Reports, head_text}
-use Rattle.gq_traces.proofs.Printed_accounts.{account_stands, account_stands_else, line_of_node, noted_at}
+use Rattle.gq_traces.proofs.Printed_accounts.{account_stands, account_stands_else, noted_at}
+use Rattle.gq_world.proofs.World_account_lines.{line_of_node}
 use Rattle.gq_traces.proofs.Sequential_text_writes.{reports_nothing, prints_text}
 use Rattle.gq_traces.proofs.Leaves_standing.{from_some}
 use Rattle.gq_traces.proofs.Printed_values_equal.{standing_is, stands_as}

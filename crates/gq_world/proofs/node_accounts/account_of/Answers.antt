@@ -38,8 +38,8 @@ returns c =
     let reported = step_budgets c.args.budgets.now in
     let n = c.args.node in
     let p = account_at_node s w reported c.requires.leaves n c.requires.node in
-    let ram = ram_of s w reported n c.quota.result (c.quota.ensures reported) in
-    let caps = caps_of s w reported n c.caps.result (c.caps.ensures reported) in
+    let ram = ram_of s w reported n c.quota-quota.result.ram (c.quota-quota.ensures.ram reported) in
+    let caps = caps_of s w reported n c.quota-quota.result.caps (c.quota-quota.ensures.caps reported) in
     let P : Scenario → Type 0 = λ s. IfSome (slice_get (node_rows s) n) (λ r. c.leaf.result ≡ r.leaf) in
     let found = subst P c.table.ensures c.leaf.ensures in
     let leaf = c.match-leaf.leaf in
@@ -47,4 +47,5 @@ returns c =
       | in-Some b ↦ subst (λ (o : Option ℕ). LeafRead s w reported o leaf) (sym b.in-Some.is) (b.leaf_account.result, b.leaf-is, b.leaf_account.ensures)
       | in-None b ↦ subst (λ (o : Option ℕ). LeafRead s w reported o leaf) (sym b.in-None.is) b.leaf-is
     ] in
-    reported_is s w reported (accounts_by s w reported) n p c.quota.result c.caps.result c.leaf.result leaf c.new.result c.new.ensures ram caps found read
+    reported_is s w reported (accounts_by s w reported) n p c.quota-quota.result.ram c.quota-quota.result.caps c.leaf.result leaf c.new.result c.new.ensures
+    ram caps found read

@@ -21,12 +21,12 @@ returns c = λ d leaf at there.
     let x = c.args.leaf in
     let budget : slice_index (step_budgets c.args.budgets.now) x ≡ c.steps_of-budget.result = sym c.steps_of-budget.ensures in
     let read : (Q : Leaf → Type 0) → IfSome (slice_get w.leaves x) Q → Q leaf = λ Q h. subst (λ (o : Option Leaf). IfSome o Q) there h in
-    let ram = read (λ l. c.used-ram.result ≡ held Ram w x l) c.used-ram.ensures in
-    let caps = λ (e : counts_caps s.version ≡ true). read (λ l. c.caps_used.result ≡ held Caps w x l) (c.caps_used.ensures e) in
+    let ram = read (λ l. c.used-held.result.ram ≡ held Ram w x l) c.used-held.ensures.ram in
+    let caps = λ (e : counts_caps s.version ≡ true). read (λ l. c.used-held.result.caps ≡ held Caps w x l) (c.used-held.ensures.caps e) in
     let taken = read (λ l. c.steps.result ≡ l.steps) c.steps.ensures in
     let phase = read (λ l. c.phase.result ≡ l.phase) c.phase.ensures in
     let version = c.version.ensures ∙ (ap (λ s. s.version) c.scenario.ensures ∙ ap (λ s. s.version) c.table.ensures) in
-    let counted : c.counted-caps.result ≡ cond (counts_caps s.version) (held Caps w x leaf) 0 =
-    c.counted-caps.ensures ∙ (λ j. cond (counts_caps (version j)) c.caps_used.result 0)
-    ∙ only_counted s.version c.caps_used.result (held Caps w x leaf) caps in
+    let counted : c.counted.result ≡ cond (counts_caps s.version) (held Caps w x leaf) 0 =
+    c.counted.ensures ∙ (λ j. cond (counts_caps (version j)) c.used-held.result.caps 0)
+    ∙ only_counted s.version c.used-held.result.caps (held Caps w x leaf) caps in
     ap Some (sym (c.new.ensures ∙ (λ j. record { used = amount (ram j) (counted j); steps = taken j; budget = sym budget j; phase = phase j })))

@@ -12,36 +12,37 @@ pub returns-clause-changes : goal.returns-clause-changes
 returns-clause-changes g c =
     let l = rw c.pool-pool.ensures at c.requires.inside in
     rw c.pool-pool.ensures
-    (gives_changes c.pool-pool.result c.args.heap.now c.give.new.heap (g.S.ByteStore.state c.args.store.now)
-    (g.S.ByteStore.state c.give.new.store) c.args.index
+    (gives_changes c.pool-pool.result c.args.heap.now c.give.new.heap (g.S.ByteStore.state c.args.store.now c.args.account.0)
+    (g.S.ByteStore.state c.give.new.store c.args.account.0) c.args.index
     c.give.result l c.give.ensures.gives)
 
 pub returns-clause-seen : goal.returns-clause-seen
 returns-clause-seen g c =
     let l = rw c.pool-pool.ensures at c.requires.inside in
     rw c.pool-pool.ensures
-    (gives_seen c.pool-pool.result c.args.heap.now c.give.new.heap (g.S.ByteStore.state c.args.store.now)
-    (g.S.ByteStore.state c.give.new.store) c.args.index
+    (gives_seen c.pool-pool.result c.args.heap.now c.give.new.heap (g.S.ByteStore.state c.args.store.now c.args.account.0)
+    (g.S.ByteStore.state c.give.new.store c.args.account.0) c.args.index
     c.give.result l c.give.ensures.gives (rw c.pool-pool.ensures at c.requires.kept))
 
 pub returns-clause-absent : goal.returns-clause-absent
 returns-clause-absent g c =
     let l = rw c.pool-pool.ensures at c.requires.inside in
     rw c.pool-pool.ensures
-    (gives_absent c.pool-pool.result c.args.heap.now c.give.new.heap (g.S.ByteStore.state c.args.store.now)
-    (g.S.ByteStore.state c.give.new.store) c.args.index
+    (gives_absent c.pool-pool.result c.args.heap.now c.give.new.heap (g.S.ByteStore.state c.args.store.now c.args.account.0)
+    (g.S.ByteStore.state c.give.new.store c.args.account.0) c.args.index
     c.give.result l c.give.ensures.gives)
 
 pub returns-clause-pays : goal.returns-clause-pays
 returns-clause-pays g c =
     let l = rw c.pool-pool.ensures at c.requires.inside in
     rw c.pool-pool.ensures
-    (gives_pays c.pool-pool.result c.args.heap.now c.give.new.heap (g.S.ByteStore.state c.args.store.now)
-    (g.S.ByteStore.state c.give.new.store) c.args.index
+    (gives_pays c.pool-pool.result c.args.heap.now c.give.new.heap (g.S.ByteStore.state c.args.store.now c.args.account.0)
+    (g.S.ByteStore.state c.give.new.store c.args.account.0) c.args.index
     c.give.result l c.give.ensures.gives)
 
 pub returns-clause-peaks : goal.returns-clause-peaks
 returns-clause-peaks g c =
     let l = rw c.pool-pool.ensures at c.requires.inside in
-    gives_peaks c.pool-pool.result c.args.heap.now c.give.new.heap (g.S.ByteStore.state c.args.store.now) (g.S.ByteStore.state c.give.new.store) c.args.index
+    gives_peaks c.pool-pool.result c.args.heap.now c.give.new.heap (g.S.ByteStore.state c.args.store.now c.args.account.0) (g.S.ByteStore.state
+    c.give.new.store c.args.account.0) c.args.index
     c.give.result l c.give.ensures.gives

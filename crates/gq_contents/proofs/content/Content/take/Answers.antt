@@ -20,8 +20,8 @@ is_true_false b e f = cc
 pub returns-clause-taken : goal.returns-clause-taken
 returns-clause-taken g c =
     let p = c.pool-pool.result in
-    let old = g.S.ByteStore.state c.args.store.now in
-    let new = g.S.ByteStore.state c.take.new.store in
+    let old = g.S.ByteStore.state c.args.store.now c.args.account.0 in
+    let new = g.S.ByteStore.state c.take.new.store c.args.account.0 in
     let before = c.args.heap.now in
     let after = c.take.new.heap in
     let i = c.args.index in
@@ -40,8 +40,8 @@ returns-clause-taken g c =
 pub returns-clause-exceeded : goal.returns-clause-exceeded
 returns-clause-exceeded g c =
     let p = c.pool-pool.result in
-    let old = g.S.ByteStore.state c.args.store.now in
-    let new = g.S.ByteStore.state c.take.new.store in
+    let old = g.S.ByteStore.state c.args.store.now c.args.account.0 in
+    let new = g.S.ByteStore.state c.take.new.store c.args.account.0 in
     let before = c.args.heap.now in
     let after = c.take.new.heap in
     let i = c.args.index in
@@ -53,8 +53,8 @@ returns-clause-exceeded g c =
 pub returns-clause-none : goal.returns-clause-none
 returns-clause-none g c =
     let p = c.pool-pool.result in
-    let old = g.S.ByteStore.state c.args.store.now in
-    let new = g.S.ByteStore.state c.take.new.store in
+    let old = g.S.ByteStore.state c.args.store.now c.args.account.0 in
+    let new = g.S.ByteStore.state c.take.new.store c.args.account.0 in
     let before = c.args.heap.now in
     let after = c.take.new.heap in
     let i = c.args.index in

@@ -26,6 +26,8 @@ returns-clause-ok g c =
     let k = rw c.pages_of.ensures.price at h in
     let price : c.round_up.result ≡ up c.args.size = c.round_up.ensures.value ∙ ap up c.from.ensures in
     let bins : length c.args.self.now.bins ≡ 8 = eight _ (search rules) in
-    rw c.number.ensures (allocates c.args.self.now _ (g.S.ByteStore.state c.args.store.now) (g.S.ByteStore.state c.grow.new.self) c.args.size _
-    (allocates_large c.args.self.now _ (g.S.ByteStore.state c.args.store.now) (g.S.ByteStore.state c.grow.new.self) c.in_ok-chunk.chunk c.args.size
+    rw c.number.ensures (allocates c.args.self.now _ (g.S.ByteStore.state c.args.store.now c.args.account.0) (g.S.ByteStore.state c.grow.new.self
+    c.args.account.0) c.args.size _
+    (allocates_large c.args.self.now _ (g.S.ByteStore.state c.args.store.now c.args.account.0) (g.S.ByteStore.state c.grow.new.self c.args.account.0)
+    c.in_ok-chunk.chunk c.args.size
     c.requires.size k refl (ap (λ n. c.args.self.now.large + n) price) refl) bins bins)

@@ -17,8 +17,9 @@ returns-clause-ok g c =
     let h = c.in_ok-number.ensures.ok in
     let t = rw (c.place_size.ensures, c.places_per_chunk.ensures, c.class_index.ensures.index) at h in
     let bins : length c.args.self.now.bins ≡ 8 = eight _ (search rules) in
-    allocates c.args.self.now _ (g.S.ByteStore.state c.args.store.now) (g.S.ByteStore.state c.take.new.store) c.args.size _
-    (allocates_small c.args.self.now _ (g.S.ByteStore.state c.args.store.now) (g.S.ByteStore.state c.take.new.store) c.class_for_size-class.result
+    allocates c.args.self.now _ (g.S.ByteStore.state c.args.store.now c.args.account.0) (g.S.ByteStore.state c.take.new.store c.args.account.0) c.args.size _
+    (allocates_small c.args.self.now _ (g.S.ByteStore.state c.args.store.now c.args.account.0) (g.S.ByteStore.state c.take.new.store c.args.account.0)
+    c.class_for_size-class.result
     c.take.new.bin c.args.size c.in_ok-number.number
     (omega (arith, c.requires.size)) c.class_for_size-class.ensures.size c.class_for_size-class.ensures.index bins
     (ap (λ i. set c.args.self.now.bins i c.take.new.bin) c.class_index-2.ensures.index) refl refl t)

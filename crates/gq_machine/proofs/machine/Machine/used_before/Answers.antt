@@ -11,7 +11,7 @@ overflow_add-sum c =
     let count = c.leaf_count-leaves.ensures.count in
     let small = c.loop-number.invariant.small in
     let used = (one_more c.self.inside c.args.self.now c.self.view_is c.self.invariant c.lawful.ensures c.loop-number.number c.loop-number.sum
-    c.used-sum.result c.new.result (omega (arith, before, end)) c.new.ensures c.used-sum.ensures c.loop-number.invariant).0 in
+    c.used-sum.result.ram c.new.result (omega (arith, before, end)) c.new.ensures c.used-sum.ensures.ram c.loop-number.invariant).0 in
     omega (arith, before, end, few, count, small, used)
 
 pub loop-number-preserved : goal.loop-number-preserved
@@ -19,4 +19,4 @@ loop-number-preserved c =
     let before = c.loop-number-test.true in
     let end = c.requires in
     (one_more c.self.inside c.args.self.now c.self.view_is c.self.invariant c.lawful.ensures c.loop-number.number c.loop-number.sum
-    c.used-sum.result c.new.result (omega (arith, before, end)) c.new.ensures c.used-sum.ensures c.loop-number.invariant).1
+    c.used-sum.result.ram c.new.result (omega (arith, before, end)) c.new.ensures c.used-sum.ensures.ram c.loop-number.invariant).1

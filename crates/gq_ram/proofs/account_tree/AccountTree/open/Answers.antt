@@ -1,5 +1,5 @@
 use Rattle.std.proofs.Common.{◌≡◌, ◌<◌, ◌∷◌, ◌++◌, [], List, length, get_or, ap, ◌∙◌, arith}
-use Rattle.gq_ram.specs.declared.account.AccountNo.{AccountNo}
+use Rattle.gq_store.specs.declared.AccountNo.{AccountNo}
 use Rattle.gq_ram.proofs.Quota_move_sequences.{item, place}
 use Rattle.gq_ram.proofs.Node_accounts_opened.{its_number, open_first, open_more}
 use Rattle.gq_ram.proofs.account_tree.AccountTree.open.Goals as goal

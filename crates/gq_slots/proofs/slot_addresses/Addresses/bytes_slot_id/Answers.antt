@@ -13,7 +13,7 @@ returns-in-Link-clause-world c f system a =
     let is : c.buffer_slot_id.result ≡ place_in c.args.self.now s c.content.result c.args.slot_id = rw c.in-Link.is c.buffer_slot_id.ensures.is in
     place_read f system c.args.self.now s (memory_of s (holder s c.args.slot_id)) c.content.result c.args.slot_id c.buffer_slot_id.result w is
     c.content.ensures.is
-    (c.content.ensures.reads f) c.requires.linked a
+    (c.content.ensures.reads f) a
 
 pub returns-in-Empty-clause-world : goal.returns-in-Empty-clause-world
 returns-in-Empty-clause-world c f system a =
@@ -22,4 +22,4 @@ returns-in-Empty-clause-world c f system a =
     let is : Some c.args.slot_id ≡ place_in c.args.self.now s c.content.result c.args.slot_id = search rules in
     place_read f system c.args.self.now s (memory_of s (holder s c.args.slot_id)) c.content.result c.args.slot_id (Some c.args.slot_id) w is
     c.content.ensures.is
-    (c.content.ensures.reads f) c.requires.linked a
+    (c.content.ensures.reads f) a

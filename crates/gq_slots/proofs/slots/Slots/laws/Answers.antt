@@ -1,4 +1,4 @@
-use Rattle.std.proofs.Common.{◌≡◌, ap, subst, sym, ◌∙◌}
+use Rattle.std.proofs.Common.{◌≡◌, subst, sym, ◌∙◌}
 use Rattle.gq_ram.specs.Ledgers.{IsBalanced}
 use Rattle.gq_slots.specs.Slots.{ArePaidFor, AreRead, AreRises, AreSmallEntries, Slots}
 use Rattle.gq_slots.proofs.Leaf_use_paid.{paid_at}
@@ -10,7 +10,7 @@ use Rattle.gq_slots.proofs.slots.Slots.laws.Goals as goal
 pub returns-clause-held : goal.returns-clause-held
 returns-clause-held c =
     let s : Slots = slots_of c.self.inside in
-    let same : c.accounts.result.now ≡ s.trades.trading.memory.ledger = c.accounts.ensures ∙ ap (λ m. m.ledger) c.memory.ensures in
+    let same : c.accounts.result.now ≡ s.trades.trading.ledger = c.accounts.ensures in
     subst ArePaidFor c.self.view_is (λ f x l e. paid_at f s x l c.self.invariant (subst IsBalanced same c.laws-2.ensures) e)
 
 pub returns-clause-reads : goal.returns-clause-reads

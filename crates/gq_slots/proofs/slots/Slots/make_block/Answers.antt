@@ -12,14 +12,16 @@ pub make_block-requires-clause-kept : goal.make_block-requires-clause-kept
 make_block-requires-clause-kept c =
     let s : Slots = slots_of c.self.inside in
     let a = at_inside c.args.self.now s c.args.slot_id c.index_mut.result.now content.Empty c.holder-holder.result c.self.view_is c.self.invariant
-    c.requires.can.there c.holder-holder.ensures.is c.holder-holder.ensures.there (sym c.requires.can.empty) c.index_mut.ensures.value c.requires.can.paid in
+    c.requires.can.there c.holder-holder.ensures.is c.holder-holder.ensures.there (sym c.requires.can.empty) c.index_mut.ensures.value
+    c.leaf_account-account.ensures in
     is_among s c.args.slot_id c.index_mut.result.now content.Empty a
 
 pub invariant_of-self-2 : goal.invariant_of-self-2
 invariant_of-self-2 c =
     let s : Slots = slots_of c.self.inside in
     let a = at_inside c.args.self.now s c.args.slot_id c.index_mut.result.now content.Empty c.holder-holder.result c.self.view_is c.self.invariant
-    c.requires.can.there c.holder-holder.ensures.is c.holder-holder.ensures.there (sym c.requires.can.empty) c.index_mut.ensures.value c.requires.can.paid in
+    c.requires.can.there c.holder-holder.ensures.is c.holder-holder.ensures.there (sym c.requires.can.empty) c.index_mut.ensures.value
+    c.leaf_account-account.ensures in
     let e = c.in_ok-made.ensures in
     (makes_block c.args.self.now s c.make_block.new.store c.fill.new.trades c.fill.new.own.items c.args.slot_id c.index_mut.result.now
     c.make_block.new.heap content.Empty c.in_ok-made.made (world.Bytes form.Block c.args.size (replicate c.args.size 0)) c.holder-holder.result
@@ -30,7 +32,8 @@ pub returns-clause-made : goal.returns-clause-made
 returns-clause-made c =
     let s : Slots = slots_of c.self.inside in
     let a = at_inside c.args.self.now s c.args.slot_id c.index_mut.result.now content.Empty c.holder-holder.result c.self.view_is c.self.invariant
-    c.requires.can.there c.holder-holder.ensures.is c.holder-holder.ensures.there (sym c.requires.can.empty) c.index_mut.ensures.value c.requires.can.paid in
+    c.requires.can.there c.holder-holder.ensures.is c.holder-holder.ensures.there (sym c.requires.can.empty) c.index_mut.ensures.value
+    c.leaf_account-account.ensures in
     let e = c.in_ok-made.ensures in
     (makes_block c.args.self.now s c.make_block.new.store c.fill.new.trades c.fill.new.own.items c.args.slot_id c.index_mut.result.now
     c.make_block.new.heap content.Empty c.in_ok-made.made (world.Bytes form.Block c.args.size (replicate c.args.size 0)) c.holder-holder.result

@@ -12,7 +12,8 @@ pub invariant_of-self-2 : goal.invariant_of-self-2
 invariant_of-self-2 c =
     let s : Slots = slots_of c.self.inside in
     let a = at_inside c.args.self.now s c.args.slot_id c.index-heap.result.now content.Empty c.holder-holder.result c.self.view_is c.self.invariant
-    c.requires.can.there c.holder-holder.ensures.is c.holder-holder.ensures.there (sym c.requires.can.empty) c.index-heap.ensures c.requires.can.paid in
+    c.requires.can.there c.holder-holder.ensures.is c.holder-holder.ensures.there (sym c.requires.can.empty) c.index-heap.ensures
+    c.leaf_account-account.ensures in
     let e = c.in_ok-made.ensures in
     (makes_beside c.args.self.now s c.make_space.new.store c.fill.new.trades c.fill.new.own.items c.args.slot_id c.index-heap.result.now content.Empty
     c.in_ok-made.made (world.Bytes form.Space c.args.size (replicate (up c.args.size) 0)) c.self.view_is a c.laws.ensures.trading c.requires.can.slot
@@ -23,7 +24,8 @@ pub returns-clause-made : goal.returns-clause-made
 returns-clause-made c =
     let s : Slots = slots_of c.self.inside in
     let a = at_inside c.args.self.now s c.args.slot_id c.index-heap.result.now content.Empty c.holder-holder.result c.self.view_is c.self.invariant
-    c.requires.can.there c.holder-holder.ensures.is c.holder-holder.ensures.there (sym c.requires.can.empty) c.index-heap.ensures c.requires.can.paid in
+    c.requires.can.there c.holder-holder.ensures.is c.holder-holder.ensures.there (sym c.requires.can.empty) c.index-heap.ensures
+    c.leaf_account-account.ensures in
     let e = c.in_ok-made.ensures in
     (makes_beside c.args.self.now s c.make_space.new.store c.fill.new.trades c.fill.new.own.items c.args.slot_id c.index-heap.result.now content.Empty
     c.in_ok-made.made (world.Bytes form.Space c.args.size (replicate (up c.args.size) 0)) c.self.view_is a c.laws.ensures.trading c.requires.can.slot

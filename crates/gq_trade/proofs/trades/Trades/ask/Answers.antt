@@ -1,6 +1,5 @@
 use Rattle.std.proofs.Common.{◌≡◌, ◌<◌, length, ◌++◌, [], ◌∷◌, refl, rules, sym, ap, subst, ◌∙◌}
 use Rattle.gq_ram.specs.Account_table.{available, available_caps}
-use Rattle.gq_ram.specs.Ledgers.{IsBalanced}
 use Rattle.gq_trade.specs.declared.requests.Ask.TheVariants.{Open}
 use Rattle.gq_trade.specs.internal.Trades_fields.{Holds, trades_of}
 use Rattle.gq_trade.specs.Trading.{asked, entered, fresh, given, node_of}
@@ -29,22 +28,22 @@ invariant_of-self-2 c =
       server = subst (λ (a : Trades). IsLive a y) (sym v) c.requires.can.server;
       apart = c.requires.can.apart;
       service = subst (λ (a : Trades). c.args.service < length a.trading.objects) (sym v) c.requires.service;
-      counted = λ z. c.requires.counted (ap (λ (a : Trades). a.trading.memory.ledger.price) (sym v) ∙ z);
+      counted = λ z. c.requires.counted (ap (λ (a : Trades). a.trading.ledger.price) (sym v) ∙ z);
     } in
     let e = c.in_ok-donate.ensures in
     let i = c.givers-from.result.0 in
     let from : i ≡ node_of w.trading x = c.givers-from.ensures.from ∙ ap (λ (a : Trades). node_of a.trading x) (sym v) in
-    let m : c.donate.new.self ≡ (given w.trading x y c.args.donation).memory =
-    given_is w.trading c.donate.new.self x y i c.givers-from.result.1 c.args.donation from
-    (c.givers-from.ensures.to ∙ ap (λ (a : Trades). node_of a.trading y) (sym v)) e.moved c.donate.ensures.payer in
+    let m : c.donate.new.accounts ≡ (given w.trading x y c.args.donation).ledger =
+    given_is w.trading c.donate.new.accounts x y i c.givers-from.result.1 c.args.donation from
+    (c.givers-from.ensures.to ∙ ap (λ (a : Trades). node_of a.trading y) (sym v)) e.moved in
     let n = c.add-number.ensures in
     let q : c.push.new.self ≡ (entered w.trading s).requests =
     c.push.ensures ∙ ap (λ k. w.trading.requests ++ record { session = k; server = y; ask = Open } ∷ []) n.number in
-    let is : trades_of c.donate.new.self w.trading.tree w.trading.leaves w.trading.objects c.add-number.new.self c.push.new.self w.nodes
+    let is : trades_of c.donate.new.accounts w.trading.tree w.trading.leaves w.trading.objects c.add-number.new.self c.push.new.self w.nodes
     ≡ with_trading w (asked w.trading s) =
     λ t. record {
       trading = record {
-        memory = m t;
+        ledger = m t;
         tree = w.trading.tree;
         leaves = w.trading.leaves;
         objects = w.trading.objects;
@@ -56,7 +55,7 @@ invariant_of-self-2 c =
     } in
     subst Holds (sym is) (asked_holds w c.self.invariant s p (enough_of w.trading x i c.args.donation.ram available from e.afforded.enough)
     (enough_of w.trading x i c.args.donation.caps available_caps from e.afforded.enough_caps)
-    (subst (λ (a : Trades). IsIdle a.trading x) (sym v) c.requires.can.idle) refl (subst IsBalanced c.accounts.ensures c.laws.ensures))
+    (subst (λ (a : Trades). IsIdle a.trading x) (sym v) c.requires.can.idle) refl c.laws.ensures)
 
 pub returns-in_err-donate-clause-afforded : goal.returns-in_err-donate-clause-afforded
 returns-in_err-donate-clause-afforded c = record {

@@ -15,8 +15,8 @@ returns-clause-can c =
     let i = c.index.result.now in let j = c.index-2.result.now in
     let xl : IsLive w x = subst (λ (a : Trades). IsLive a x) (sym v) c.requires.from in
     let yl : IsLive w y = subst (λ (a : Trades). IsLive a y) (sym v) c.requires.to in
-    let tree = w.trading.tree in let es = w.trading.memory.ledger.accounts in
-    subst (λ (a : Trades). CanGive a.trading.tree a.trading.memory.ledger.accounts i j) v
+    let tree = w.trading.tree in let es = w.trading.ledger.accounts in
+    subst (λ (a : Trades). CanGive a.trading.tree a.trading.ledger.accounts i j) v
     (subst (λ n. CanGive tree es n j) (sym (item w.trading.leaves x i 0 xl.there c.index.ensures))
     (subst (λ n. CanGive tree es (node_of w.trading x) n) (sym (item w.trading.leaves y j 0 yl.there c.index-2.ensures))
     (can_give w c.self.invariant x y xl yl c.requires.apart)))

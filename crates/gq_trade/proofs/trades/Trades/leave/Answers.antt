@@ -1,9 +1,7 @@
 use Rattle.std.proofs.Common.{◌≡◌, IfSome, false, slice_set, sym, ap, subst, ◌∙◌}
 use Rattle.gq_ram.specs.Account_table.{has_members}
-use Rattle.gq_ram.specs.Ledgers.{IsBalanced}
 use Rattle.gq_ram.specs.Account_tree.{number}
-use Rattle.gq_trade.specs.Stores.{Memory}
-use Rattle.gq_trade.specs.Trading.{account_no, account_of, node_of, with_memory}
+use Rattle.gq_trade.specs.Trading.{account_no, account_of, node_of, with_ledger}
 use Rattle.gq_trade.specs.declared.trade_node.Stage.TheVariants.{Ended}
 use Rattle.gq_trade.specs.Leaf_ends.{CanStart, HasNoSessions, follower, with_stage}
 use Rattle.gq_trade.specs.Trades.{Trades, IsLive}
@@ -22,9 +20,8 @@ close-requires-clause-alone c =
     let node : c.index-node.result.now ≡ node_of w.trading x = number_at w.trading.leaves x c.index-node.result.now 0 live.there c.index-node.ensures in
     let e : c.account-account.result.0 ≡ account_of w.trading x = c.account-account.ensures ∙ ap (number w.trading.tree) node in
     let a : account_no w.trading x ≡ c.account-account.result = λ t. record { 0 = sym e t } in
-    subst (λ (m : Memory). has_members m.ledger.accounts c.account-account.result ≡ false) (sym c.pay_by.ensures)
-    (subst (λ y. has_members w.trading.memory.ledger.accounts y ≡ false) a
-    (no_members w.trading.memory.ledger.accounts (account_no w.trading x) (λ k. c.self.invariant.trades.settled.alone x k live.there)))
+    subst (λ y. has_members w.trading.ledger.accounts y ≡ false) a
+    (no_members w.trading.ledger.accounts (account_no w.trading x) (λ k. c.self.invariant.trades.settled.alone x k live.there))
 
 pub invariant_of-self : goal.invariant_of-self
 invariant_of-self c =
@@ -33,10 +30,10 @@ invariant_of-self c =
     let x = c.args.leaf in
     let live : IsLive w x = subst (λ (a : Trades). IsLive a x) (sym v) c.requires.leaf in
     let i = c.index-node.result.now in
-    left_now w c.self.invariant (subst IsBalanced c.accounts.ensures c.laws.ensures) x live
-    (subst (λ (a : Trades). HasNoSessions a.trading x) (sym v) c.requires.alone) c.pay_by.new.self c.close.new.self c.account-account.result
-    c.account-root.result i c.index-old.result.now (number_at w.trading.leaves x i 0 live.there c.index-node.ensures) c.account-account.ensures
-    c.account-root.ensures c.pay_by.ensures c.close.ensures c.index-old.ensures
+    left_now w c.self.invariant c.laws.ensures x live
+    (subst (λ (a : Trades). HasNoSessions a.trading x) (sym v) c.requires.alone) c.close.new.accounts c.account-account.result
+    i c.index-old.result.now (number_at w.trading.leaves x i 0 live.there c.index-node.ensures) c.account-account.ensures
+    c.close.ensures c.index-old.ensures
 
 pub returns-clause-follower : goal.returns-clause-follower
 returns-clause-follower c =
@@ -46,9 +43,8 @@ returns-clause-follower c =
     let live : IsLive w x = subst (λ (a : Trades). IsLive a x) (sym v) c.requires.leaf in
     let i = c.index-node.result.now in let old = c.index-old.result.now in
     let ns = slice_set w.nodes i (with_stage old Ended) in
-    let r = c.close.new.self in
-    subst (λ (a : Trades). IfSome (follower (node_of a.trading x) ns) (λ j. CanStart (record { trading = with_memory w.trading r; nodes = ns }) j))
-    v (follower_now w c.self.invariant (subst IsBalanced c.accounts.ensures c.laws.ensures) x live
-    (subst (λ (a : Trades). HasNoSessions a.trading x) (sym v) c.requires.alone) c.pay_by.new.self c.close.new.self c.account-account.result
-    c.account-root.result i old (number_at w.trading.leaves x i 0 live.there c.index-node.ensures) c.account-account.ensures c.account-root.ensures
-    c.pay_by.ensures c.close.ensures c.index-old.ensures)
+    let r = c.close.new.accounts in
+    subst (λ (a : Trades). IfSome (follower (node_of a.trading x) ns) (λ j. CanStart (record { trading = with_ledger w.trading r; nodes = ns }) j))
+    v (follower_now w c.self.invariant c.laws.ensures x live
+    (subst (λ (a : Trades). HasNoSessions a.trading x) (sym v) c.requires.alone) c.close.new.accounts c.account-account.result
+    i old (number_at w.trading.leaves x i 0 live.there c.index-node.ensures) c.account-account.ensures c.close.ensures c.index-old.ensures)

@@ -1,9 +1,7 @@
-use Rattle.std.proofs.Common.{◌≡◌, ℕ, [], ◌+◌, ◌<◌, length, get_or, map, refl, sym, ap, subst, ◌∙◌, arith}
+use Rattle.std.proofs.Common.{◌≡◌, [], length, map, refl, sym, ap, subst, ◌∙◌, arith}
 use Rattle.std.proofs.lemmas.List.{length-map}
-use Rattle.gq_ram.specs.Account_table.{account_at, no_amount}
-use Rattle.gq_ram.specs.Account_tree.{AreNodes, IsTree, account_of, number}
-use Rattle.gq_ram.specs.Handing.{spent}
-use Rattle.gq_ram.specs.Ledgers.{Ledger, first_ledger, with_accounts}
+use Rattle.gq_ram.specs.Account_tree.{IsTree, number}
+use Rattle.gq_ram.specs.Ledgers.{Ledger, with_accounts}
 use Rattle.gq_trade.specs.Trading.{IsTrading}
 use Rattle.gq_trade.specs.Balances.{handed}
 use Rattle.gq_trade.specs.internal.Trades_fields.{Holds, trades_of}
@@ -77,16 +75,15 @@ invariant_of-result c =
     let hp = c.as_slice-2.ensures.value ∙ c.in_ok-handed.ensures ∙ ap (map handed) c.as_slice.ensures.value in
     let e = c.hand_out.ensures in
     let tree = c.in_ok-tree.tree in
-    let m = c.new-memory.result in
-    let lm : m.ledger ≡ c.hand_out.new.accounts = ap (λ x. x.ledger) c.new-memory.ensures in
-    let price = ap (λ (l : Ledger). l.price) (lm ∙ e.same) ∙ ap (λ (l : Ledger). l.price) c.in_ok-tree.ensures.same
+    let m = c.hand_out.new.accounts in
+    let price = ap (λ (l : Ledger). l.price) e.same ∙ ap (λ (l : Ledger). l.price) c.in_ok-tree.ensures.same
     ∙ ap (λ (l : Ledger). l.price) c.in_ok-accounts.ensures in
     let first = trades_of m tree a.leaves.items a.objects.items (record { values = []; room = c.args.room }) [] a.nodes.items in
     let is : trades_of m tree a.leaves.items a.objects.items c.in_ok-sessions.sessions c.new-3.result a.nodes.items ≡ first =
     λ t. trades_of m tree a.leaves.items a.objects.items (c.in_ok-sessions.ensures t) (c.new-3.ensures t) a.nodes.items in
     let trading : IsTrading first.trading = record {
       tree = subst IsTree c.tree.view_is c.tree.invariant;
-      nodes = subst (λ (l : Ledger). AreNodes tree l.accounts) (sym lm) e.nodes;
+      nodes = e.nodes;
       leaves = λ x lt. omega (arith, c.requires.plan.within x lt, ap length c.in_ok-tree.ensures.parents);
       apart = c.requires.plan.apart;
       objects = c.requires.plan.small;
@@ -96,19 +93,15 @@ invariant_of-result c =
     let trades : IsTrades first =
     first_kept c.requires.plan tree
     c.in_ok-tree.ensures.parents c.as_slice-2.result.now hp c.in_ok-accounts.accounts c.in_ok-accounts.ensures c.open.new.accounts.accounts
-    c.in_ok-tree.ensures.opened c.hand_out.new.accounts.accounts e.still e.references m c.args.room (ap (λ (l : Ledger). l.accounts) lm) price
-    (subst (λ (l : Ledger). (i : ℕ) → i < length tree.parents → (account_of tree l i).quota.ram
-    + spent (λ a. a.ram) tree c.as_slice-2.result.now i ≡ (get_or c.as_slice-2.result.now i no_amount).ram) (sym lm) e.balanced)
-    (subst (λ (l : Ledger). (i : ℕ) → i < length tree.parents → (account_of tree l i).quota.caps
-    + spent (λ a. a.caps) tree c.as_slice-2.result.now i ≡ (get_or c.as_slice-2.result.now i no_amount).caps) (sym lm) e.balanced_caps) in
+    c.in_ok-tree.ensures.opened c.hand_out.new.accounts.accounts e.still e.references m c.args.room refl price
+    e.balanced
+    e.balanced_caps in
     subst Holds (sym is) (record { trading = trading; trades = trades })
 
 pub returns : goal.returns
 returns c =
     let tree = c.in_ok-tree.tree in
-    let m = c.new-memory.result in
     let e = c.hand_out.ensures in
-    let lm : m.ledger ≡ c.hand_out.new.accounts = ap (λ x. x.ledger) c.new-memory.ensures in
     let hp = c.as_slice-2.ensures.value ∙ c.in_ok-handed.ensures ∙ ap (map handed) c.as_slice.ensures.value in
     let es = c.hand_out.new.accounts.accounts in
     record {
@@ -119,12 +112,11 @@ returns c =
       sessions = ap (λ (n : Numbers Session). n.values) c.in_ok-sessions.ensures;
       room = ap (λ (n : Numbers Session). n.room) c.in_ok-sessions.ensures;
       requests = c.new-3.ensures;
-      unused = λ i lt. ap (λ (l : Ledger). (account_at l.accounts (number tree i)).used) lm ∙ e.used (number tree i)
+      unused = λ i lt. e.used (number tree i)
           ∙ unused_at c.requires.plan tree
           c.in_ok-tree.ensures.parents c.as_slice-2.result.now hp c.in_ok-accounts.accounts c.in_ok-accounts.ensures
           c.open.new.accounts.accounts c.in_ok-tree.ensures.opened i
           (omega (arith, lt, ap length c.in_ok-tree.ensures.parents));
-      ledger = lm ∙ e.same ∙ ap (λ (l : Ledger). with_accounts l es) (c.in_ok-tree.ensures.same)
-          ∙ ap (λ (l : Ledger). with_accounts l es) c.in_ok-accounts.ensures
-          ∙ ap (λ (l : Ledger). with_accounts (first_ledger c.args.total c.args.caps) l.accounts) (sym lm);
+      ledger = e.same ∙ ap (λ (l : Ledger). with_accounts l es) (c.in_ok-tree.ensures.same)
+          ∙ ap (λ (l : Ledger). with_accounts l es) c.in_ok-accounts.ensures;
     }

@@ -2,7 +2,6 @@ use Rattle.std.proofs.Common.{◌≡◌, ◌≤◌, sym, ap, subst, ◌∙◌}
 use Rattle.gq_ram.specs.Account_table.{available, available_caps}
 use Rattle.gq_ram.specs.Account_tree.{donated}
 use Rattle.gq_trade.specs.Numbers.{IsTaken}
-use Rattle.gq_trade.specs.Stores.{Memory}
 use Rattle.gq_trade.specs.declared.session.Session.{Session}
 use Rattle.gq_trade.specs.internal.Trades_fields.{Holds, trades_of}
 use Rattle.gq_trade.specs.Trading.{AreOfOthers, client_of, given, its_account, node_of, parted, server_of, session_at}
@@ -26,15 +25,15 @@ invariant_of-self c =
     let to : j ≡ node_of w.trading y =
     c.givers-from.ensures.to ∙ ap (λ (a : Trades). node_of a.trading c.between-old.result.client) (sym v)
     ∙ ap (λ (s : Session). node_of w.trading s.client) its in
-    let m : c.give.new.self ≡ (given w.trading x y n).memory =
-    given_is w.trading c.give.new.self x y i j n from to (ap (λ (a : Memory). a.ledger) c.give.ensures
-    ∙ ap (λ (s : Session). donated w.trading.tree w.trading.memory.ledger i j s.donation) its) (ap (λ (a : Memory). a.payer) c.give.ensures) in
+    let m : c.give.new.accounts ≡ (given w.trading x y n).ledger =
+    given_is w.trading c.give.new.accounts x y i j n from to (c.give.ensures
+    ∙ ap (λ (s : Session). donated w.trading.tree w.trading.ledger i j s.donation) its) in
     let ss = c.remove.ensures in
-    let is : trades_of c.give.new.self w.trading.tree w.trading.leaves w.trading.objects c.remove.new.self w.trading.requests w.nodes
+    let is : trades_of c.give.new.accounts w.trading.tree w.trading.leaves w.trading.objects c.remove.new.self w.trading.requests w.nodes
     ≡ with_trading w (parted w.trading k) =
     λ t. record {
       trading = record {
-        memory = m t;
+        ledger = m t;
         tree = w.trading.tree;
         leaves = w.trading.leaves;
         objects = w.trading.objects;

@@ -1,6 +1,5 @@
 use Rattle.std.proofs.Common.{◌≡◌, ◌++◌, [], ◌∷◌, Some, set, sym, ap, subst, ◌∙◌, arith}
 use Rattle.gq_ram.specs.Account_table.{available, available_caps}
-use Rattle.gq_ram.specs.Ledgers.{IsBalanced}
 use Rattle.gq_trade.specs.Lends.{with_value}
 use Rattle.gq_trade.specs.Numbers.{IsTaken}
 use Rattle.gq_trade.specs.declared.requests.Ask.TheVariants.{Upgrade}
@@ -21,7 +20,7 @@ overflow_add-raised c =
     let k = c.args.session in
     let s = small_ram w c.self.invariant k c.givers-from.result.0 c.args.donation.ram
     (subst (λ (a : Trades). IsTaken a.trading.sessions k) (sym v) c.requires.there)
-    (subst (λ (a : Trades). IsIdle a.trading (client_of a.trading k)) (sym v) c.requires.idle) (subst IsBalanced c.accounts.ensures c.laws.ensures)
+    (subst (λ (a : Trades). IsIdle a.trading (client_of a.trading k)) (sym v) c.requires.idle) c.laws.ensures
     c.in_ok-donate.ensures.afforded.enough in
     omega (arith, s, ap (λ o. (found o).donation.ram) c.at_mut-raised.ensures.value)
 
@@ -32,7 +31,7 @@ overflow_add-raised-2 c =
     let k = c.args.session in
     let s = small_caps w c.self.invariant k c.givers-from.result.0 c.args.donation.caps
     (subst (λ (a : Trades). IsTaken a.trading.sessions k) (sym v) c.requires.there)
-    (subst (λ (a : Trades). IsIdle a.trading (client_of a.trading k)) (sym v) c.requires.idle) (subst IsBalanced c.accounts.ensures c.laws.ensures)
+    (subst (λ (a : Trades). IsIdle a.trading (client_of a.trading k)) (sym v) c.requires.idle) c.laws.ensures
     c.in_ok-donate.ensures.afforded.enough_caps in
     omega (arith, s, ap (λ o. (found o).donation.caps) c.at_mut-raised.ensures.value)
 
@@ -62,16 +61,16 @@ invariant_of-self-2 c =
     c.givers-from.ensures.to ∙ ap (λ (a : Trades). node_of a.trading c.between-old.result.server) (sym v)
     ∙ ap (λ (s : Session). node_of w.trading s.server) its in
     let e = c.in_ok-donate.ensures in
-    let m : c.donate.new.self ≡ (given w.trading x y n).memory =
-    given_is w.trading c.donate.new.self x y i c.givers-from.result.1 n from to e.moved c.donate.ensures.payer in
+    let m : c.donate.new.accounts ≡ (given w.trading x y n).ledger =
+    given_is w.trading c.donate.new.accounts x y i c.givers-from.result.1 n from to e.moved in
     let q : c.push.new.self ≡ (upgraded w.trading k n).requests =
     c.push.ensures ∙ ap (λ j. w.trading.requests ++ record { session = k; server = j; ask = Upgrade } ∷ [])
     (ap (λ (s : Session). s.server) its ∙ sym (server_still w.trading k (with_more (session_at w.trading k) n) taken)) in
-    let is : trades_of c.donate.new.self w.trading.tree w.trading.leaves w.trading.objects (with_value c.self.inside.sessions k (with_more old n))
+    let is : trades_of c.donate.new.accounts w.trading.tree w.trading.leaves w.trading.objects (with_value c.self.inside.sessions k (with_more old n))
     c.push.new.self w.nodes ≡ with_trading w (upgraded w.trading k n) =
     λ t. record {
       trading = record {
-        memory = m t;
+        ledger = m t;
         tree = w.trading.tree;
         leaves = w.trading.leaves;
         objects = w.trading.objects;
@@ -82,7 +81,7 @@ invariant_of-self-2 c =
       nodes = w.nodes;
     } in
     subst Holds (sym is) (upgraded_holds w c.self.invariant k n taken
-    (λ z. c.requires.counted (ap (λ (a : Trades). a.trading.memory.ledger.price) (sym v) ∙ z)) (enough_of w.trading x i n.ram available from e.afforded.enough)
+    (λ z. c.requires.counted (ap (λ (a : Trades). a.trading.ledger.price) (sym v) ∙ z)) (enough_of w.trading x i n.ram available from e.afforded.enough)
     (enough_of w.trading x i n.caps available_caps from e.afforded.enough_caps)
     (subst (λ (a : Trades). IsIdle a.trading (client_of a.trading k)) (sym v) c.requires.idle)
-    (subst IsBalanced c.accounts.ensures c.laws.ensures))
+    c.laws.ensures)
