@@ -57,6 +57,7 @@ def commands():
         for words in (["asm"], ["list"], ["list", "--numbers"], ["why"]):
             yield f"{' '.join(words)} of {leaf} of {scenario.name}", [*words, str(scenario), leaf]
     yield "races of shared_count.toml", ["races", str(EXAMPLES / "shared_count.toml")]
+    yield "outcomes of shared_count.toml", ["outcomes", str(EXAMPLES / "shared_count.toml")]
     for words in (["rule"], ["rule", "V12"], ["--version"], ["--help"]):
         yield " ".join(words), words
 

@@ -39,7 +39,8 @@ OF_DESIGNERS = (
 OF_SIZES = "size-servers-of-servers", "size-of-an-open-that-gives-too-little", "why-every-statement", "why-a-server-of-two"
 OF_FITS = "fit-servers-of-servers", "fit-donations-of-servers-of-servers"
 OF_RUNS = (
-    "turns-inits", "turns-version-2", "races-stores-of-a-shared-server", "trace-an-upgrade-and-a-buffer", "trace-all-inits",
+    "turns-inits", "turns-version-2", "races-stores-of-a-shared-server", "outcomes-of-a-pool-that-two-clients-share",
+    "trace-an-upgrade-and-a-buffer", "trace-all-inits",
     "state-in-a-call", "state-version-2", "state-at-a-request-at-hand", "peaks-echo",
 )
 OF_TURNS = {"run", "trace", "state", "peaks"}

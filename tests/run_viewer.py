@@ -34,6 +34,13 @@ def put_runs(program, folder):
             put_pair(folder, turns.stem, tree, output(program, "trace", scenario, turns))
 
 
+def put_outcome(program, folder):
+    """The texts of the example with two outcomes, over the turns that lead to the second."""
+    scenario, made = TOP / "examples" / "shared_count.toml", folder / "second_outcome.turns"
+    made.write_bytes(output(program, "outcomes", "--turns", "2", scenario))
+    put_pair(folder, "second_outcome", output(program, "tree", scenario), output(program, "trace", scenario, made))
+
+
 def main():
     program, node = str(pathlib.Path(sys.argv[1]).resolve()), shutil.which("node")
     if node is None:
@@ -41,6 +48,7 @@ def main():
         return 0
     with tempfile.TemporaryDirectory() as room:
         put_runs(program, pathlib.Path(room))
+        put_outcome(program, pathlib.Path(room))
         known = {**os.environ, "VIEWER_DATA": room}
         done = subprocess.run([node, "--test", TOP / "viewer" / "test.mjs"], env=known, stdout=subprocess.PIPE, stderr=subprocess.STDOUT, text=True)
     lines = done.stdout.splitlines()

@@ -487,6 +487,7 @@ test("view: it runs the program, and refuses with its line and status", t => {
 case "$1 $2" in
   *refused) echo "trade: S5 NameTwice a" >&2; exit 1;;
   turns*) echo "a 3"; echo "# cut after 1000000 turns";;
+  "outcomes --turns") echo "$4 $3";;
   tree*) echo "tree of $2";;
   trace*) echo "trace of $2"; cat "$3";;
 esac
@@ -499,8 +500,10 @@ esac
   };
   assert.deepEqual(made("s.toml", at("turns")), [0, "", "s.toml, turns", "tree of s.toml\n", "trace of s.toml\nb 2\n"]);
   assert.deepEqual(made("s.toml"), [0, "", "s.toml, cut after 1,000,000 turns", "tree of s.toml\n", "trace of s.toml\na 3\n# cut after 1000000 turns\n"]);
+  assert.deepEqual(made("--outcome", "7", "s.toml"), [0, "", "s.toml, outcome 7", "tree of s.toml\n", "trace of s.toml\ns.toml 7\n"]);
   assert.deepEqual(made("refused"), [1, "trade: S5 NameTwice a\n"]);
   assert.equal(run().status, 2);
+  assert.equal(run("--trade", trade, "--outcome", "1", "s.toml", at("turns")).status, 2);
   assert.equal(run("--tree", at("turns")).status, 2);
   const missing = run("--tree", at("none"), "--trace", at("turns"));
   assert.deepEqual([missing.status, missing.stdout.length, missing.stderr.toString()], [4, 0, `view: No such file or directory: ${at("none")}\n`]);

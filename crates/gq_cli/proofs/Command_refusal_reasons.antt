@@ -24,6 +24,7 @@ refused_line : (w : Written) (f : RunFault) (line : List ℕ) → IsFaultOf f w 
     → w ≡ Err line
 refused_line w (faults.Load f) line h m u e = h ∙ ap Err (sym e)
 refused_line w (faults.NoComponent name) line h m u e = h ∙ ap Err (sym e)
+refused_line w (faults.NoOutcome number) line h m u e = h ∙ ap Err (sym e)
 refused_line w (faults.Turns f k) line h m u e = h ∙ ap Err (sym e)
 refused_line w faults.Memory line h m u e = absurd (m refl)
 refused_line w faults.Write line h m u e = absurd (u refl)
@@ -47,6 +48,7 @@ same_fault a b e = cc
 before : (f : RunFault) → f ≢ faults.Write → IsBefore f
 before (faults.Load f) u = tt {0}
 before (faults.NoComponent name) u = tt {0}
+before (faults.NoOutcome number) u = tt {0}
 before (faults.Turns f k) u = tt {0}
 before faults.Memory u = tt {0}
 before faults.Write u = absurd (u refl)

@@ -83,6 +83,7 @@ pub refused_by : (fault : RunFault) (scenario text line : List ℕ) → GivesOf 
     → line ≡ refused_with (run_fault_text fault) → run_written scenario text ≡ Err line
 refused_by (faults.Load f) scenario text line gives not e = load_is (faults.Load f) scenario text gives ∙ ap Err (sym e)
 refused_by (faults.NoComponent name) scenario text line gives not e = absurd gives
+refused_by (faults.NoOutcome number) scenario text line gives not e = absurd gives
 refused_by (faults.Turns f k) scenario text line gives not e = absurd gives
 refused_by faults.Memory scenario text line gives not e = absurd (not refl)
 refused_by faults.Write scenario text line gives not e = absurd gives

@@ -15,6 +15,7 @@ use Rattle.gq_views.specs.declared.margin.Margin.TheVariants.{Plain, Numbered}
 use Rattle.gq_views.specs.Views_written.{list_written, tree_written, graph_written}
 use Rattle.gq_traces.specs.Rest_runs.{WritesToRest}
 use Rattle.gq_traces.specs.Traces_written.{peaks_written, state_written, trace_written, turns_written}
+use Rattle.gq_outcomes.specs.Written.{outcomes_asked}
 use Rattle.gq_races.specs.Races.{IsOrderFree, IsRaceFree}
 use Rattle.gq_races.specs.Races_written.{WroteNothing, races_written}
 use Rattle.gq_sizes.specs.Judged_scenario.{judged_without}
@@ -32,7 +33,7 @@ use Rattle.gq_command.specs.Stored_run.{parted}
 use Rattle.gq_command.specs.declared.command.Command.{Command}
 use Rattle.gq_command.specs.declared.command.Command.TheVariants.{OfScenario, OfLeaf, OfTurns, Fit, Faults, Rule, Version, Stored, Help}
 use Rattle.gq_command.specs.declared.command.ScenarioCommand.{ScenarioCommand}
-use Rattle.gq_command.specs.declared.command.ScenarioCommand.TheVariants.{Check, Tree, Graph, Turns, Races, Size}
+use Rattle.gq_command.specs.declared.command.ScenarioCommand.TheVariants.{Check, Tree, Graph, Turns, Races, Outcomes, Size}
 use Rattle.gq_command.specs.declared.command.Fitting.{Fitting}
 use Rattle.gq_command.specs.declared.command.Fitting.TheVariants.{Quantities, Donations}
 use Rattle.gq_command.specs.declared.command.LeafCommand.{LeafCommand}
@@ -90,6 +91,7 @@ scenario_written Tree scenario = tree_written scenario
 scenario_written Graph scenario = graph_written scenario
 scenario_written (Turns seed) scenario = turns_written seed scenario
 scenario_written Races scenario = races_written scenario
+scenario_written (Outcomes number) scenario = outcomes_asked number scenario
 scenario_written Size scenario = size_written scenario
 
 -- of a leaf of it

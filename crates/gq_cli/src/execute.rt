@@ -27,6 +27,7 @@ use gq_faults::faults::{File, faults};
 use gq_faults::report_error::ReportError;
 use gq_faults::turn_faults::{Refused, faults_of_both};
 use gq_init::counted::{Counted, put};
+use gq_outcomes::outcomes::{outcome_turns, outcomes};
 use gq_races::races::races;
 use gq_rule_texts::{RuleText, rule_of, write_rules};
 use gq_sizes::size::size;
@@ -484,6 +485,8 @@ fn write_scenario<W: Write>(
         ScenarioCommand::Graph => graph(alloc, scenario, out),
         ScenarioCommand::Turns(seed) => turns(alloc, scenario, seed, out),
         ScenarioCommand::Races => races(alloc, scenario, out),
+        ScenarioCommand::Outcomes(None) => outcomes(alloc, scenario, out),
+        ScenarioCommand::Outcomes(Some(number)) => outcome_turns(alloc, scenario, number, out),
         ScenarioCommand::Size => size(alloc, scenario, out),
     }
 }

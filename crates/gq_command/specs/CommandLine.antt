@@ -13,7 +13,7 @@ use Rattle.clap.specs.declared.error.kind.ErrorKind.TheVariants.{DisplayHelp, Di
 use Rattle.gq_command.specs.declared.command.Command.{Command}
 use Rattle.gq_command.specs.declared.command.Command.TheVariants.{OfScenario, OfLeaf, OfTurns, Fit, Faults, Rule as RuleOf, Version, Stored, Help}
 use Rattle.gq_command.specs.declared.command.ScenarioCommand.{ScenarioCommand}
-use Rattle.gq_command.specs.declared.command.ScenarioCommand.TheVariants.{Check, Tree, Graph, Turns, Races, Size}
+use Rattle.gq_command.specs.declared.command.ScenarioCommand.TheVariants.{Check, Tree, Graph, Turns, Races, Outcomes, Size}
 use Rattle.gq_command.specs.declared.command.Fitting.{Fitting}
 use Rattle.gq_command.specs.declared.command.Fitting.TheVariants.{Quantities, Donations}
 use Rattle.gq_command.specs.declared.command.LeafCommand.{LeafCommand}
@@ -70,6 +70,7 @@ commands =
     ∷ of_leaf (codes "why")
     ∷ with_rule (of_scenario (codes "turns")) (number_rule (codes "seed"))
     ∷ of_scenario (codes "races")
+    ∷ with_rule (of_scenario (codes "outcomes")) (number_rule (codes "turns"))
     ∷ with_rule (of_turns (codes "trace")) (switch_rule (codes "all"))
     ∷ with_rule (of_turns (codes "state")) (number_rule (codes "at"))
     ∷ of_turns (codes "peaks")
@@ -121,6 +122,7 @@ scenario_command name rows =
     else if bytes_eq name (codes "tree") then Some (if is_given (codes "dot") rows then Graph else Tree)
     else if bytes_eq name (codes "turns") then option_map Turns (number_given (first_of (codes "seed") rows))
     else if bytes_eq name (codes "races") then Some Races
+    else if bytes_eq name (codes "outcomes") then option_map Outcomes (number_given (first_of (codes "turns") rows))
     else if bytes_eq name (codes "size") then Some Size
     else None
 

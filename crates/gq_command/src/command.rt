@@ -20,6 +20,8 @@ pub enum ScenarioCommand {
     Turns(Option<u32>),
     /// To write the statements by which the outcome could depend on the turns.
     Races,
+    /// To write all outcomes, or the turns that lead to the one of this number.
+    Outcomes(Option<u32>),
     /// To write what each quantity is at least.
     Size,
 }

@@ -117,6 +117,7 @@ fn scenario_command(name: &str, found: &ArgMatches<'_>) -> Option<ScenarioComman
         "tree" => Some(ScenarioCommand::Tree),
         "turns" => Some(ScenarioCommand::Turns(number_given(found, "seed")?)),
         "races" => Some(ScenarioCommand::Races),
+        "outcomes" => Some(ScenarioCommand::Outcomes(number_given(found, "turns")?)),
         "size" => Some(ScenarioCommand::Size),
         _ => None,
     }

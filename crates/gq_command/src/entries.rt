@@ -120,6 +120,18 @@ const RACES: CommandEntry<'static> = CommandEntry {
     usage: "trade races <SCENARIO>",
 };
 
+const OUTCOMES: CommandEntry<'static> = CommandEntry {
+    name: "outcomes",
+    takes: Takes::Scenario,
+    flag: Some(Flag {
+        name: "turns",
+        kind: FlagKind::Number,
+        help: "Print the turns that lead to outcome N in their place",
+    }),
+    about: "Print all ways in which a run of the scenario in the file SCENARIO can end",
+    usage: "trade outcomes [--turns <N>] <SCENARIO>",
+};
+
 const TRACE: CommandEntry<'static> = CommandEntry {
     name: "trace",
     takes: Takes::Turns,
@@ -197,8 +209,9 @@ const RULE: CommandEntry<'static> = CommandEntry {
 };
 
 // All commands.
-const ENTRIES: [CommandEntry<'static>; 15] = [
-    CHECK, RUN, ASM, LIST, TREE, SIZE, FIT, WHY, TURNS, RACES, TRACE, STATE, PEAKS, FAULTS, RULE,
+const ENTRIES: [CommandEntry<'static>; 16] = [
+    CHECK, RUN, ASM, LIST, TREE, SIZE, FIT, WHY, TURNS, RACES, OUTCOMES, TRACE, STATE, PEAKS,
+    FAULTS, RULE,
 ];
 
 const ABOUT: &str = "Runs components that trade memory and capabilities under quotas";
@@ -214,7 +227,8 @@ A refusal has a code, as S13 or V12: `trade rule V12` says what it means and wha
 
 Exit status:
   0  done, also when help or the version was asked for
-  1  the scenario or the turns were refused, no leaf has the name, or no rule the code
+  1  the scenario or the turns were refused, no leaf has the name, no rule the code or no
+     outcome the number
   2  bad command line
   3  the host has no memory left
   4  a file could not be opened or read, is longer than 18 MiB, or output could not be written

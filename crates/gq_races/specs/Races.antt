@@ -1,5 +1,5 @@
 -- Leaves whose sections may run for several threads, the statements by which these threads can report of one another, and those that read inputs.
-use Rattle.std.specs.Prelude.{◌≡◌, ℕ, zero, suc, ◌+◌, ◌==◌, if◌then◌else◌, Bool, true, false, ◌&&◌, ◌||◌, not, List, [], ◌∷◌, ◌++◌, length}
+use Rattle.std.specs.Prelude.{◌≡◌, ◌<◌, ℕ, zero, suc, ◌+◌, ◌==◌, if◌then◌else◌, Bool, true, false, ◌&&◌, ◌||◌, not, List, [], ◌∷◌, ◌++◌, length, get_or}
 use Rattle.gq_model.specs.declared.program.Instruction.{Instruction}
 use Rattle.gq_model.specs.declared.program.Instruction.TheVariants.{Say, Out, Operands, Store, Take, Give, Poke, Call, Make, MakePool, Free, Open, Upgrade}
 use Rattle.gq_model.specs.declared.program.Instruction.TheVariants.{Close}
@@ -56,6 +56,11 @@ any_below test (suc n) = test n || any_below test n
 -- no leaf is the owner; where nobody opens sessions with a leaf, each is
 abbrev pub is_shared : System → ℕ → Bool
 is_shared system x = not (any_below (λ z. is_owner system z x) (length system.components))
+
+-- of each leaf of a scenario whether it is shared
+pub record AreSharedOf (s : Scenario) (shared : List Bool) : Type 0 where
+  pub count : length shared ≡ length (system s).components
+  pub each : (x : ℕ) (b : Bool) → x < length shared → b ≡ get_or shared x b → b ≡ is_shared (system s) x
 
 -- STATEMENTS
 

@@ -27,8 +27,8 @@ fn is_own(place: OperandSlot) -> bool
     }
 }
 
-// Whether a statement changes an own slot, what is in it or what is behind it.
-fn changes_own(instruction: &Instruction) -> bool
+/// Whether a statement changes an own slot, what is in it or what is behind it.
+pub fn changes_own(instruction: &Instruction) -> bool
     ensures { result ≡ spec.changes_own instruction.now }
 {
     match instruction {

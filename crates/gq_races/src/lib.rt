@@ -16,7 +16,7 @@
 //! and the inputs.
 #![tactic(auto)]
 
-mod effects;
+pub mod effects;
 mod openers;
 mod opens;
 mod owners;

@@ -4,7 +4,7 @@ ghost use Rattle.gq_model.specs.machine.Scenario as model;
 ghost use Rattle.gq_init.specs.Writer_failures.{written_to};
 ghost use Rattle.gq_load.specs.Load_faults.{Refuses};
 ghost use Rattle.gq_load.specs.Load.{loaded};
-ghost use Rattle.gq_races.specs.Races.{IsOrderFree, IsRaceFree, Stated, stated_of};
+ghost use Rattle.gq_races.specs.Races.{AreSharedOf, IsOrderFree, IsRaceFree, Stated, stated_of};
 ghost use Rattle.gq_races.specs.Race_text.{effect_text, has_effect, heading, races_text, shared_text, sharing_lines};
 ghost use Rattle.gq_races.specs.Races_written.{races_written, WroteNothing};
 ghost use Rattle.gq_races.specs.internal.Openers.{opened_among};
@@ -157,15 +157,16 @@ fn push_leaves(
     Ok(())
 }
 
-// Whether each leaf is shared, where these have these programs.
-fn all_shared(
+/// Whether each of these leaves is shared, where they have these programs. Refused only if the host refuses memory.
+pub fn all_shared(
     alloc: Global,
     components: &[Component<'_>],
     programs: &[Program],
 ) -> Result<Vec<bool>, AllocError>
     requires few { length components.now ≤ 64 }
     requires programs { programs.now ≡ map (λ c. c.node.program) components.now }
-    ensures { IfOk result (λ shared. AreShared components.now shared.items) }
+    ensures shared { IfOk result (λ shared. AreShared components.now shared.items) }
+    ensures defined { (s : model.Scenario) → components.now ≡ model.components s → IfOk result (λ shared. AreSharedOf s shared.items) }
 {
     let opened = all_opened(alloc, components, programs)?;
     let shared = shared(alloc, opened.as_slice());

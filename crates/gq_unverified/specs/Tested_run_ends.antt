@@ -9,7 +9,7 @@ use Rattle.gq_init.specs.declared.counted.Counted.{Counted}
 use Rattle.gq_world.specs.Command_outcomes.{IsBefore}
 use Rattle.gq_world.specs.Whole.{refused_with, turn_fault_text}
 use Rattle.gq_world.specs.declared.run_fault.RunFault.{RunFault}
-use Rattle.gq_world.specs.declared.run_fault.RunFault.TheVariants.{Load, NoComponent, Turns, Memory, Write}
+use Rattle.gq_world.specs.declared.run_fault.RunFault.TheVariants.{Load, NoComponent, NoOutcome, Turns, Memory, Write}
 use Rattle.gq_unverified.specs.Tested.{Tested}
 
 -- the definition gives a text and this wrong step, or none, and just the text was written
@@ -29,6 +29,7 @@ pub record IsTestedShort (t : Tested) (before after : Option (List ℕ)) : Type 
 abbrev pub IsTestFault : RunFault → Tested → Type 0
 IsTestFault (Load fault) t = t ≡ Err (refused_with (load_fault_text fault))
 IsTestFault (NoComponent name) t = ⊥
+IsTestFault (NoOutcome number) t = ⊥
 IsTestFault (Turns fault line) t = t ≡ Err (refused_with (turn_fault_text fault line))
 IsTestFault Memory t = Unit {0}
 IsTestFault Write t = (text : List ℕ) × (wrong : Option (List ℕ × Wrong)) × (t ≡ Ok (text, wrong))

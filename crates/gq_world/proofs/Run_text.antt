@@ -12,7 +12,6 @@ use Rattle.gq_init.specs.Writes.{IsPrefix}
 use Rattle.gq_world.specs.World_between_turns.{World}
 use Rattle.gq_world.specs.internal.Act_transitions.{going, HasRun, IsCut}
 use Rattle.gq_world.specs.Account_lines.{accounts_by, all_accounts, accounts_text}
-use Rattle.gq_model.specs.declared.fault.TurnFault.{TurnFault}
 use Rattle.gq_model.specs.rules.Accept.{IsAccepted}
 use Rattle.gq_model.specs.texts.Turns.{Turned, turned}
 use Rattle.gq_load.specs.Load.{LoadRefusal, loaded}
@@ -20,10 +19,10 @@ use Rattle.gq_load.specs.Load_faults.{load_fault_text, Refuses}
 use Rattle.gq_load.specs.declared.load_fault.LoadFault.{LoadFault}
 use Rattle.gq_load.specs.declared.load_fault.LoadError.TheVariants as error
 use Rattle.gq_world.specs.declared.run_fault.RunFault.{RunFault}
-use Rattle.gq_world.specs.declared.run_fault.RunFault.TheVariants.{Load, NoComponent, Turns, Memory, Write}
+use Rattle.gq_world.specs.declared.run_fault.RunFault.TheVariants.{Load, NoComponent, NoOutcome, Turns, Memory, Write}
 use Rattle.gq_world.specs.Headline.{Upholding, WritesPromised}
 use Rattle.gq_world.specs.Command_outcomes.{IsFaultOf, IsWhole, GivesOf}
-use Rattle.gq_world.specs.Whole.{Written, whole_of, refused_with, turn_fault_text, with_scenario, written_turns, run_written}
+use Rattle.gq_world.specs.Whole.{Written, whole_of, refused_with, with_scenario, written_turns, run_written}
 use Rattle.gq_world.specs.internal.Act_transitions.{AreBelow, turns_written}
 use Rattle.gq_world.proofs.Turns_name_leaves.{AreBelowIn, turned_below}
 use Rattle.gq_init.proofs.Written_byte_facts.{appends_both}
@@ -86,6 +85,7 @@ load_by fault (Err f) go h = ap (λ t. Err (refused_with t)) (sym h)
 pub load_is : (fault : RunFault) (scenario text : List ℕ) → GivesOf fault scenario → IsFaultOf fault (run_written scenario text)
 load_is (Load fault) scenario text h = load_by fault (loaded scenario) (λ s. written_turns s (turned s text)) h
 load_is (NoComponent name) scenario text h = absurd h
+load_is (NoOutcome number) scenario text h = absurd h
 load_is (Turns fault line) scenario text h = absurd h
 load_is Memory scenario text h = tt
 load_is Write scenario text h = absurd h

@@ -1,12 +1,12 @@
 -- How a command ends, by what the definition says of its texts.
-use Rattle.std.specs.Prelude.{◌≡◌, ℕ, List, ◌++◌, Option, Result, Ok, Err, OnOk, IfErr, codes}
+use Rattle.std.specs.Prelude.{◌≡◌, ℕ, List, ◌++◌, Option, Result, Ok, Err, OnOk, IfErr, codes, decimal}
 use Rattle.std.specs.Io.KnownBytes.{Appends}
 use Rattle.gq_load.specs.Load.{loaded}
 use Rattle.gq_load.specs.Load_faults.{load_fault_text, Refuses}
 use Rattle.gq_load.specs.declared.load_fault.LoadError.{LoadError}
 use Rattle.gq_load.specs.declared.load_fault.LoadError.TheVariants as error
 use Rattle.gq_world.specs.declared.run_fault.RunFault.{RunFault}
-use Rattle.gq_world.specs.declared.run_fault.RunFault.TheVariants.{Load, NoComponent, Turns, Memory, Write}
+use Rattle.gq_world.specs.declared.run_fault.RunFault.TheVariants.{Load, NoComponent, NoOutcome, Turns, Memory, Write}
 use Rattle.gq_init.specs.declared.counted.Counted.{Counted}
 use Rattle.gq_init.specs.Writer_failures.{written_to, failures_of}
 use Rattle.gq_init.specs.Writes.{IsPrefix, IsRaised}
@@ -16,6 +16,7 @@ use Rattle.gq_world.specs.Whole.{Written, refused_with, turn_fault_text}
 abbrev pub run_fault_text : RunFault → List ℕ
 run_fault_text (Load fault) = load_fault_text fault
 run_fault_text (NoComponent name) = codes "no component " ++ name.now
+run_fault_text (NoOutcome number) = codes "no outcome " ++ decimal number
 run_fault_text (Turns fault line) = turn_fault_text fault line
 run_fault_text Memory = codes "host memory refused"
 run_fault_text Write = codes "file fault"
@@ -41,6 +42,7 @@ pub record IsCutShort (w : Written) (before after : Option (List ℕ)) : Type 0 
 abbrev pub IsFaultOf : RunFault → Written → Type 0
 IsFaultOf (Load fault) w = w ≡ Err (refused_with (load_fault_text fault))
 IsFaultOf (NoComponent name) w = w ≡ Err (refused_with (codes "no component " ++ name.now))
+IsFaultOf (NoOutcome number) w = w ≡ Err (refused_with (codes "no outcome " ++ decimal number))
 IsFaultOf (Turns fault line) w = w ≡ Err (refused_with (turn_fault_text fault line))
 IsFaultOf Memory w = Unit {0}
 IsFaultOf Write w = (text : List ℕ) × (w ≡ Ok text)
@@ -49,6 +51,7 @@ IsFaultOf Write w = (text : List ℕ) × (w ≡ Ok text)
 abbrev pub IsBefore : RunFault → Type 0
 IsBefore (Load fault) = Unit {0}
 IsBefore (NoComponent name) = Unit {0}
+IsBefore (NoOutcome number) = Unit {0}
 IsBefore (Turns fault line) = Unit {0}
 IsBefore Memory = Unit {0}
 IsBefore Write = ⊥
@@ -69,6 +72,7 @@ pub record WritesAs {W A : Type 0} (contents : W → Option (List ℕ)) (w : Wri
 abbrev pub GivesOf : RunFault → List ℕ → Type 0
 GivesOf (Load fault) text = Refuses (error.Fault fault) (loaded text)
 GivesOf (NoComponent name) text = ⊥
+GivesOf (NoOutcome number) text = ⊥
 GivesOf (Turns fault line) text = ⊥
 GivesOf Memory text = Unit {0}
 GivesOf Write text = ⊥

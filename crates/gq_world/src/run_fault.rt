@@ -8,13 +8,15 @@ use std::alloc::AllocError;
 use std::error::Error;
 use std::fmt::{self, Debug, Display, Formatter, Write};
 
-/// Why a run, the budgets of a scenario or the code of a leaf were not written to their end.
+/// Why the text of a command was not written to its end.
 #[derive(Drop)]
 pub enum RunFault<'a> {
     /// The scenario is refused, or the text or the code of the leaf that was asked for is no program.
     Load(LoadFault),
     /// No leaf has this name.
     NoComponent(&'a str),
+    /// There is no outcome of this number.
+    NoOutcome(u32),
     /// The text of the turns is refused, at this line from 1; a text that is too long at line 0.
     Turns { fault: TurnFault, line: u64 },
     /// Host memory was refused.
@@ -53,6 +55,7 @@ impl<'a> Display for RunFault<'a> {
         match self {
             RunFault::Load(fault) => write!(f, "{fault}"),
             RunFault::NoComponent(name) => write!(f, "no component {name}"),
+            RunFault::NoOutcome(number) => write!(f, "no outcome {number}"),
             RunFault::Turns { fault, line } => write!(f, "{fault} line {line}"),
             RunFault::Memory => f.write_str("host memory refused"),
             RunFault::Write => f.write_str("file fault"),

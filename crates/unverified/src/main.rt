@@ -72,7 +72,10 @@ fn read(rt: &HostRuntime, path: &str) -> Result<Vec<u8>, Status> {
 // The status of a run that was not taken to its end.
 fn status_of(fault: &RunFault<'_>) -> Status {
     match fault {
-        RunFault::Load(_) | RunFault::NoComponent(_) | RunFault::Turns { .. } => Status::Refused,
+        RunFault::Load(_)
+        | RunFault::NoComponent(_)
+        | RunFault::NoOutcome(_)
+        | RunFault::Turns { .. } => Status::Refused,
         RunFault::Memory => Status::HostMemory,
         RunFault::Write => Status::FileFault,
     }

@@ -1,5 +1,5 @@
 -- What a step for one thread leaves as it is: the leaves that work for others, their own slots, and the sessions and requests below these.
-use Rattle.std.proofs.Common.{◌≡◌, ◌≢◌, ◌⊎◌, ℕ, zero, suc, inl, inr, Bool, true, false, cond, List, [], ◌∷◌, Option, Some, None, refl, ap, sym, ◌∙◌}
+use Rattle.std.proofs.Common.{◌++◌, ◌≡◌, ◌≢◌, ◌⊎◌, ℕ, zero, suc, inl, inr, Bool, true, false, cond, List, [], ◌∷◌, Option, Some, None, refl, ap, sym, ◌∙◌}
 use Rattle.std.proofs.Common.{subst}
 use Rattle.std.specs.Prelude.{option_map, replicate, slice_get, slice_set}
 use Rattle.std.proofs.lemmas.Bool.{true≢false}
@@ -13,12 +13,13 @@ use Rattle.gq_model.specs.machine.World.{leaf_slot, session_slot, session_object
 use Rattle.gq_model.specs.machine.World.{with_slot}
 use Rattle.gq_model.specs.machine.Doing.{Doing}
 use Rattle.gq_model.specs.machine.Requests.{add_session, free_place}
-use Rattle.gq_model.specs.machine.Step.{is_named, released, all_released}
+use Rattle.gq_model.specs.machine.Step.{is_named, oldest, released, all_released}
+use Rattle.std.proofs.lemmas.List.{append_assoc, append-nil}
 use Rattle.gq_model.proofs.Small_facts.{none_some, some_same}
 use Rattle.gq_laws.specs.Inside_steps.{TakesLeaf}
 use Rattle.gq_laws.proofs.session_links.Written_world_links.{set_else}
 use Rattle.gq_laws.proofs.Renamed_world_equality.{place_here, added_here, added_else}
-use Rattle.gq_determined.specs.internal.Threads.{is_unshared, is_active, among, slots_of, seen}
+use Rattle.gq_determined.specs.internal.Threads.{is_active, among, slots_of, seen}
 use Rattle.gq_determined.proofs.passing_threads.Kept_by_steps.{IsNamed}
 use Rattle.gq_determined.proofs.regions.Region_changes.{put_at}
 use Rattle.gq_determined.proofs.regions.At_same.{released_seen}
@@ -35,9 +36,9 @@ empty_waits (suc n) zero k e = absurd (ne e)
     ne e = cc
 empty_waits (suc n) (suc a) k e = empty_waits n a k e
 
--- what a step for a thread may change: the own slots of the leaf that takes it, in `main` or where it is not shared, and the sessions of its region
+-- what a step for a thread may change: the own slots of the leaf that takes it, in `main` or where it is not its own, and the sessions of its region
 abbrev pub OursBy : Doing → ℕ → (ℕ → ℕ) → (ℕ → ℕ) → SlotId → Type 0
-OursBy d i own root (In_leaf y a) = (own y ≡ i) × (y ≡ d.x) × (is_unshared d.system y ≡ false → d.leaf.current ≡ None) × (d.leaf.current ≡ None → y ≡ i)
+OursBy d i own root (In_leaf y a) = (own y ≡ i) × (y ≡ d.x) × (own y ≡ y → d.leaf.current ≡ None) × (d.leaf.current ≡ None → y ≡ i)
 OursBy d i own root (In_session k a) = root k ≡ i
 OursBy d i own root (In_object k) = root k ≡ i
 
@@ -68,6 +69,20 @@ module _ (d : Doing) (i : ℕ) (own root : ℕ → ℕ) (c : ℕ → Bool) (Ours
     pub named : IsNamed d s.slot_id
     pub ours : Ours s.slot_id
 
+  -- no request is gone but one that the leaf has taken, the oldest for it
+  pub record IsTakenOff (base : List Request) : Type 0 where
+    pub serves : d.leaf.phase ≡ Serving
+    pub taken : Request × List Request
+    pub found : oldest d.world d.x d.world.requests ≡ Some taken
+    pub rest : base ≡ taken.1
+
+  -- new requests come last
+  pub record Asks (rs : List Request) : Type 0 where
+    pub base : List Request
+    pub more : List Request
+    pub is : rs ≡ base ++ more
+    pub from : (base ≡ d.world.requests) ⊎ IsTakenOff base
+
   pub record IsElse (w : World) : Type 0 where
     pub at : (y : ℕ) → c y ≡ false → option_map seen (slice_get w.leaves y) ≡ option_map seen (slice_get d.world.leaves y)
     pub currents : (y : ℕ) → y ≢ d.x → option_map current_of (slice_get w.leaves y) ≡ option_map current_of (slice_get d.world.leaves y)
@@ -80,6 +95,7 @@ module _ (d : Doing) (i : ℕ) (own root : ℕ → ℕ) (c : ℕ → Bool) (Ours
     -- and the same is current at it, if it did not serve and goes on
     pub mine : (d.leaf.phase ≡ Serving → ⊥) → (leaf : Leaf) → slice_get w.leaves d.x ≡ Some leaf → is_active leaf.phase ≡ true
         → leaf.current ≡ d.leaf.current
+    pub asks : Asks w.requests
 
   pub else_first : TakesLeaf d → IsElse d.world
   else_first t = record {
@@ -92,7 +108,12 @@ module _ (d : Doing) (i : ℕ) (own root : ℕ → ℕ) (c : ℕ → Bool) (Ours
     waits = λ q k e. inl e;
     blocked = λ leaf e b. ap current_of (sym (some_same (sym t.there ∙ e))) ∙ sym t.current;
     mine = λ busy leaf e act. ap current_of (sym (some_same (sym t.there ∙ e))) ∙ sym t.current;
+    asks = record { base = d.world.requests; more = []; is = sym (append-nil d.world.requests); from = inl refl };
   }
+
+  pub asks_more : (rs : List Request) (r : Request) → Asks rs → Asks (rs ++ r ∷ [])
+  asks_more rs r a =
+      record { base = a.base; more = a.more ++ r ∷ []; is = ap (λ l. l ++ r ∷ []) a.is ∙ append_assoc a.base a.more (r ∷ []); from = a.from }
 
   -- LEAVES
 
@@ -130,6 +151,7 @@ module _ (d : Doing) (i : ℕ) (own root : ℕ → ℕ) (c : ℕ → Bool) (Ours
     waits = waits;
     blocked = blocked;
     mine = mine;
+    asks = h.asks;
   }
     where
       mapped : (o : Option Leaf) (l : Leaf) → option_map (λ (l : Leaf). leaf) o ≡ Some l → leaf ≡ l
@@ -203,6 +225,7 @@ module _ (d : Doing) (i : ℕ) (own root : ℕ → ℕ) (c : ℕ → Bool) (Ours
     waits = waits;
     blocked = h.blocked;
     mine = h.mine;
+    asks = h.asks;
   }
     where
       here : (j : ℕ) → j ≡ k → joined (slice_get (slice_set w.sessions k o) j) ≡ o
@@ -254,6 +277,7 @@ module _ (d : Doing) (i : ℕ) (own root : ℕ → ℕ) (c : ℕ → Bool) (Ours
     waits = waits;
     blocked = h.blocked;
     mine = h.mine;
+    asks = h.asks;
   }
     where
       here : (j : ℕ) → j ≡ free_place w.sessions → joined (slice_get (add_session s w.sessions) j) ≡ Some s
@@ -278,9 +302,9 @@ module _ (d : Doing) (i : ℕ) (own root : ℕ → ℕ) (c : ℕ → Bool) (Ours
 
   -- REQUESTS
 
-  pub else_requests : (w : World) (rs : List Request) → ((y : ℕ) → y ≢ i → among root y rs ≡ among root y w.requests) → IsElse w
+  pub else_requests : (w : World) (rs : List Request) → ((y : ℕ) → y ≢ i → among root y rs ≡ among root y w.requests) → Asks rs → IsElse w
       → IsElse (record w { requests = rs })
-  else_requests w rs same h = record {
+  else_requests w rs same new h = record {
     at = h.at;
     currents = h.currents;
     slots = h.slots;
@@ -290,6 +314,7 @@ module _ (d : Doing) (i : ℕ) (own root : ℕ → ℕ) (c : ℕ → Bool) (Ours
     waits = h.waits;
     blocked = h.blocked;
     mine = h.mine;
+    asks = new;
   }
 
   -- THE RELEASE OF LEAVES
@@ -353,6 +378,7 @@ module _ (d : Doing) (i : ℕ) (own root : ℕ → ℕ) (c : ℕ → Bool) (Ours
     slot_ids = h.slot_ids;
     waits = waits;
     blocked = λ leaf e b. let o = released_back name cs w.leaves d.x leaf e b in o.3 ∙ h.blocked o.0 o.1 o.2;
+    asks = h.asks;
     mine = λ busy leaf e act. (
         let o = released_current name cs w.leaves d.x leaf e in o.2 ∙ h.mine busy o.0 o.1 (o.3 ∙ act));
   }

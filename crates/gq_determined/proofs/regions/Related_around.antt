@@ -3,6 +3,7 @@ use Rattle.std.proofs.Common.{◌≡◌, ◌≢◌, ℕ, suc, ◌==◌, inl, inr
 use Rattle.std.proofs.Common.{subst, arith}
 use Rattle.std.specs.Prelude.{option_map, slice_get, slice_set}
 use Rattle.std.proofs.lemmas.Bool.{true≢false}
+use Rattle.std.proofs.lemmas.List.{append-nil}
 use Rattle.std.proofs.lemmas.Bool.Decides.{eqb_tells}
 use Rattle.gq_model.specs.declared.phase.Phase.TheVariants.{Blocked, Serving, Handling, Exited}
 use Rattle.gq_model.specs.declared.program.Section.{Section}
@@ -288,7 +289,13 @@ module _ (f : ℕ → ℕ) (aside : Aside) (d : Doing) (v : World) (i : ℕ) (ow
             (stood.regions y r);
         at = stood.at;
         rest = else_requests d i own root c O (standing d leaf) p.1
-            (λ y ne. oldest_rest d.world d.x root y d.world.requests p t.first (λ same. ne (sym same ∙ o.ours))) stood.rest;
+            (λ y ne. oldest_rest d.world d.x root y d.world.requests p t.first (λ same. ne (sym same ∙ o.ours)))
+            (record {
+              base = p.1;
+              more = [];
+              is = sym (append-nil p.1);
+              from = inr (record { serves = t.serves; taken = p; found = t.first; rest = refl });
+            }) stood.rest;
       } in
       record {
         regions = λ y r. region_session f own root other y (record (standing d leaf) { requests = p.1 })

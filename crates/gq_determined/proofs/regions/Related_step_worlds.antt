@@ -29,7 +29,8 @@ use Rattle.gq_determined.proofs.regions.Region_changes.{region_leaf, region_sess
 use Rattle.gq_determined.proofs.regions.Region_changes.{region_object}
 use Rattle.gq_determined.proofs.regions.Region_changes.{region_put_own, region_put, region_put_object}
 use Rattle.gq_determined.proofs.regions.At_same.{at_leaf, at_seen, slot_seen}
-use Rattle.gq_determined.proofs.regions.Outside_region_kept.{OursBy, IsElse, else_leaf, else_session, else_added, else_requests, else_own_slot, else_slot}
+use Rattle.gq_determined.proofs.regions.Outside_region_kept.{OursBy, IsElse, asks_more, else_leaf, else_session, else_added, else_requests, else_own_slot}
+use Rattle.gq_determined.proofs.regions.Outside_region_kept.{else_slot}
 use Rattle.gq_determined.proofs.regions.Outside_region_kept.{else_object}
 
 -- a session is of the thread that its slot is of
@@ -315,7 +316,8 @@ module _ (f : ℕ → ℕ) (aside : Aside) (d : Doing) (v : World) (i : ℕ) (ow
       related = record {
         regions = λ y q. region_request f own root other y w z r (sides asked) (k.related.regions y q);
         at = k.related.at;
-        rest = else_requests d i own root c Ours w (w.requests ++ r ∷ []) (λ y ne. among_more y w.requests r (λ e. ne (sym e ∙ ours asked))) k.related.rest;
+        rest = else_requests d i own root c Ours w (w.requests ++ r ∷ []) (λ y ne. among_more y w.requests r (λ e. ne (sym e ∙ ours asked)))
+            (asks_more d i own root c Ours w.requests r k.related.rest.asks) k.related.rest;
       };
       stay = k.stay;
     }

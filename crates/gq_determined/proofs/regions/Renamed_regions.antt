@@ -14,13 +14,13 @@ use Rattle.gq_laws.proofs.Outside_step_untouched.{outlined}
 use Rattle.gq_laws.specs.internal.Renamed.{renamed_slot, renamed_slot_id, renamed_current, renamed_leaf, renamed_session, renamed_request}
 use Rattle.gq_determined.specs.internal.Threads.{Tracked, within, among, slots_of, seen, seen_by, IsAtSame, IsSameRegion}
 use Rattle.gq_determined.proofs.regions.Region_changes.{within_there}
-use Rattle.gq_determined.proofs.thread_positions.Single_thread_position.{root_at, IsTracked}
+use Rattle.gq_determined.proofs.thread_positions.Single_thread_position.{root_at, IsPlaced}
 
 -- the root of what a slot names is that of the slot
 abbrev pub rooted : Tracked → SlotId → ℕ
 rooted g q = root_at g.own g.root q
 
-module _ (system : System) (g : Tracked) (t : IsTracked system g) where
+module _ (system : System) (g : Tracked) (t : IsPlaced system g) where
   abbrev w : World
   w = g.world
 

@@ -14,7 +14,7 @@ use Rattle.gq_laws.proofs.Renamed_session_sums.{same_account}
 use Rattle.gq_determined.specs.internal.Threads.{Tracked, slots_of, IsSameRegion, IsSameThread}
 use Rattle.gq_determined.proofs.regions.Region_changes.{within_there, within_here}
 use Rattle.gq_determined.proofs.regions.Renamed_regions.{region_renamed}
-use Rattle.gq_determined.proofs.thread_positions.Single_thread_position.{IsTracked}
+use Rattle.gq_determined.proofs.thread_positions.Single_thread_position.{IsPlaced}
 
 -- what an account reports of a leaf, and its slots
 abbrev bare : Leaf → Leaf
@@ -59,7 +59,8 @@ pub record AreAlike (w v : World) : Type 0 where
   pub steps : (y : ℕ) (l m : Leaf) → slice_get w.leaves y ≡ Some l → slice_get v.leaves y ≡ Some m → m.steps ≡ l.steps
   pub peaks : (y : ℕ) (l m : Leaf) → slice_get w.leaves y ≡ Some l → slice_get v.leaves y ≡ Some m → m.peaks ≡ l.peaks
 
-module _ (system : System) (g h : Tracked) (t : IsTracked system g) (th : IsTracked system h) (same : (i : ℕ) → g.own i ≡ i → IsSameThread i g h)
+module _ (system : System) (g h : Tracked) (t : IsPlaced system g) (th : IsPlaced system h)
+    (whole : (y : ℕ) → g.own (g.own y) ≡ g.own y) (same : (i : ℕ) → g.own i ≡ i → IsSameThread i g h)
     (back : (i : ℕ) → h.own i ≡ i → g.own i ≡ i) where
   -- the names of a thread's region
   abbrev Names : ℕ → Type 0
@@ -105,7 +106,7 @@ module _ (system : System) (g h : Tracked) (t : IsTracked system g) (th : IsTrac
     leaf_same y =
         slice_get-map bare h.world.leaves y
         ∙ (by (slice_get g.world.leaves y) (slice_get h.world.leaves y) refl refl
-        ((region (g.own y) (t.owned.whole y)).slots y refl)
+        ((region (g.own y) (whole y)).slots y refl)
         ∙ ap (option_map (renamed_leaf merged)) (sym (slice_get-map bare g.world.leaves y)))
       where
         by : (o p : Option Leaf) → slice_get g.world.leaves y ≡ o → slice_get h.world.leaves y ≡ p

@@ -132,7 +132,7 @@ next_within system w x new event h e = (next_by system w x (slice_get system.com
 
 -- RUNS
 
-start_each : (cs : List Component) (y : ℕ) (leaf : Leaf) → slice_get (start_leaves cs) y ≡ Some leaf → Within classes leaf.slots leaf.peaks
+pub start_each : (cs : List Component) (y : ℕ) (leaf : Leaf) → slice_get (start_leaves cs) y ≡ Some leaf → Within classes leaf.slots leaf.peaks
 start_each [] y leaf e = absurd (none_some e)
 start_each (c ∷ cs) zero leaf e = subst (λ (l : Leaf). Within classes l.slots l.peaks) (some_same e) (zero_within 64 8 classes)
 start_each (c ∷ cs) (suc y) leaf e = start_each cs y leaf e

@@ -30,13 +30,13 @@ use Rattle.gq_determined.proofs.rest_accounts.Peaks_steps.{next_raises}
 use Rattle.gq_determined.proofs.rest_accounts.Session_places.{own_only}
 
 -- peaks raised to what these slots have in use
-abbrev most : List ℕ → List ℕ → List Slot → List ℕ
+abbrev pub most : List ℕ → List ℕ → List Slot → List ℕ
 most [] peaks slots = []
 most (c ∷ cs) [] slots = []
 most (c ∷ cs) (peak ∷ peaks) slots = max peak (sum_by (slot_places c) slots) ∷ most cs peaks slots
 
 -- they are these peaks where none is below that
-most_within : (cs peaks : List ℕ) (slots : List Slot) → length peaks ≡ length cs → Within cs slots peaks → most cs peaks slots ≡ peaks
+pub most_within : (cs peaks : List ℕ) (slots : List Slot) → length peaks ≡ length cs → Within cs slots peaks → most cs peaks slots ≡ peaks
 most_within [] [] slots e h = refl
 most_within [] (peak ∷ peaks) slots e h = absurd (omega (arith, e))
 most_within (c ∷ cs) [] slots e h = refl
@@ -45,20 +45,20 @@ most_within (c ∷ cs) (peak ∷ peaks) slots e h =
     let here : max peak (sum_by (slot_places c) slots) ≡ peak = omega (arith, less) in
     λ i. here i ∷ most_within cs peaks slots (omega (arith, e)) h.1 i
 
-most_same : (cs peaks : List ℕ) (slots more : List Slot) → ((c : ℕ) → sum_by (slot_places c) slots ≡ sum_by (slot_places c) more)
+pub most_same : (cs peaks : List ℕ) (slots more : List Slot) → ((c : ℕ) → sum_by (slot_places c) slots ≡ sum_by (slot_places c) more)
     → most cs peaks slots ≡ most cs peaks more
 most_same [] peaks slots more same = refl
 most_same (c ∷ cs) [] slots more same = refl
 most_same (c ∷ cs) (peak ∷ peaks) slots more same = λ i. max peak (same c i) ∷ most_same cs peaks slots more same i
 
-raised_most : (w : World) (x : ℕ) (leaf : Leaf) → ((c : ℕ) → places w x leaf c ≡ sum_by (slot_places c) leaf.slots) → (cs peaks : List ℕ)
+pub raised_most : (w : World) (x : ℕ) (leaf : Leaf) → ((c : ℕ) → places w x leaf c ≡ sum_by (slot_places c) leaf.slots) → (cs peaks : List ℕ)
     → raised w x leaf cs peaks ≡ most cs peaks leaf.slots
 raised_most w x leaf own [] peaks = refl
 raised_most w x leaf own (c ∷ cs) [] = refl
 raised_most w x leaf own (c ∷ cs) (peak ∷ peaks) = λ i. max peak (own c i) ∷ raised_most w x leaf own cs peaks i
 
 -- by other numbers of sessions slots have the same in use
-renamed_places : (f : ℕ → ℕ) (c : ℕ) (slots : List Slot) → sum_by (slot_places c) (map (renamed_slot f) slots) ≡ sum_by (slot_places c) slots
+pub renamed_places : (f : ℕ → ℕ) (c : ℕ) (slots : List Slot) → sum_by (slot_places c) (map (renamed_slot f) slots) ≡ sum_by (slot_places c) slots
 renamed_places f c [] = refl
 renamed_places f c (slot ∷ slots) =
     let here = by slot in
@@ -72,7 +72,7 @@ renamed_places f c (slot ∷ slots) =
     by (Link k) = refl
     by (Waiting k) = refl
 
-each_at : {A : Type 0} (P : A → Type 0) (items : List A) → Each P items → (i : ℕ) (a : A) → slice_get items i ≡ Some a → P a
+pub each_at : {A : Type 0} (P : A → Type 0) (items : List A) → Each P items → (i : ℕ) (a : A) → slice_get items i ≡ Some a → P a
 each_at P [] h i a e = absurd (none_some e)
 each_at P (b ∷ items) h zero a e = subst P (some_same e) h.0
 each_at P (b ∷ items) h (suc i) a e = each_at P items h.1 i a e
@@ -161,13 +161,13 @@ module _ (s : Scenario) (sound : IsSound s) (none : IsRaceFree s) where
   tracks = all_tracked u (all_pay (system s)) (good s sound none)
 
   lives_at : (a : List ℕ) (x i : ℕ) → who (at a) x ≡ Some i → (at a).own i ≡ i
-  lives_at a x i is = lives_who u (at a) (tracks a) i x is
+  lives_at a x i is = lives_who u (at a) (tracks a).placed i x is
 
   ended_at : (a : List ℕ) (x i : ℕ) → who (at a) x ≡ Some i → x ≢ i → HasEnded x (at a)
-  ended_at a x i is ne = ended_of u (at a) (tracks a) i x is ne
+  ended_at a x i is ne = ended_of u (at a) (tracks a).placed i x is ne
 
   same_step : (i : ℕ) (a b : List ℕ) (x y : ℕ) → who (at a) x ≡ Some i → who (at b) y ≡ Some i → IsSameThread i (at a) (at b) → x ≡ y
-  same_step i a b x y is is_b t = (same_place u (at a) (at b) (tracks a) (tracks b) i t x y is is_b).leaf
+  same_step i a b x y is is_b t = (same_place u (at a) (at b) (tracks a).placed (tracks b).placed i t x y is is_b).leaf
 
   -- a turn for another thread leaves the peaks of a thread's leaves
   else_same : (i y : ℕ) (a : List ℕ) (x : ℕ) → is_for i (who (at a) x) ≡ false → (at (x ∷ a)).own i ≡ i → (at (x ∷ a)).own y ≡ i → Serves y

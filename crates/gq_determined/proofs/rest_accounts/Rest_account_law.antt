@@ -33,7 +33,7 @@ use Rattle.gq_determined.proofs.rest_accounts.Thread_step_counts.{counted, steps
 use Rattle.gq_determined.proofs.without_inputs.Left_out.{leave_same}
 
 -- at rest a leaf serves if it provides a service, and else has exited
-phase_at_rest : (w v : World) (y z : ℕ) (provides : Option (List ℕ)) (p q : Phase) → rests w y p ≡ true → rests v z q ≡ true → Suits provides p
+pub phase_at_rest : (w v : World) (y z : ℕ) (provides : Option (List ℕ)) (p q : Phase) → rests w y p ≡ true → rests v z q ≡ true → Suits provides p
     → Suits provides q
     → q ≡ p
 phase_at_rest w v y z provides Serving Serving a b s t = refl
@@ -53,7 +53,7 @@ phase_at_rest w v y z provides Exited Running a b s t = absurd (true≢false (sy
 phase_at_rest w v y z provides Exited Blocked a b s t = absurd (true≢false (sym b))
 phase_at_rest w v y z provides Exited Handling a b s t = absurd (true≢false (sym b))
 
-exited_at_rest : (w : World) (y : ℕ) (p : Phase) → rests w y p ≡ true → Suits None p → p ≡ Exited
+pub exited_at_rest : (w : World) (y : ℕ) (p : Phase) → rests w y p ≡ true → Suits None p → p ≡ Exited
 exited_at_rest w y Exited a suits = refl
 exited_at_rest w y Serving a suits = absurd (true≢false (sym suits))
 exited_at_rest w y Pending a suits = absurd (true≢false (sym a))
@@ -147,7 +147,8 @@ module _ (s : Scenario) (sound : IsSound s) (none : IsRaceFree s) (turns others 
   accounts_left : (budgets : List ℕ) → accounts s h.world budgets ≡ accounts s g.world budgets
   accounts_left budgets =
       accounts_same s budgets g.world h.world
-      (λ version y budget. account_same u g h tracks tracks_other ended.same ended.back alike version budget y (slice_get (system s).components y)) handed_same
+      (λ version y budget. account_same u g h tracks.placed tracks_other.placed tracks.owned.whole ended.same ended.back alike version budget y
+      (slice_get (system s).components y)) handed_same
 
   pub accounts_rest : (budgets : List ℕ)
       → accounts s (run (system s) (turns_alone turns)).world budgets ≡ accounts s (run (system s) (turns_alone others)).world budgets

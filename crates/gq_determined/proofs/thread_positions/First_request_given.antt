@@ -7,15 +7,16 @@ use Rattle.std.proofs.lemmas.Bool.Decides.{eqb_tells}
 use Rattle.gq_model.specs.declared.phase.Phase.{Phase}
 use Rattle.gq_model.specs.declared.phase.Phase.TheVariants.{Running, Blocked, Serving, Handling}
 use Rattle.gq_model.specs.machine.Scenario.{System}
-use Rattle.gq_model.specs.machine.World.{SlotId, In_leaf, In_session, In_object, Session, Request, Current, Leaf, World, session_at}
-use Rattle.gq_model.proofs.Small_facts.{some_same, equal_self}
+use Rattle.gq_model.specs.machine.World.{Waiting, SlotId, In_leaf, In_session, In_object, Session, Request, Current, Leaf, World, session_at, slot_at}
+use Rattle.gq_model.proofs.Small_facts.{none_some, some_same, equal_self}
 use Rattle.gq_laws.specs.Shapes.{Each}
-use Rattle.gq_laws.specs.Session_links.{one_if, requests_of, stance, stance_in, links}
-use Rattle.gq_laws.proofs.session_links.Asked_request_changes.{same_phase}
+use Rattle.gq_laws.specs.Session_links.{Fits, one_if, requests_of, stance, stance_in, links}
+use Rattle.gq_laws.proofs.session_links.Asked_request_changes.{same_current, same_phase}
 use Rattle.gq_laws.specs.internal.Renamed.{renamed_request, Correspond}
 use Rattle.gq_determined.specs.internal.Threads.{is_unshared, Starts, Tracked, thread_by, who, who_of, who_by, asker, moved, given}
 use Rattle.gq_determined.specs.internal.Threads.{works, works_for, is_active, within, among, IsSameThread}
-use Rattle.gq_determined.proofs.thread_positions.Single_thread_position.{root_at, IsOpened, AreOpened, IsUnder, AreOwned, IsTracked, IsWaiting, handled}
+use Rattle.gq_determined.proofs.thread_positions.Single_thread_position.{root_at, IsOpened, AreOpened, IsUnder, AreOwned, IsByCurrent, IsPlaced, IsTracked}
+use Rattle.gq_determined.proofs.thread_positions.Single_thread_position.{IsWaiting, IsHandled, handled}
 use Rattle.gq_determined.proofs.thread_positions.Single_thread_position.{root_waits}
 use Rattle.gq_determined.proofs.thread_positions.Unshared_leaf_owner.{one_start}
 use Rattle.gq_determined.proofs.thread_positions.Turn_thread_position.{IsWorking, IsServing, who_is, taken_there, requested, requested_by}
@@ -54,12 +55,12 @@ serving_inactive : (p : Phase) → p ≡ Serving → is_active p ≡ true → �
 serving_inactive p e act = true≢false (sym act ∙ ap is_active e)
 
 -- what waits is not of the thread of a leaf that serves
-not_rooted : (u : System) (g : Tracked) (t : IsTracked u g) (x : ℕ) (current : Option Current) → (links g.world).stances x ≡ Some (stance Serving current)
+pub not_rooted : (u : System) (g : Tracked) (t : IsPlaced u g) (x : ℕ) (current : Option Current) → (links g.world).stances x ≡ Some (stance Serving current)
     → (j : ℕ) → IsWaiting u g t j → g.root j ≢ x
 not_rooted u g t x current stood j a e =
     serving_blocked (same_phase (sym stood ∙ (ap (links g.world).stances (sym e) ∙ root_waits u g t j a)))
 
-pub serving_else : (u : System) (g : Tracked) (t : IsTracked u g) (i x : ℕ) → IsServing g i x → x ≢ i
+pub serving_else : (u : System) (g : Tracked) (t : IsPlaced u g) (i x : ℕ) → IsServing g i x → x ≢ i
 serving_else u g t i x p e =
     not_rooted u g t x p.leaf.current (ap stance_in p.there ∙ ap (λ q. Some (stance q p.leaf.current)) p.serves) p.taken.0.session
     (requested u g t i x p).waiting (p.root ∙ sym e)
@@ -85,13 +86,12 @@ serving_who g i x is leaf there serves = by (who_is g i x is)
 
 -- ONE WORLD
 
--- a leaf that is not shared takes its first request, which is of the thread
+-- a leaf that is its own takes a request, which is of the thread
 pub record IsGiven (u : System) (g : Tracked) (i x : ℕ) : Type 0 where
   pub serving : IsServing g i x
-  pub single : is_unshared u x ≡ true
-  pub other : g.own x ≢ i
+  pub idle : g.own x ≡ x
 
-module _ (u : System) (g : Tracked) (t : IsTracked u g) (i x : ℕ) (b : IsGiven u g i x) where
+module _ (u : System) (g : Tracked) (t : IsPlaced u g) (i x : ℕ) (b : IsGiven u g i x) where
   abbrev pub g_new : Tracked
   g_new = given g x i true
 
@@ -108,38 +108,19 @@ module _ (u : System) (g : Tracked) (t : IsTracked u g) (i x : ℕ) (b : IsGiven
   stood = ap stance_in b.serving.there ∙ ap (λ p. Some (stance p b.serving.leaf.current)) b.serving.serves
 
   -- what waits is not of the thread of the leaf
-  not_root : (j : ℕ) → IsWaiting u g t j → g.root j ≢ x
+  pub not_root : (j : ℕ) → IsWaiting u g t j → g.root j ≢ x
   not_root j a = not_rooted u g t x b.serving.leaf.current stood j a
 
   pub x_else : x ≢ i
   x_else = serving_else u g t i x b.serving
 
-  lives : g.own i ≡ i
+  pub lives : g.own i ≡ i
   lives = subst (λ m. g.own m ≡ m) b.serving.root (t.lives k there.0 there.1)
 
-  -- whoever sessions with it are opened for is of the thread
-  asked : IsOpened u g.own g.root there.0.slot_id there.0.client there.0.server
-  asked = t.stands k there.0 there.1
-
-  starts : Starts u asked.n asked.z x
-  starts = subst (Starts u asked.n asked.z) there.2 asked.starts
-
-  owner_is : g.own asked.z ≡ i
-  owner_is = sym asked.is ∙ (sym (t.below k there.0 there.1) ∙ b.serving.root)
-
-  -- so far it is its own
   pub own_x : g.own x ≡ x
-  own_x = elim (eqb_tells (g.own x) x) [
-    | inl q ↦ q.1
-    | inr q ↦
-        let under = t.owned.opened x q.1 in
-        absurd (b.other (under.is ∙ (ap g.own (one_start u x b.single under.n asked.n under.z asked.z under.starts starts) ∙ owner_is)))
-  ]
+  own_x = b.idle
 
-  owner_else : g.own asked.z ≢ x
-  owner_else e = x_else (sym e ∙ owner_is)
-
-  i_else : g.own i ≢ x
+  pub i_else : g.own i ≢ x
   i_else e = x_else (sym e ∙ lives)
 
   -- SESSIONS AND REQUESTS THAT WAIT
@@ -189,51 +170,13 @@ module _ (u : System) (g : Tracked) (t : IsTracked u g) (i x : ℕ) (b : IsGiven
   pub own_else : g_new.own x ≢ x
   own_else e = x_else (sym e ∙ own_new)
 
-  root_new : (q : SlotId) → root_at g_new.own g_new.root q ≡ moved true x i (λ m. m) (root_at g.own g.root q)
+  pub root_new : (q : SlotId) → root_at g_new.own g_new.root q ≡ moved true x i (λ m. m) (root_at g.own g.root q)
   root_new (In_leaf y a) = refl
   root_new (In_session m a) = refl
   root_new (In_object m) = refl
 
   below_new : (j : ℕ) (s : Session) → session_at w j ≡ Some s → g_new.root j ≡ root_at g_new.own g_new.root s.slot_id
   below_new j s at = ap (moved true x i (λ m. m)) (t.below j s at) ∙ sym (root_new s.slot_id)
-
-  stands_new : AreOpened u g_new.own g_new.root w
-  stands_new j s at =
-      let o = t.stands j s at in
-      record { uses = o.uses; n = o.n; z = o.z; starts = o.starts; is = root_new s.slot_id ∙ ap (moved true x i (λ m. m)) o.is }
-
-  owned_new : AreOwned u g_new.own
-  owned_new = record { opened = opened_new; whole = whole }
-    where
-      here : IsUnder u g_new.own x
-      here = record {
-        single = b.single;
-        n = asked.n;
-        z = asked.z;
-        starts = starts;
-        is = own_new ∙ sym (moved_else x i g.own asked.z owner_else ∙ owner_is);
-      }
-
-      opened_new : (y : ℕ) → g_new.own y ≢ y → IsUnder u g_new.own y
-      opened_new y ne = elim (eqb_tells (g.own y) y) [
-        | inl q ↦ elim (eqb_tells y x) [
-          | inl e ↦ subst (IsUnder u g_new.own) (sym e.1) here
-          | inr e ↦ absurd (ne (moved_else x i g.own y (λ f. e.1 (sym q.1 ∙ f)) ∙ q.1))
-        ]
-        | inr q ↦
-            let o = t.owned.opened y q.1 in
-            record { single = o.single; n = o.n; z = o.z; starts = o.starts; is = moved_both x i g.own g.own y o.z o.is }
-      ]
-
-      whole : (y : ℕ) → g_new.own (g_new.own y) ≡ g_new.own y
-      whole y = elim (eqb_tells (g.own y) x) [
-        | inl q ↦
-            let is = moved_here x i g.own y q.1 in
-            ap g_new.own is ∙ (moved_else x i g.own i i_else ∙ (lives ∙ sym is))
-        | inr q ↦
-            let is = moved_else x i g.own y q.1 in
-            ap g_new.own is ∙ (moved_else x i g.own (g.own y) (λ f. q.1 (sym (t.owned.whole y) ∙ f)) ∙ (t.owned.whole y ∙ sym is))
-      ]
 
   lives_new : (j : ℕ) (s : Session) → session_at w j ≡ Some s → g_new.own (g_new.root j) ≡ g_new.root j
   lives_new j s at = elim (eqb_tells (g.root j) x) [
@@ -251,23 +194,45 @@ module _ (u : System) (g : Tracked) (t : IsTracked u g) (i x : ℕ) (b : IsGiven
       moved_else x i g.own y (λ f. serving_inactive phase
       (same_phase (sym at ∙ (ap (links w).stances (sym own ∙ f) ∙ stood))) act) ∙ own
 
-  busy_new : (y : ℕ) (phase : Phase) (q : Current) → (links w).stances y ≡ Some (stance phase (Some q)) → is_unshared u y ≡ true → g_new.own y ≢ y
-  busy_new y phase q at single e = elim (eqb_tells (g.own y) x) [
-    | inl f ↦ i_else (ap g.own (sym (sym e ∙ moved_here x i g.own y f.1)) ∙ f.1)
-    | inr f ↦ t.busy y phase q at single (sym (moved_else x i g.own y f.1) ∙ e)
+  waits_new : (q : SlotId) (m : ℕ) → slot_at w q ≡ Some (Waiting m) → IsByCurrent g_new.own w q
+  waits_new (In_leaf y a) m at = λ phase current is own. elim (eqb_tells (g.own y) x) [
+    | inl q ↦ absurd (i_else (ap g.own (sym (moved_here x i g.own y q.1) ∙ own) ∙ q.1))
+    | inr q ↦ t.waits (In_leaf y a) m at phase current is (sym (moved_else x i g.own y q.1) ∙ own)
   ]
+  waits_new (In_session j a) m at = t.waits (In_session j a) m at
+  waits_new (In_object j) m at = tt
 
-  pub given_tracked : IsTracked u g_new
-  given_tracked = record {
+  no_current : (current : Option Current) → Fits Serving current → (q : Current) → current ≡ Some q → ⊥
+  no_current None f q e = none_some e
+  no_current (Some p) f q e = absurd f
+
+  held_new : (y : ℕ) (phase : Phase) (q : Current) → (links w).stances y ≡ Some (stance phase (Some q)) → g_new.own y ≢ y → g_new.own y ≡ g_new.root q.session
+  held_new y phase q at ne = by (eqb_tells (g.own y) x)
+    where
+      a : IsHandled u g t y q
+      a = handled u g t y phase q at
+
+      -- a leaf that serves has no current session
+      idle : y ≡ x → ⊥
+      idle e = no_current b.serving.leaf.current (t.linked.fits x (stance Serving b.serving.leaf.current) stood) q
+          (same_current (sym stood ∙ (ap (links w).stances (sym e) ∙ at)))
+
+      by : (((g.own y == x) ≡ true) × (g.own y ≡ x)) ⊎ (((g.own y == x) ≡ false) × (g.own y ≢ x)) → g_new.own y ≡ g_new.root q.session
+      by (inl p) = absurd (not_root q.session a.waiting (sym (t.held y phase q at (λ own. idle (sym own ∙ p.1))) ∙ p.1))
+      by (inr p) =
+          let same = moved_else x i g.own y p.1 in
+          same ∙ (t.held y phase q at (λ own. ne (same ∙ own)) ∙ sym (same_root q.session a.waiting))
+
+  pub given_placed : IsPlaced u g_new
+  given_placed = record {
     acyclic = t.acyclic;
     linked = t.linked;
     below = below_new;
-    waits = t.waits;
-    stands = stands_new;
-    owned = owned_new;
+    waits = waits_new;
+    uses = t.uses;
     lives = lives_new;
     main = main_new;
-    busy = busy_new;
+    held = held_new;
   }
 
   -- a leaf that is the thread's was so, or was of the leaf's thread
@@ -327,3 +292,85 @@ module _ (u : System) (g : Tracked) (t : IsTracked u g) (i x : ℕ) (b : IsGiven
       };
       wrote = s.wrote;
     }
+
+-- A LEAF THAT IS NOT SHARED
+
+-- so far it is its own
+pub own_idle : (u : System) (g : Tracked) (t : IsTracked u g) (i x : ℕ) → IsServing g i x → is_unshared u x ≡ true → g.own x ≢ i → g.own x ≡ x
+own_idle u g t i x p single other = elim (eqb_tells (g.own x) x) [
+  | inl q ↦ q.1
+  | inr q ↦
+      let there = taken_there u g t.placed i x p in
+      let asked = t.stands p.taken.0.session there.0 there.1 in
+      let starts = subst (Starts u asked.n asked.z) there.2 asked.starts in
+      let owner_is : g.own asked.z ≡ i = sym asked.is ∙ (sym (t.placed.below p.taken.0.session there.0 there.1) ∙ p.root) in
+      let under = t.owned.opened x q.1 in
+      absurd (other (under.is ∙ (ap g.own (one_start u x single under.n asked.n under.z asked.z under.starts starts) ∙ owner_is)))
+]
+
+module _ (u : System) (g : Tracked) (t : IsTracked u g) (i x : ℕ) (b : IsGiven u g i x) (single : is_unshared u x ≡ true) where
+  abbrev new : Tracked
+  new = given g x i true
+
+  abbrev there_s : (s : Session) × (session_at g.world b.serving.taken.0.session ≡ Some s) × (s.server ≡ x)
+  there_s = taken_there u g t.placed i x b.serving
+
+  -- whoever sessions with it are opened for is of the thread
+  asked : IsOpened u g.own g.root there_s.0.slot_id there_s.0.client there_s.0.server
+  asked = t.stands b.serving.taken.0.session there_s.0 there_s.1
+
+  starts : Starts u asked.n asked.z x
+  starts = subst (Starts u asked.n asked.z) there_s.2 asked.starts
+
+  owner_is : g.own asked.z ≡ i
+  owner_is = sym asked.is ∙ (sym (t.placed.below b.serving.taken.0.session there_s.0 there_s.1) ∙ b.serving.root)
+
+  owner_else : g.own asked.z ≢ x
+  owner_else e = x_else u g t.placed i x b (sym e ∙ owner_is)
+
+  stands_new : AreOpened u new.own new.root g.world
+  stands_new j s at =
+      let o = t.stands j s at in
+      record { uses = o.uses; n = o.n; z = o.z; starts = o.starts; is = root_new u g t.placed i x b s.slot_id ∙ ap (moved true x i (λ m. m)) o.is }
+
+  owned_new : AreOwned u new.own
+  owned_new = record { opened = opened_new; whole = whole }
+    where
+      here : IsUnder u new.own x
+      here = record {
+        single = single;
+        n = asked.n;
+        z = asked.z;
+        starts = starts;
+        is = own_new u g t.placed i x b ∙ sym (moved_else x i g.own asked.z owner_else ∙ owner_is);
+      }
+
+      opened_new : (y : ℕ) → new.own y ≢ y → IsUnder u new.own y
+      opened_new y ne = elim (eqb_tells (g.own y) y) [
+        | inl q ↦ elim (eqb_tells y x) [
+          | inl e ↦ subst (IsUnder u new.own) (sym e.1) here
+          | inr e ↦ absurd (ne (moved_else x i g.own y (λ f. e.1 (sym q.1 ∙ f)) ∙ q.1))
+        ]
+        | inr q ↦
+            let o = t.owned.opened y q.1 in
+            record { single = o.single; n = o.n; z = o.z; starts = o.starts; is = moved_both x i g.own g.own y o.z o.is }
+      ]
+
+      whole : (y : ℕ) → new.own (new.own y) ≡ new.own y
+      whole y = elim (eqb_tells (g.own y) x) [
+        | inl q ↦
+            let is = moved_here x i g.own y q.1 in
+            ap new.own is ∙ (moved_else x i g.own i (i_else u g t.placed i x b) ∙ (lives u g t.placed i x b ∙ sym is))
+        | inr q ↦
+            let is = moved_else x i g.own y q.1 in
+            ap new.own is ∙ (moved_else x i g.own (g.own y) (λ f. q.1 (sym (t.owned.whole y) ∙ f)) ∙ (t.owned.whole y ∙ sym is))
+      ]
+
+  busy_new : (y : ℕ) (phase : Phase) (q : Current) → (links g.world).stances y ≡ Some (stance phase (Some q)) → is_unshared u y ≡ true → new.own y ≢ y
+  busy_new y phase q at single e = elim (eqb_tells (g.own y) x) [
+    | inl f ↦ i_else u g t.placed i x b (ap g.own (sym (sym e ∙ moved_here x i g.own y f.1)) ∙ f.1)
+    | inr f ↦ t.busy y phase q at single (sym (moved_else x i g.own y f.1) ∙ e)
+  ]
+
+  pub given_tracked : IsTracked u new
+  given_tracked = record { placed = given_placed u g t.placed i x b; stands = stands_new; owned = owned_new; busy = busy_new }

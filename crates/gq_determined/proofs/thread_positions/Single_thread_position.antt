@@ -25,12 +25,11 @@ root_at own root (In_session j a) = root j
 root_at own root (In_object j) = root j
 
 -- a slot that waits is one that the leaf's operands name
-abbrev pub IsByCurrent : System → World → SlotId → Type 0
-IsByCurrent system w (In_leaf y a) =
-    (phase : Phase) (current : Option Current) → (links w).stances y ≡ Some (stance phase current) → is_unshared system y ≡ false → current ≡ None
-IsByCurrent system w (In_session j a) = (s : Session) → session_at w j ≡ Some s → (phase : Phase) (current : Option Current)
+abbrev pub IsByCurrent : (ℕ → ℕ) → World → SlotId → Type 0
+IsByCurrent own w (In_leaf y a) = (phase : Phase) (current : Option Current) → (links w).stances y ≡ Some (stance phase current) → own y ≡ y → current ≡ None
+IsByCurrent own w (In_session j a) = (s : Session) → session_at w j ≡ Some s → (phase : Phase) (current : Option Current)
     → (links w).stances s.server ≡ Some (stance phase current) → (g : Current) × (current ≡ Some g) × (g.session ≡ j)
-IsByCurrent system w (In_object j) = Unit {0}
+IsByCurrent own w (In_object j) = Unit {0}
 
 -- a session of a client that uses its server stands in the region of whoever it was opened for
 pub record IsOpened (system : System) (own root : ℕ → ℕ) (q : SlotId) (client server : ℕ) : Type 0 where
@@ -59,19 +58,45 @@ pub record AreOwned (system : System) (own : ℕ → ℕ) : Type 0 where
   -- a thread that has leaves has its own
   pub whole : (x : ℕ) → own (own x) ≡ own x
 
--- what is tracked fits the world
-pub record IsTracked (system : System) (g : Tracked) : Type 0 where
+-- what is tracked fits the world, whatever makes a leaf another thread's
+pub record IsPlaced (system : System) (g : Tracked) : Type 0 where
   pub acyclic : cycle_fault system 0 system.components ≡ None
   pub linked : IsLinkedWorld system g.world
   pub below : (k : ℕ) (s : Session) → session_at g.world k ≡ Some s → g.root k ≡ root_at g.own g.root s.slot_id
-  pub waits : (q : SlotId) (k : ℕ) → slot_at g.world q ≡ Some (Waiting k) → IsByCurrent system g.world q
-  pub stands : AreOpened system g.own g.root g.world
-  pub owned : AreOwned system g.own
+  pub waits : (q : SlotId) (k : ℕ) → slot_at g.world q ≡ Some (Waiting k) → IsByCurrent g.own g.world q
+  -- the client of a session uses its server
+  pub uses : (k : ℕ) (s : Session) → session_at g.world k ≡ Some s → Uses system s.client s.server
   -- a session is of a thread that has its own leaf
   pub lives : (k : ℕ) (s : Session) → session_at g.world k ≡ Some s → g.own (g.root k) ≡ g.root k
-  -- in `main` a leaf is its own thread's, and in a section another's, if it is not shared
+  -- in `main` a leaf is its own thread's, and in a section its own or that of its current session
   pub main : (y : ℕ) (phase : Phase) → (links g.world).stances y ≡ Some (stance phase None) → is_active phase ≡ true → g.own y ≡ y
+  pub held : (y : ℕ) (phase : Phase) (q : Current) → (links g.world).stances y ≡ Some (stance phase (Some q)) → g.own y ≢ y → g.own y ≡ g.root q.session
+
+-- so it is where a leaf that is not shared is another thread's from its first request on
+pub record IsTracked (system : System) (g : Tracked) : Type 0 where
+  pub placed : IsPlaced system g
+  pub stands : AreOpened system g.own g.root g.world
+  pub owned : AreOwned system g.own
   pub busy : (y : ℕ) (phase : Phase) (q : Current) → (links g.world).stances y ≡ Some (stance phase (Some q)) → is_unshared system y ≡ true → g.own y ≢ y
+
+-- a leaf that is another thread's is that of its current session
+pub held_of : (system : System) (g : Tracked) → IsLinkedWorld system g.world
+    → ((k : ℕ) (s : Session) → session_at g.world k ≡ Some s → g.root k ≡ root_at g.own g.root s.slot_id) → AreOpened system g.own g.root g.world
+    → AreOwned system g.own → (y : ℕ) (phase : Phase) (q : Current) → (links g.world).stances y ≡ Some (stance phase (Some q)) → g.own y ≢ y
+    → g.own y ≡ g.root q.session
+held_of system g linked below stands owned y phase q at ne =
+    let m = linked.handles y phase q at in
+    let s = outlined (session_at g.world q.session) m.0 m.1 in
+    let server : s.0.server ≡ y = ap (λ (s : Session). s.server) s.2 ∙ m.2 in
+    let o = stands q.session s.0 s.1 in
+    let under = owned.opened y ne in
+    let same : o.z ≡ under.z = one_start system y under.single o.n under.n o.z under.z (subst (Starts system o.n o.z) server o.starts) under.starts in
+    under.is ∙ (ap g.own (sym same) ∙ (sym o.is ∙ sym (below q.session s.0 s.1)))
+
+-- a leaf that is not shared is of the thread of its current session
+pub busy_below : (system : System) (g : Tracked) → IsTracked system g → (y : ℕ) (phase : Phase) (q : Current)
+    → (links g.world).stances y ≡ Some (stance phase (Some q)) → is_unshared system y ≡ true → g.own y ≡ g.root q.session
+busy_below system g t y phase q at single = t.placed.held y phase q at (t.busy y phase q at single)
 
 waits_slot : (o : Option Slot) (k : ℕ) → naming_in o ≡ Some (Waits k) → o ≡ Some (Waiting k)
 waits_slot None k e = absurd (none_some e)
@@ -87,7 +112,7 @@ waits_slot (Some (Waiting j)) k e = ap (λ n. Some (Waiting n)) (number e)
     number : Some (Waits j) ≡ Some (Waits k) → j ≡ k
     number e = cc
 
-module _ (system : System) (g : Tracked) (t : IsTracked system g) where
+module _ (system : System) (g : Tracked) (t : IsPlaced system g) where
   abbrev w : World
   w = g.world
 
@@ -146,7 +171,7 @@ module _ (system : System) (g : Tracked) (t : IsTracked system g) where
   requests_more r rs P each none = let one : one_if (r.session == r.session) ≡ 1 = ap one_if (equal_self r.session) in omega (arith, none, one)
 
   -- the slot of a waiting session is one that its client's operands name
-  by_current_of : (k : ℕ) (a : IsWaiting k) → IsByCurrent system w a.session.slot_id
+  pub by_current_of : (k : ℕ) (a : IsWaiting k) → IsByCurrent g.own w a.session.slot_id
   by_current_of k a = t.waits a.session.slot_id k (waits_slot (slot_at w a.session.slot_id) k a.slot)
 
   -- the session above one that waits is its client's current one
@@ -162,23 +187,11 @@ module _ (system : System) (g : Tracked) (t : IsTracked system g) where
     pub client : waiting.session.client ≡ g.root k
     pub at : (links w).stances (g.root k) ≡ Some (stance Blocked None)
 
-  -- a leaf that is not shared is of the thread of its current session
-  pub busy_below : (y : ℕ) (phase : Phase) (q : Current) → (links w).stances y ≡ Some (stance phase (Some q)) → is_unshared system y ≡ true
-      → g.own y ≡ g.root q.session
-  busy_below y phase q at single =
-      let m = t.linked.handles y phase q at in
-      let s = outlined (session_at w q.session) m.0 m.1 in
-      let server : s.0.server ≡ y = ap (λ (s : Session). s.server) s.2 ∙ m.2 in
-      let o = t.stands q.session s.0 s.1 in
-      let under = t.owned.opened y (t.busy y phase q at single) in
-      let same : o.z ≡ under.z = one_start system y single o.n under.n o.z under.z (subst (Starts system o.n o.z) server o.starts) under.starts in
-      under.is ∙ (ap g.own (sym same) ∙ (sym o.is ∙ sym (t.below q.session s.0 s.1)))
-
   pub above : (k : ℕ) → IsWaiting k → IsFirst k ⊎ HasParent k
   above k a = by a.session.slot_id (t.below k a.session a.there) (by_current_of k a)
       (t.linked.belongs k (outline a.session) (ap outline_in a.there))
     where
-      by : (q : SlotId) → g.root k ≡ root_at g.own g.root q → IsByCurrent system w q → Belongs (links w) q a.session.client → IsFirst k ⊎ HasParent k
+      by : (q : SlotId) → g.root k ≡ root_at g.own g.root q → IsByCurrent g.own w q → Belongs (links w) q a.session.client → IsFirst k ⊎ HasParent k
       by (In_leaf y i) below named b = of a.current refl
         where
           stood : (links w).stances y ≡ Some (stance Blocked a.current)
@@ -196,12 +209,8 @@ module _ (system : System) (g : Tracked) (t : IsTracked system g) where
             waiting = a;
             parent = q;
             at = a.client ∙ ap (λ o. Some (stance Blocked o)) e;
-            root = below ∙ busy_below y Blocked q (stood ∙ ap (λ o. Some (stance Blocked o)) e) (single (is_unshared system y) refl);
+            root = below ∙ t.held y Blocked q (stood ∙ ap (λ o. Some (stance Blocked o)) e) (λ own. some_none (sym e ∙ named Blocked a.current stood own));
           }
-            where
-              single : (b : Bool) → is_unshared system y ≡ b → is_unshared system y ≡ true
-              single true is = is
-              single false is = absurd (some_none (sym e ∙ named Blocked a.current stood is))
       by (In_session j i) below named b =
           let s = outlined (session_at w j) b.0 b.1 in
           let server : s.0.server ≡ a.session.client = ap (λ (s : Session). s.server) s.2 ∙ b.3 in
@@ -233,7 +242,7 @@ module _ (system : System) (g : Tracked) (t : IsTracked system g) where
     | inr p ↦
         let h = parent_handled k p in
         let b = h.waiting in
-        let uses = (t.stands p.parent.session b.session b.there).uses in
+        let uses = t.uses p.parent.session b.session b.there in
         let same : p.waiting.session.client ≡ a.session.client = ap (λ (s : Session). s.client) (some_same (sym p.waiting.there ∙ a.there)) in
         let up = climb fuel p.parent.session b (a.session.client ∷ rest) (subst (Uses system b.session.client) (h.server ∙ same) uses, chain)
         (omega (arith, enough)) in
@@ -242,7 +251,7 @@ module _ (system : System) (g : Tracked) (t : IsTracked system g) where
 
   pub all_above : (k : ℕ) → IsWaiting k → (n : ℕ) × Above n k
   all_above k a =
-      let u = (t.stands k a.session a.there).uses in
+      let u = t.uses k a.session a.there in
       climb (length system.components) k a [] (slice_get_within system.components a.session.client u.0 u.1) (omega arith)
 
   root_of : (n k : ℕ) → Above n k → (links w).stances (g.root k) ≡ Some (stance Blocked None)

@@ -16,14 +16,14 @@ use Rattle.gq_determined.specs.internal.Threads.{is_unshared, Tracked, thread_by
 use Rattle.gq_determined.specs.internal.Threads.{works, works_for, is_active, within, slots_of, IsSameRegion, IsSameThread}
 use Rattle.gq_determined.proofs.regions.Region_changes.{within_there, within_here}
 use Rattle.gq_determined.proofs.regions.Renamed_regions.{region_renamed, at_renamed}
-use Rattle.gq_determined.proofs.thread_positions.Single_thread_position.{IsTracked, busy_below}
+use Rattle.gq_determined.proofs.thread_positions.Single_thread_position.{IsPlaced, IsTracked, busy_below}
 use Rattle.gq_determined.proofs.thread_positions.Turn_thread_position.{IsWorking, IsServing, ServesSame, who_is, same_place}
 use Rattle.gq_determined.proofs.thread_positions.First_request_given.{moved_here, moved_else, equal_of, unequal, working_serving, IsGiven, x_else, own_x}
-use Rattle.gq_determined.proofs.thread_positions.First_request_given.{own_new}
+use Rattle.gq_determined.proofs.thread_positions.First_request_given.{own_idle, own_new}
 use Rattle.gq_determined.proofs.thread_positions.First_request_given.{same_works, same_among}
 
 -- a leaf that takes up a request of the thread in one world does so in the other
-module _ (u : System) (g h : Tracked) (t : IsTracked u g) (th : IsTracked u h) (i x : ℕ) (is : who g x ≡ Some i) (is_h : who h x ≡ Some i)
+module _ (u : System) (g h : Tracked) (t : IsPlaced u g) (th : IsPlaced u h) (i x : ℕ) (is : who g x ≡ Some i) (is_h : who h x ≡ Some i)
     (s : IsSameThread i g h) where
   pub serving_other : IsServing g i x → IsServing h i x
   serving_other p = by (same_place u g h t th i s x x is is_h).how
@@ -44,7 +44,7 @@ module _ (u : System) (g h : Tracked) (t : IsTracked u g) (th : IsTracked u h) (
 -- TWO WORLDS
 
 -- what was of the leaf and what is of the thread are named together
-module _ (u : System) (g h : Tracked) (t : IsTracked u g) (th : IsTracked u h) (i x : ℕ) (b : IsGiven u g i x) (d : IsGiven u h i x)
+module _ (u : System) (g h : Tracked) (t : IsPlaced u g) (th : IsPlaced u h) (i x : ℕ) (b : IsGiven u g i x) (d : IsGiven u h i x)
     (s : IsSameThread i g h) (sx : IsSameThread x g h) where
   abbrev g_given : Tracked
   g_given = given g x i true
@@ -192,11 +192,14 @@ module _ (u : System) (g h : Tracked) (t : IsTracked u g) (th : IsTracked u h) (
 
 pub record Readies (u : System) (g : Tracked) (i x : ℕ) (o : Bool) : Type 0 where
   pub here : o ≡ true → IsGiven u g i x
+  -- where it becomes the thread's it is not shared, and was not
+  pub single : o ≡ true → is_unshared u x ≡ true
+  pub other : o ≡ true → g.own x ≢ i
   -- a leaf that is not shared is of the thread whose request it takes
   pub taken : (leaf : Leaf) → slice_get g.world.leaves x ≡ Some leaf → leaf.phase ≡ Serving → is_unshared u x ≡ true → o ≡ false → g.own x ≡ i
 
-pub readies : (u : System) (g : Tracked) (i x : ℕ) → who g x ≡ Some i → Readies u g i x (first_by u g x i (slice_get g.world.leaves x))
-readies u g i x is = by (who_is g i x is)
+pub readies : (u : System) (g : Tracked) → IsTracked u g → (i x : ℕ) → who g x ≡ Some i → Readies u g i x (first_by u g x i (slice_get g.world.leaves x))
+readies u g t i x is = by (who_is g i x is)
   where
     working : (leaf : Leaf) (found : Option (Request × List Request)) → (leaf.phase ≡ Running) ⊎ (leaf.phase ≡ Handling)
         → first_of u g x i leaf.phase found ≡ false
@@ -204,7 +207,12 @@ readies u g i x is = by (who_is g i x is)
     working leaf found (inr e) = ap (λ p. first_of u g x i p found) e
 
     none : (o : Bool) → o ≡ false → ((leaf : Leaf) → slice_get g.world.leaves x ≡ Some leaf → leaf.phase ≡ Serving → ⊥) → Readies u g i x o
-    none o e busy = record { here = λ f. absurd (true≢false (sym f ∙ e)); taken = λ leaf there serves single f. absurd (busy leaf there serves) }
+    none o e busy = record {
+      here = λ f. absurd (true≢false (sym f ∙ e));
+      single = λ f. absurd (true≢false (sym f ∙ e));
+      other = λ f. absurd (true≢false (sym f ∙ e));
+      taken = λ leaf there serves single f. absurd (busy leaf there serves);
+    }
 
     by : IsWorking g i x ⊎ IsServing g i x → Readies u g i x (first_by u g x i (slice_get g.world.leaves x))
     by (inl w) = none _ (ap (first_by u g x i) w.at.there ∙ working w.at.leaf (oldest g.world x g.world.requests) w.runs)
@@ -219,18 +227,20 @@ readies u g i x is = by (who_is g i x is)
         of : (a c : Bool) → is_unshared u x ≡ a → (g.own x == i) ≡ c → Readies u g i x (a && not c)
         of true true single own = record {
           here = λ f. absurd (true≢false (sym f));
+          single = λ f. absurd (true≢false (sym f));
+          other = λ f. absurd (true≢false (sym f));
           taken = λ leaf there serves unshared none. equal_of (g.own x) i own;
         }
         of true false single own = record {
-          here = λ f. record {
-            serving = p;
-            single = single;
-            other = λ e. true≢false (sym (ap (λ m. m == i) e ∙ equal_self i) ∙ own);
-          };
+          here = λ f. record { serving = p; idle = own_idle u g t i x p single (λ e. true≢false (sym (ap (λ m. m == i) e ∙ equal_self i) ∙ own)) };
+          single = λ f. single;
+          other = λ f e. true≢false (sym (ap (λ m. m == i) e ∙ equal_self i) ∙ own);
           taken = λ leaf there serves unshared none. absurd (true≢false none);
         }
         of false c single own = record {
           here = λ f. absurd (true≢false (sym f));
+          single = λ f. absurd (true≢false (sym f));
+          other = λ f. absurd (true≢false (sym f));
           taken = λ leaf there serves unshared none. absurd (true≢false (sym unshared ∙ single));
         }
 
@@ -244,7 +254,7 @@ own_who u g t i x is r = by (who_is g i x is)
     of : (phase : Phase) (current : Option Current) → (links g.world).stances x ≡ Some (stance phase current) → is_active phase ≡ true
         → thread_by g.root x current ≡ i
         → (single : Bool) → is_unshared u x ≡ single → (g.own x ≡ x) ⊎ (g.own x ≡ i)
-    of phase None at act is single e = inl (t.main x phase at act)
+    of phase None at act is single e = inl (t.placed.main x phase at act)
     of phase (Some q) at act is true e = inr (busy_below u g t x phase q at e ∙ is)
     of phase (Some q) at act is false e = inl (shared e)
 
@@ -284,16 +294,16 @@ module _ (u : System) (g h : Tracked) (t : IsTracked u g) (th : IsTracked u h) (
   both_ready false false r q = record { thread = s; leaf = leaf_own r q }
   both_ready true false r q =
       let b = r.here refl in
-      let p = serving_other u g h t th i x is is_h s b.serving in
-      absurd (b.other (reported_back (q.taken p.leaf p.there p.serves b.single refl)))
+      let p = serving_other u g h t.placed th.placed i x is is_h s b.serving in
+      absurd (r.other refl (reported_back (q.taken p.leaf p.there p.serves (r.single refl) refl)))
   both_ready false true r q =
       let d = q.here refl in
-      let p = serving_back u g h t th i x is is_h s d.serving in
-      absurd (d.other (reported (r.taken p.leaf p.there p.serves d.single refl)))
+      let p = serving_back u g h t.placed th.placed i x is is_h s d.serving in
+      absurd (q.other refl (reported (r.taken p.leaf p.there p.serves (q.single refl) refl)))
   both_ready true true r q =
       let b = r.here refl in
       let d = q.here refl in
       record {
-        thread = given_both u g h t th i x b d s (ends (x_else u g t i x b) (own_x u g t i x b) (own_x u h th i x d));
-        leaf = λ ne. absurd (ne (own_new u g t i x b));
+        thread = given_both u g h t.placed th.placed i x b d s (ends (x_else u g t.placed i x b) b.idle d.idle);
+        leaf = λ ne. absurd (ne (own_new u g t.placed i x b));
       }

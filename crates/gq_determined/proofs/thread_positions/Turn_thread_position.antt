@@ -20,7 +20,7 @@ use Rattle.gq_determined.specs.internal.Threads.{Tracked, thread_by, who_by, who
 use Rattle.gq_determined.specs.internal.Threads.{asker}
 use Rattle.gq_determined.proofs.regions.Region_changes.{within_there, within_here}
 use Rattle.gq_determined.proofs.regions.Related_around.{oldest_counts}
-use Rattle.gq_determined.proofs.thread_positions.Single_thread_position.{IsTracked, IsWaiting, pending, one_pending, IsBusy, IsRequested, busy_same}
+use Rattle.gq_determined.proofs.thread_positions.Single_thread_position.{IsPlaced, IsWaiting, pending, one_pending, IsBusy, IsRequested, busy_same}
 use Rattle.gq_determined.proofs.thread_positions.Single_thread_position.{busy_requested, requested_same}
 use Rattle.gq_determined.proofs.thread_positions.Single_thread_position.{root_waits, busy_waits}
 
@@ -147,7 +147,7 @@ at_back g h i y s a = by (slice_get g.world.leaves y) refl (s.leaves y ∙ works
 
 -- ONE PLACE
 
-module _ (system : System) (g : Tracked) (t : IsTracked system g) where
+module _ (system : System) (g : Tracked) (t : IsPlaced system g) where
   abbrev w : World
   w = g.world
 
@@ -258,7 +258,7 @@ module _ (system : System) (g : Tracked) (t : IsTracked system g) where
         by (r ∷ q ∷ rs) e = absurd (omega (arith, e))
 
 -- a thread for which a step is taken has its own leaf
-pub lives_who : (system : System) (g : Tracked) → IsTracked system g → (i y : ℕ) → who g y ≡ Some i → g.own i ≡ i
+pub lives_who : (system : System) (g : Tracked) → IsPlaced system g → (i y : ℕ) → who g y ≡ Some i → g.own i ≡ i
 lives_who system g t i y e = by (who_is g i y e)
   where
     of : (phase : Phase) (current : Option Current) → stance_in (slice_get g.world.leaves y) ≡ Some (stance phase current) → is_active phase ≡ true
@@ -316,7 +316,7 @@ module _ (w : World) (x : ℕ) (root : ℕ → ℕ) (y : ℕ) where
 
 -- THE SAME PLACE
 
-module _ (system : System) (g h : Tracked) (t : IsTracked system g) (u : IsTracked system h) (i : ℕ) (s : IsSameThread i g h) where
+module _ (system : System) (g h : Tracked) (t : IsPlaced system g) (u : IsPlaced system h) (i : ℕ) (s : IsSameThread i g h) where
   -- the thread takes up the same request in both worlds
   pub record ServesSame (x : ℕ) : Type 0 where
     pub first : IsServing g i x

@@ -60,7 +60,7 @@ module _ (u : System) (g : Tracked) (t : IsTracked u g) (stateless : IsStateless
   module _ (current : Current) (is : leaf.current ≡ Some current) (opens : opens_later u server c ≡ true) where
     handled : (s : Session) × (session_at g.world current.session ≡ Some s) × (s.server ≡ x)
     handled =
-        let m = t.linked.handles x leaf.phase current (ap stance_in there ∙ ap (λ o. Some (stance leaf.phase o)) is) in
+        let m = t.placed.linked.handles x leaf.phase current (ap stance_in there ∙ ap (λ o. Some (stance leaf.phase o)) is) in
         let s = outlined (session_at g.world current.session) m.0 m.1 in
         (s.0, s.1, ap (λ (s : Session). s.server) s.2 ∙ m.2)
 
@@ -68,7 +68,7 @@ module _ (u : System) (g : Tracked) (t : IsTracked u g) (stateless : IsStateless
     for = t.stands current.session handled.0 handled.1
 
     root_is : g.root current.session ≡ g.own for.z
-    root_is = t.below current.session handled.0 handled.1 ∙ for.is
+    root_is = t.placed.below current.session handled.0 handled.1 ∙ for.is
 
     own_is : (a : ℕ) → place ≡ Own a → (b : Bool) → is_unshared u x ≡ b → g.own x ≡ g.own for.z
     own_is a e true single =

@@ -159,7 +159,7 @@ module _ (u : System) (x : ℕ) (c : Component) (G : Instruction → Type 0) whe
       by false is = among (λ p. not (in_main p.0) && opens u server c p.1) (ap (λ b. not b && opens u server c p.1) is ∙ e)
 
   -- sections that have no such statement
-  sections_none : (test : Section → Instruction → Bool) (sections : List (Section × Statements)) → stated_in test c.label sections ≡ []
+  pub sections_none : (test : Section → Instruction → Bool) (sections : List (Section × Statements)) → stated_in test c.label sections ≡ []
       → Each (λ p. AllAre G p.1) sections → Each (λ p. AllAre (λ i. test p.0 i ≡ false) p.1) sections
   sections_none test [] none g = tt
   sections_none test (p ∷ rest) none g = (
@@ -167,7 +167,7 @@ module _ (u : System) (x : ℕ) (c : Component) (G : Instruction → Type 0) whe
     sections_none test rest (none_right (each_stated c.label p.0 (found_in (test p.0) 1 p.1)) _ none) g.1,
   )
 
-  sections_there : (sections : List (Section × Statements)) → Each (λ p. AllAre G p.1) sections
+  pub sections_there : (sections : List (Section × Statements)) → Each (λ p. AllAre G p.1) sections
       → ((test : Section × Statements → Bool) → any_of test sections ≡ true → any_of test c.node.program.sections ≡ true)
       → Each (λ p. AllAre (OpensThere u c (not (in_main p.0))) p.1) sections
   sections_there [] g among = tt
@@ -181,7 +181,7 @@ each_three : (P Q R : Section × Statements → Type 0) (sections : List (Sectio
 each_three P Q R [] h k l = tt
 each_three P Q R (p ∷ rest) h k l = ((h.0, k.0, l.0), each_three P Q R rest h.1 k.1 l.1)
 
-each_other : (P Q : Section × Statements → Type 0) → ((p : Section × Statements) → P p → Q p) → (sections : List (Section × Statements)) → Each P sections
+pub each_other : (P Q : Section × Statements → Type 0) → ((p : Section × Statements) → P p → Q p) → (sections : List (Section × Statements)) → Each P sections
     → Each Q sections
 each_other P Q f [] h = tt
 each_other P Q f (p ∷ rest) h = (f p h.0, each_other P Q f rest h.1)

@@ -20,7 +20,7 @@ use Rattle.gq_determined.specs.internal.Threads.{events_of, shows, works, IsSame
 use Rattle.gq_determined.specs.internal.Thread_machines.{is_for}
 use Rattle.gq_determined.proofs.machines.By_threads.{after, shown, AreThreads, agree_ended, prefixes}
 use Rattle.gq_determined.proofs.regions.Outside_region_kept.{empty_waits}
-use Rattle.gq_determined.proofs.thread_positions.Single_thread_position.{IsOpened, IsTracked, IsByCurrent}
+use Rattle.gq_determined.proofs.thread_positions.Single_thread_position.{IsOpened, IsPlaced, IsTracked, IsByCurrent}
 use Rattle.gq_determined.proofs.thread_runs.Suitable_session_slots.{kept_suited}
 use Rattle.gq_determined.proofs.thread_runs.Opened_session_owner.{FirstOpens, firsts_opened}
 use Rattle.gq_model.specs.rules.Resolve.{cycle_fault}
@@ -33,7 +33,7 @@ use Rattle.gq_determined.proofs.thread_steps.Thread_reflexivity.{thread_itself}
 use Rattle.gq_determined.proofs.thread_steps.Own_steps.{for_working, for_serving}
 use Rattle.gq_determined.proofs.thread_steps.Tracked_step_world.{still_tracked}
 use Rattle.gq_determined.proofs.thread_steps.Thread_step_frame.{same_else, unseen_left, unseen_right}
-use Rattle.gq_determined.proofs.thread_steps.Stateless_thread_agreement.{IsStateless, Solo, solo}
+use Rattle.gq_determined.proofs.thread_steps.Stateless_thread_agreement.{IsStateless, still_of, reads_none, Solo, solo}
 use Rattle.gq_determined.proofs.thread_steps.Paired_thread_step.{ended_of, go, same_after}
 
 -- THE START
@@ -45,18 +45,22 @@ start_waits (c ∷ cs) (suc y) a k e = start_waits cs y a k e
 
 pub start_tracked : (u : System) → cycle_fault u 0 u.components ≡ None → IsTracked u (tracked_start u)
 start_tracked u acyclic = record {
-  acyclic = acyclic;
-  linked = start_linked u;
-  below = λ k s e. absurd (none_some e);
-  waits = waits;
+  placed = record {
+    acyclic = acyclic;
+    linked = start_linked u;
+    below = λ k s e. absurd (none_some e);
+    waits = waits;
+    uses = λ k s e. absurd (none_some e);
+    lives = λ k s e. absurd (none_some e);
+    main = λ y phase at act. refl;
+    held = λ y phase q at ne. absurd (ne refl);
+  };
   stands = λ k s e. absurd (none_some e);
   owned = record { opened = λ x ne. absurd (ne refl); whole = λ x. refl };
-  lives = λ k s e. absurd (none_some e);
-  main = λ y phase at act. refl;
   busy = λ y phase q at single. absurd (start_idle u.components y phase q at);
 }
   where
-    waits : (q : SlotId) (k : ℕ) → slot_at (start u) q ≡ Some (Waiting k) → IsByCurrent u (start u) q
+    waits : (q : SlotId) (k : ℕ) → slot_at (start u) q ≡ Some (Waiting k) → IsByCurrent (tracked_start u).own (start u) q
     waits (In_leaf y a) k e = absurd (start_waits u.components y a k e)
     waits (In_session j a) k e = absurd (none_some e)
     waits (In_object j) k e = absurd (none_some e)
@@ -112,6 +116,7 @@ module _ (u : System) (pays : (z : World) → paid u z ≡ true) where
       pub is : who (given g x i o) x ≡ Some i
       pub works_same : (j y : ℕ) → works (given g x i o) j y ≡ works g j y
       pub taken : (leaf : Leaf) → slice_get g.world.leaves x ≡ Some leaf → is_unshared u x ≡ true → leaf.phase ≡ Serving → (given g x i o).own x ≢ x
+      pub own_taken : (leaf : Leaf) → slice_get g.world.leaves x ≡ Some leaf → leaf.phase ≡ Serving → (given g x i o).own x ≢ x → (given g x i o).own x ≡ i
       -- another thread is the same, or becomes this one's
       pub own_back : (j y : ℕ) → j ≢ i → (given g x i o).own y ≡ j → g.own y ≡ j
       pub left : (j : ℕ) → j ≢ i → (given g x i o).own j ≡ j → (h : Tracked) → IsSameThread j g h → IsSameThread j (given g x i o) h
@@ -129,7 +134,8 @@ module _ (u : System) (pays : (z : World) → paid u z ≡ true) where
       is = is;
       works_same = λ j y. refl;
       taken = λ leaf there single serves e.
-          serving_else u g t i x (serving_who g i x is leaf there serves) (sym e ∙ r.taken leaf there serves single refl);
+          serving_else u g t.placed i x (serving_who g i x is leaf there serves) (sym e ∙ r.taken leaf there serves single refl);
+      own_taken = λ leaf there serves ne. r.taken leaf there serves (t.owned.opened x ne).single refl;
       own_back = λ j y ne e. e;
       left = λ j ne e h s. s;
       right = λ j ne e h s. s;
@@ -140,19 +146,20 @@ module _ (u : System) (pays : (z : World) → paid u z ≡ true) where
     ready_by g t x i is true r =
         let b = r.here refl in
         record {
-          tracks = given_tracked u g t i x b;
-          is = who_same u g t i x b;
-          works_same = same_works u g t i x b;
-          taken = λ leaf there single serves. own_else u g t i x b;
-          own_back = own_else_back u g t i x b;
-          left = λ j ne e. given_left u g t i x b j ne (λ same. own_else u g t i x b (subst (λ y. (given g x i true).own y ≡ y) same e));
-          right = λ j ne e. given_right u g t i x b j ne (λ same. own_else u g t i x b (subst (λ y. (given g x i true).own y ≡ y) same e));
-          own_from = λ y e. elim (own_from u g t i x b y e) [
+          tracks = given_tracked u g t i x b (r.single refl);
+          own_taken = λ leaf there serves ne. own_new u g t.placed i x b;
+          is = who_same u g t.placed i x b;
+          works_same = same_works u g t.placed i x b;
+          taken = λ leaf there single serves. own_else u g t.placed i x b;
+          own_back = own_else_back u g t.placed i x b;
+          left = λ j ne e. given_left u g t.placed i x b j ne (λ same. own_else u g t.placed i x b (subst (λ y. (given g x i true).own y ≡ y) same e));
+          right = λ j ne e. given_right u g t.placed i x b j ne (λ same. own_else u g t.placed i x b (subst (λ y. (given g x i true).own y ≡ y) same e));
+          own_from = λ y e. elim (own_from u g t.placed i x b y e) [
             | inl q ↦ inl q
-            | inr q ↦ inr (q, own_x u g t i x b, x_else u g t i x b, own_new u g t i x b)
+            | inr q ↦ inr (q, b.idle, x_else u g t.placed i x b, own_new u g t.placed i x b)
           ];
-          own_moves = λ y e ne. (own_moves u g t i x b y e ne, x_else u g t i x b);
-          own_stays = own_stays u g t i x b;
+          own_moves = λ y e ne. (own_moves u g t.placed i x b y e ne, x_else u g t.placed i x b);
+          own_stays = own_stays u g t.placed i x b;
         }
 
     pub all_tracked : (a : List ℕ) → IsTracked u (tracked a)
@@ -164,28 +171,30 @@ module _ (u : System) (pays : (z : World) → paid u z ≡ true) where
         by t (Some i) e =
             let c = component_of a x i e in
             let p = good.goes a x in
-            let r = ready_by (tracked a) t x i e (shift a x i) (readies u (tracked a) i x e) in
-            let one = solo u pays (before a x i) r.tracks (good.stateless a) i x r.is c.0 c.1 p.0.0 p.0.1 p.1 in
+            let r = ready_by (tracked a) t x i e (shift a x i) (readies u (tracked a) t i x e) in
+            let one = solo u pays (before a x i) r.tracks.placed (still_of u (before a x i) r.tracks (good.stateless a)) i x r.is c.0 c.1 p.0.0 p.0.1 p.1 in
             subst (IsTracked u) (sym (turn_is a x i e))
             (still_tracked u (before a x i) r.tracks i x c.0 one.a one.there p.0.0 p.0.1 one.done
             (kept_suited (IsOpened u (before a x i).own (before a x i).root) u (before a x i).world x p.0.0 p.0.1 (record { at = r.tracks.stands })
             (firsts_opened u (before a x i) r.tracks (good.stateless a) (good.opens a)) p.1).at
-            (lives_who u (before a x i) r.tracks i x r.is) (λ single serves. r.taken one.a one.there single serves))
+            (lives_who u (before a x i) r.tracks.placed i x r.is) (λ serves ne. r.own_taken one.a one.there serves ne)
+            (λ single serves. r.taken one.a one.there single serves))
 
     pub ready_at : (a : List ℕ) (x i : ℕ) → who (tracked a) x ≡ Some i → IsReady (tracked a) x i (shift a x i)
-    ready_at a x i is = ready_by (tracked a) (all_tracked a) x i is (shift a x i) (readies u (tracked a) i x is)
+    ready_at a x i is = ready_by (tracked a) (all_tracked a) x i is (shift a x i) (readies u (tracked a) (all_tracked a) i x is)
 
     abbrev SoloAt : (a : List ℕ) (x i : ℕ) → who (tracked a) x ≡ Some i → Type 0
     SoloAt a x i is =
         let r = ready_at a x i is in
-        Solo u pays (before a x i) r.tracks (good.stateless a) i x r.is (component_of a x i is).0 (component_of a x i is).1 (good.goes a x).0.0
+        Solo u pays (before a x i) r.tracks.placed (still_of u (before a x i) r.tracks (good.stateless a)) i x r.is (component_of a x i is).0
+        (component_of a x i is).1 (good.goes a x).0.0
 
     solo_at : (a : List ℕ) (x i : ℕ) (is : who (tracked a) x ≡ Some i) → SoloAt a x i is
     solo_at a x i is =
         let c = component_of a x i is in
         let p = good.goes a x in
         let r = ready_at a x i is in
-        solo u pays (before a x i) r.tracks (good.stateless a) i x r.is c.0 c.1 p.0.0 p.0.1 p.1
+        solo u pays (before a x i) r.tracks.placed (still_of u (before a x i) r.tracks (good.stateless a)) i x r.is c.0 c.1 p.0.0 p.0.1 p.1
 
     pub not_for : (i j : ℕ) → is_for i (Some j) ≡ false → i ≢ j
     not_for i j e same = true≢false (sym (ap (λ n. n == i) (sym same) ∙ equal_self i) ∙ e)
@@ -199,7 +208,7 @@ module _ (u : System) (pays : (z : World) → paid u z ≡ true) where
         let r = ready_at a x j is in
         let p = good.goes a x in
         ap (λ g. works g i i) (turn_is a x j is)
-        ∙ (same_else u (before a x j) r.tracks j x (component_of a x j is).0 one.a one.there p.0.0 one.done i i ne ∙ r.works_same i i)
+        ∙ (same_else u (before a x j) r.tracks.placed j x (component_of a x j is).0 one.a one.there p.0.0 one.done i i ne ∙ r.works_same i i)
 
     -- whose a leaf is does not change with the step itself
     pub own_is : (a : List ℕ) (x j : ℕ) → who (tracked a) x ≡ Some j → (y : ℕ) → (tracked (x ∷ a)).own y ≡ (before a x j).own y
@@ -222,7 +231,7 @@ module _ (u : System) (pays : (z : World) → paid u z ≡ true) where
                 let p = good.goes a x in
                 let now : (before a x j).own i ≡ i = sym (own_is a x j e i) ∙ own in
                 subst (λ g. IsSameThread i g (tracked b)) (sym (turn_is a x j e))
-                (unseen_left u (before a x j) r.tracks j x (component_of a x j e).0 one.a one.there p.0.0 one.done p.0.1 (tracked b) i ne
+                (unseen_left u (before a x j) r.tracks.placed j x (component_of a x j e).0 one.a one.there p.0.0 one.done p.0.1 (tracked b) i ne
                 (r.left i ne now (tracked b) (s.whole (r.own_back i i ne now) own_b)))
 
     right : (i : ℕ) (a b : List ℕ) (x : ℕ) → is_for i (who (tracked b) x) ≡ false → IsAlike i (tracked a) (tracked b) → IsAlike i (tracked a) (tracked (x ∷ b))
@@ -242,7 +251,7 @@ module _ (u : System) (pays : (z : World) → paid u z ≡ true) where
                 let p = good.goes b x in
                 let now : (before b x j).own i ≡ i = sym (own_is b x j e i) ∙ own in
                 subst (IsSameThread i (tracked a)) (sym (turn_is b x j e))
-                (unseen_right u (before b x j) r.tracks j x (component_of b x j e).0 one.a one.there p.0.0 one.done p.0.1 (tracked a) i ne
+                (unseen_right u (before b x j) r.tracks.placed j x (component_of b x j e).0 one.a one.there p.0.0 one.done p.0.1 (tracked a) i ne
                 (r.right i ne now (tracked a) (s.whole own_a (r.own_back i i ne now))))
 
     stops : (i : ℕ) (a : List ℕ) (x : ℕ) → HasEnded i (tracked a) → who (tracked a) x ≢ Some i
@@ -251,8 +260,8 @@ module _ (u : System) (pays : (z : World) → paid u z ≡ true) where
         g : Tracked
         g = tracked a
 
-        t : IsTracked u g
-        t = all_tracked a
+        t : IsPlaced u g
+        t = (all_tracked a).placed
 
         by : (IsWorking g i x × IsWorking g i x) ⊎ ServesSame u g g t t i (thread_itself i g) x → works g i i ≡ true
         by (inl w) = (for_working u pays g g t t i x (thread_itself i g) (λ ne. thread_itself (g.own x) g) (component_of a x i is).0 w.0.at.leaf w.0.at.leaf
@@ -272,8 +281,9 @@ module _ (u : System) (pays : (z : World) → paid u z ≡ true) where
         let t = all_tracked a in
         let th = all_tracked b in
         both_ready u (tracked a) (tracked b) t th i x is is_b s
-        (λ ne own own_b. (ends x (ended_of u (tracked a) t i x is ne) (ended_of u (tracked b) th i x is_b ne)).whole own own_b) (shift a x i) (shift b x i)
-        (readies u (tracked a) i x is) (readies u (tracked b) i x is_b)
+        (λ ne own own_b. (ends x (ended_of u (tracked a) t.placed i x is ne) (ended_of u (tracked b) th.placed i x is_b ne)).whole own own_b) (shift a x i)
+        (shift b x i)
+        (readies u (tracked a) (all_tracked a) i x is) (readies u (tracked b) (all_tracked b) i x is_b)
 
     -- a step for the same thread in both
     own_same : (i : ℕ) (a b : List ℕ) (x : ℕ) → who (tracked a) x ≡ Some i → who (tracked b) x ≡ Some i → IsSameThread i (tracked a) (tracked b) → Ends a b
@@ -286,12 +296,15 @@ module _ (u : System) (pays : (z : World) → paid u z ≡ true) where
         let rg = ready_at a x i is in
         let rh = ready_at b x i is_b in
         let both = both_before i a b x is is_b s ends in
-        let r = go u pays g h rg.tracks rh.tracks (good.stateless a) (good.stateless b) i x both.thread both.leaf rg.is rh.is c.0 c.1 p.0.0 p.0.1 p.1 in
+        let r = go u pays g h rg.tracks.placed rh.tracks.placed (still_of u g rg.tracks (good.stateless a)) (still_of u h rh.tracks (good.stateless b))
+        (reads_none u g.world h.world (good.stateless a)) i x both.thread both.leaf rg.is rh.is c.0 c.1 p.0.0 p.0.1 p.1 in
         let after_b : tracked (x ∷ b) ≡ stepped_to h x i (Ok (r.goes.other_new, p.0.1))
         = ap (turn_for u (tracked b) x) is_b ∙ ap (stepped_to h x i) r.goes.goes in (
           subst (λ g. IsSameThread i g (tracked (x ∷ b))) (sym (turn_is a x i is))
               (subst (IsSameThread i (stepped_to g x i (Ok p.0))) (sym after_b)
-              (same_after u pays g h rg.tracks rh.tracks (good.stateless a) (good.stateless b) i x both.thread both.leaf rg.is rh.is c.0 c.1 p.0.0 p.0.1
+              (same_after u pays g h rg.tracks.placed rh.tracks.placed (still_of u g rg.tracks (good.stateless a))
+              (still_of u h rh.tracks (good.stateless b))
+              (reads_none u g.world h.world (good.stateless a)) i x both.thread both.leaf rg.is rh.is c.0 c.1 p.0.0 p.0.1
               p.1 r)),
           ap (events_of x) p.1 ∙ sym (ap (events_of x) r.goes.goes),
         )
@@ -299,11 +312,11 @@ module _ (u : System) (pays : (z : World) → paid u z ≡ true) where
     own : (i : ℕ) (a b : List ℕ) (x y : ℕ) → who (tracked a) x ≡ Some i → who (tracked b) y ≡ Some i → IsAlike i (tracked a) (tracked b) → Ends a b
         → IsAlike i (tracked (x ∷ a)) (tracked (y ∷ b)) × (shows u (tracked a) x ≡ shows u (tracked b) y)
     own i a b x y is is_b alike ends =
-        let e = (same_place u (tracked a) (tracked b) (all_tracked a) (all_tracked b) i s x y is is_b).leaf in
+        let e = (same_place u (tracked a) (tracked b) (all_tracked a).placed (all_tracked b).placed i s x y is is_b).leaf in
         move y e is_b
       where
         s : IsSameThread i (tracked a) (tracked b)
-        s = alike.whole (lives_who u (tracked a) (all_tracked a) i x is) (lives_who u (tracked b) (all_tracked b) i y is_b)
+        s = alike.whole (lives_who u (tracked a) (all_tracked a).placed i x is) (lives_who u (tracked b) (all_tracked b).placed i y is_b)
 
         move : (z : ℕ) → x ≡ z → who (tracked b) z ≡ Some i
             → IsAlike i (tracked (x ∷ a)) (tracked (z ∷ b)) × (shows u (tracked a) x ≡ shows u (tracked b) z)
@@ -339,7 +352,7 @@ module _ (u : System) (pays : (z : World) → paid u z ≡ true) where
         by : (o : Option ℕ) → who (tracked a) x ≡ o → (tracked a).own y ≡ y
         by None e = sym (ap (λ (g : Tracked). g.own y) (turn_none a x e)) ∙ own
         by (Some j) e = elim (eqb_tells y j) [
-          | inl q ↦ subst (λ y. (tracked a).own y ≡ y) (sym q.1) (lives_who u (tracked a) (all_tracked a) j x e)
+          | inl q ↦ subst (λ y. (tracked a).own y ≡ y) (sym q.1) (lives_who u (tracked a) (all_tracked a).placed j x e)
           | inr q ↦ (ready_at a x j e).own_back y y q.1 (sym (own_is a x j e y) ∙ own)
         ]
 
@@ -360,7 +373,7 @@ module _ (u : System) (pays : (z : World) → paid u z ≡ true) where
         here own None e = absurd (ne (ap (λ (g : Tracked). g.own i) (turn_none a x e) ∙ own))
         here own (Some j) e =
             let m = (ready_at a x j e).own_moves i own (λ q. ne (own_is a x j e i ∙ q)) in
-            subst (λ i. HasEnded i (tracked a)) (sym m.0) (ended_of u (tracked a) (all_tracked a) j x e m.1)
+            subst (λ i. HasEnded i (tracked a)) (sym m.0) (ended_of u (tracked a) (all_tracked a).placed j x e m.1)
 
         by : ((((tracked a).own i == i) ≡ true) × ((tracked a).own i ≡ i)) ⊎ ((((tracked a).own i == i) ≡ false) × ((tracked a).own i ≢ i))
             → ((tracked a).own i ≢ i → IsBefore a i) → IsBefore (x ∷ a) i

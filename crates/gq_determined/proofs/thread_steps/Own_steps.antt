@@ -25,7 +25,7 @@ use Rattle.gq_determined.proofs.passing_threads.Kept_around.{AreTaken, Match, Fi
 use Rattle.gq_determined.proofs.regions.Outside_region_kept.{else_first}
 use Rattle.gq_determined.proofs.regions.Related_step_worlds.{IsBelow, Ours, Mine, IsRelated, IsRelatedWithin, IsBefore}
 use Rattle.gq_determined.proofs.regions.Related_around.{IsOne, kept_around}
-use Rattle.gq_determined.proofs.thread_positions.Single_thread_position.{root_at, IsTracked, IsWaiting, IsHandled, handled, IsFirst, HasParent, above}
+use Rattle.gq_determined.proofs.thread_positions.Single_thread_position.{root_at, IsPlaced, IsWaiting, IsHandled, handled, IsFirst, HasParent, above}
 use Rattle.gq_determined.proofs.thread_positions.Single_thread_position.{root_waits}
 use Rattle.gq_determined.proofs.regions.Renamed_regions.{region_renamed, region_roots, at_renamed}
 use Rattle.gq_determined.proofs.thread_positions.Turn_thread_position.{IsWorking, ServesSame, taken_there, works_at, requested}
@@ -70,7 +70,7 @@ accept_leaf d l None slots peaks steps inputs = refl
 accept_leaf d l (Some p) slots peaks steps inputs =
     λ j. accept (record d { leaf = record d.leaf { slots = slots j; peaks = peaks j; steps = steps j; inputs = inputs j } }) p.0 p.1
 
-module _ (u : System) (pays : (z : World) → paid u z ≡ true) (g h : Tracked) (t : IsTracked u g) (th : IsTracked u h) (i x : ℕ)
+module _ (u : System) (pays : (z : World) → paid u z ≡ true) (g h : Tracked) (t : IsPlaced u g) (th : IsPlaced u h) (i x : ℕ)
     (s : IsSameThread i g h) (sx : g.own x ≢ i → IsSameThread (g.own x) g h) (component : Component) (a b : Leaf)
     (there : slice_get g.world.leaves x ≡ Some a) (there_h : slice_get h.world.leaves x ≡ Some b) where
   abbrev pub d : Doing

@@ -12,20 +12,20 @@ use Rattle.gq_model.specs.machine.Step.{next}
 use Rattle.gq_model.proofs.Small_facts.{none_some, some_none, some_same}
 use Rattle.gq_laws.specs.internal.Renamed.{renamed_leaf}
 use Rattle.gq_determined.specs.internal.Threads.{Tracked, thread_by, who, more_of, stepped_to, works, works_for, is_active, seen, IsAtSame, IsSameThread}
-use Rattle.gq_determined.proofs.thread_positions.Single_thread_position.{IsTracked}
+use Rattle.gq_determined.proofs.thread_positions.Single_thread_position.{IsPlaced}
 use Rattle.gq_determined.proofs.thread_positions.Turn_thread_position.{IsWorking, ServesSame, same_place}
 use Rattle.gq_determined.proofs.thread_steps.Thread_reflexivity.{thread_itself}
 use Rattle.gq_determined.proofs.thread_steps.Own_steps.{Goes}
 use Rattle.gq_determined.proofs.thread_steps.Own_steps as own
 use Rattle.gq_determined.proofs.thread_steps.Thread_step_frame.{seen_active, works_else, thread_new}
-use Rattle.gq_determined.proofs.thread_steps.Stateless_thread_agreement.{IsStateless, Solo, solo, BothGo, both_go}
+use Rattle.gq_determined.proofs.thread_steps.Stateless_thread_agreement.{IsStill, ReadSame, Solo, solo, BothGo, both_go}
 
 and_false : (b : Bool) → (b && false) ≡ false
 and_false true = refl
 and_false false = refl
 
 -- where a leaf takes a step for another thread, its `main` has ended
-pub ended_of : (u : System) (g : Tracked) (t : IsTracked u g) (i x : ℕ) → who g x ≡ Some i → x ≢ i → works g x x ≡ false
+pub ended_of : (u : System) (g : Tracked) (t : IsPlaced u g) (i x : ℕ) → who g x ≡ Some i → x ≢ i → works g x x ≡ false
 ended_of u g t i x is ne = by (same_place u g g t t i (thread_itself i g) x x is is).how
   where
     by : (IsWorking g i x × IsWorking g i x) ⊎ ServesSame u g g t t i (thread_itself i g) x → works g x x ≡ false
@@ -35,15 +35,16 @@ ended_of u g t i x is ne = by (same_place u g g t t i (thread_itself i g) x x is
         out = elim (eqb_tells (thread_by g.root x w.0.at.leaf.current) x) [ inl q ↦ absurd (ne (sym q.1 ∙ w.0.at.thread)) | inr q ↦ q.0 ]
     by (inr w) = ap (works_for g.root x x) w.first.there ∙ ap (λ p. is_active p && (thread_by g.root x w.first.leaf.current == x)) w.first.serves
 
-module _ (u : System) (pays : (z : World) → paid u z ≡ true) (g h : Tracked) (t : IsTracked u g) (th : IsTracked u h) (sg : IsStateless u g.world)
-    (sh : IsStateless u h.world) (i x : ℕ) (s : IsSameThread i g h) (sx : g.own x ≢ i → IsSameThread (g.own x) g h) (is : who g x ≡ Some i)
+module _ (u : System) (pays : (z : World) → paid u z ≡ true) (g h : Tracked) (t : IsPlaced u g) (th : IsPlaced u h) (sg : IsStill g)
+    (sh : IsStill h) (reads : ReadSame g.world h.world) (i x : ℕ) (s : IsSameThread i g h) (sx : g.own x ≢ i → IsSameThread (g.own x) g h)
+    (is : who g x ≡ Some i)
     (is_h : who h x ≡ Some i)
     (component : Component) (placed : slice_get u.components x ≡ Some component) (new : World) (event : Event)
     (stepped : next u g.world x ≡ Ok (new, event)) where
-  abbrev pub go : BothGo u pays g h t th sg i x is s sx component placed new event
-  go = both_go u pays g h t th sg i x is s sx component placed (same_place u g h t th i s x x is is_h).how new event stepped
+  abbrev pub go : BothGo u pays g h t th sg reads i x is s sx component placed new event
+  go = both_go u pays g h t th sg reads i x is s sx component placed (same_place u g h t th i s x x is is_h).how new event stepped
 
-  module _ (r : BothGo u pays g h t th sg i x is s sx component placed new event) where
+  module _ (r : BothGo u pays g h t th sg reads i x is s sx component placed new event) where
     abbrev v : World
     v = r.goes.other_new
 

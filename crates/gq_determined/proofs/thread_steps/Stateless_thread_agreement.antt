@@ -32,7 +32,7 @@ use Rattle.gq_races.specs.Races.{is_own, changes_own, reads_input}
 use Rattle.gq_determined.specs.internal.Threads.{is_unshared, Tracked, thread_by, anew, who, works, works_for, is_active, IsSameThread}
 use Rattle.gq_determined.proofs.passing_threads.Kept_by_steps.{Aside, MayChange, IsAllowed}
 use Rattle.gq_determined.proofs.passing_threads.Kept_around.{FirstAllowed}
-use Rattle.gq_determined.proofs.thread_positions.Single_thread_position.{IsTracked, busy_below}
+use Rattle.gq_determined.proofs.thread_positions.Single_thread_position.{IsPlaced, IsTracked}
 use Rattle.gq_determined.proofs.regions.Region_changes.{put_at}
 use Rattle.gq_determined.proofs.thread_positions.Turn_thread_position.{lives_who, taken_there, IsWorking, IsServing, ServesSame, same_place}
 use Rattle.gq_determined.proofs.thread_steps.Thread_reflexivity.{thread_itself}
@@ -46,6 +46,31 @@ pub record IsStateless (u : System) (w : World) : Type 0 where
       → is_unshared u x ≡ false → leaf.todo ≡ Do i rest → changes_own i ≡ false
   pub unread : (x : ℕ) (leaf : Leaf) (i : Instruction) (rest : Statements) → slice_get w.leaves x ≡ Some leaf → leaf.todo ≡ Do i rest
       → reads_input i ≡ false
+
+-- a leaf that is its own outside `main` changes no own slot next
+pub record IsStill (g : Tracked) : Type 0 where
+  pub keeps : (x : ℕ) (leaf : Leaf) (q : Current) (i : Instruction) (rest : Statements) → slice_get g.world.leaves x ≡ Some leaf → leaf.current ≡ Some q
+      → g.own x ≡ x → leaf.todo ≡ Do i rest → changes_own i ≡ false
+
+-- what comes first reads no input, or the inputs are the same
+pub record ReadSame (w v : World) : Type 0 where
+  pub same : (x : ℕ) (a b : Leaf) (i : Instruction) (rest : Statements) → slice_get w.leaves x ≡ Some a → slice_get v.leaves x ≡ Some b → a.todo ≡ Do i rest
+      → (reads_input i ≡ false) ⊎ (a.inputs ≡ b.inputs)
+
+pub reads_itself : (w : World) → ReadSame w w
+reads_itself w = record { same = λ x a b i rest at at_b is. inr (ap (λ (l : Leaf). l.inputs) (some_same (sym at ∙ at_b))) }
+
+pub reads_none : (u : System) (w v : World) → IsStateless u w → ReadSame w v
+reads_none u w v h = record { same = λ x a b i rest at at_b is. inl (h.unread x a i rest at is) }
+
+pub still_of : (u : System) (g : Tracked) → IsTracked u g → IsStateless u g.world → IsStill g
+still_of u g t h = record { keeps = λ x leaf q i rest there at own is. by x leaf q i rest there at own is (is_unshared u x) refl }
+  where
+    by : (x : ℕ) (leaf : Leaf) (q : Current) (i : Instruction) (rest : Statements) → slice_get g.world.leaves x ≡ Some leaf → leaf.current ≡ Some q
+        → g.own x ≡ x → leaf.todo ≡ Do i rest → (single : Bool) → is_unshared u x ≡ single → changes_own i ≡ false
+    by x leaf q i rest there at own is true single =
+        absurd (t.busy x leaf.phase q (ap stance_in there ∙ ap (λ o. Some (stance leaf.phase o)) at) single own)
+    by x leaf q i rest there at own is false shared = h.keeps x leaf q i rest there at shared is
 
 -- a statement on operands alone that reads no input leaves the same with other inputs
 pub unread_same : (b : Bench) (inputs : List ℕ) (s : OperandStatement) → reads_input (Operands s) ≡ false
@@ -67,8 +92,16 @@ module _ (f : ℕ → ℕ) (aside : Aside) (d : Doing) (v : World) (K : World �
   abbrev May : OperandSlot → Type 0
   May = MayChange f aside d v K M O
 
+  -- no input is read, or the same in the other world
+  abbrev Reads : Instruction → Type 0
+  Reads i = (reads_input i ≡ false) ⊎ (d.leaf.inputs ≡ aside.inputs d.leaf.inputs)
+
+  operands_allowed : (s : OperandStatement) → Reads (Operands s) → operate (bench d) s ≡ operate (record (bench d) { inputs = aside.inputs d.leaf.inputs }) s
+  operands_allowed s (inl e) = unread_same (bench d) (aside.inputs d.leaf.inputs) s e
+  operands_allowed s (inr e) = λ j. operate (record (bench d) { inputs = e j }) s
+
   module _ (may : (place : OperandSlot) → May place) where
-    pub all_allowed : (i : Instruction) → reads_input i ≡ false → IsAllowed f aside d v K M O i
+    pub all_allowed : (i : Instruction) → Reads i → IsAllowed f aside d v K M O i
     all_allowed (Make form place m) e = may place
     all_allowed (MakePool place m k) e = may place
     all_allowed (Store width place) e = may place
@@ -82,7 +115,7 @@ module _ (f : ℕ → ℕ) (aside : Aside) (d : Doing) (v : World) (K : World �
     all_allowed (Close place) e = may place
     all_allowed (Say text) e = tt
     all_allowed Out e = tt
-    all_allowed (Operands s) e = unread_same (bench d) (aside.inputs d.leaf.inputs) s e
+    all_allowed (Operands s) e = operands_allowed s e
     all_allowed (Load width place) e = tt
     all_allowed (Peek place) e = tt
 
@@ -91,7 +124,7 @@ module _ (f : ℕ → ℕ) (aside : Aside) (d : Doing) (v : World) (K : World �
   not_own (Shared i) e = tt
   not_own Object e = tt
 
-  none_allowed : (i : Instruction) → changes_own i ≡ false → reads_input i ≡ false → IsAllowed f aside d v K M O i
+  none_allowed : (i : Instruction) → changes_own i ≡ false → Reads i → IsAllowed f aside d v K M O i
   none_allowed (Make form place m) e r = not_own place e
   none_allowed (MakePool place m k) e r = not_own place e
   none_allowed (Store width place) e r = not_own place e
@@ -105,7 +138,7 @@ module _ (f : ℕ → ℕ) (aside : Aside) (d : Doing) (v : World) (K : World �
   none_allowed (Close place) e r = not_own place e
   none_allowed (Say text) e r = tt
   none_allowed Out e r = tt
-  none_allowed (Operands s) e r = unread_same (bench d) (aside.inputs d.leaf.inputs) s r
+  none_allowed (Operands s) e r = operands_allowed s r
   none_allowed (Load width place) e r = tt
   none_allowed (Peek place) e r = tt
 
@@ -119,8 +152,9 @@ module _ (f : ℕ → ℕ) (aside : Aside) (d : Doing) (v : World) (K : World �
 
 -- A STEP IN TWO WORLDS
 
-module _ (u : System) (pays : (z : World) → paid u z ≡ true) (g h : Tracked) (t : IsTracked u g) (th : IsTracked u h) (stateless : IsStateless u g.world)
-    (i x : ℕ) (is : who g x ≡ Some i) (s : IsSameThread i g h) (sx : g.own x ≢ i → IsSameThread (g.own x) g h) (component : Component)
+module _ (u : System) (pays : (z : World) → paid u z ≡ true) (g h : Tracked) (t : IsPlaced u g) (th : IsPlaced u h) (stateless : IsStill g)
+    (reads : ReadSame g.world h.world) (i x : ℕ) (is : who g x ≡ Some i) (s : IsSameThread i g h) (sx : g.own x ≢ i → IsSameThread (g.own x) g h)
+    (component : Component)
     (placed : slice_get u.components x ≡ Some component) where
   -- the leaf in both worlds, and the step
   pub record BothGo (new : World) (event : Event) : Type 0 where
@@ -157,28 +191,24 @@ module _ (u : System) (pays : (z : World) → paid u z ≡ true) (g h : Tracked)
         → FirstAllowed f aside d h.world K R M O a.todo
     allowed main section = first_allowed f aside d h.world K M O R a.todo (λ instr rest is. by a.current refl instr rest is)
       where
-        may : g.own x ≡ i → (is_unshared u x ≡ false → a.current ≡ None) → (place : OperandSlot) → MayChange f aside d h.world K M O place
-        may own shared (Own k) = (own, refl, shared, main)
-        may own shared (Shared k) = tt
-        may own shared Object = tt
+        may : g.own x ≡ i → (g.own x ≡ x → a.current ≡ None) → (place : OperandSlot) → MayChange f aside d h.world K M O place
+        may own first (Own k) = (own, refl, first, main)
+        may own first (Shared k) = tt
+        may own first Object = tt
 
         by : (current : Option Current) → a.current ≡ current → (instr : Instruction) (rest : Statements) → a.todo ≡ Do instr rest
             → IsAllowed f aside d h.world K M O instr
         by None e instr rest begins =
-            all_allowed f aside d h.world K M O (may (ap g.own (main e) ∙ lives_who u g t i x is) (λ shared. e)) instr
-            (stateless.unread x a instr rest there begins)
-        by (Some q) e instr rest begins = of (is_unshared u x) refl
+            all_allowed f aside d h.world K M O (may (ap g.own (main e) ∙ lives_who u g t i x is) (λ own. e)) instr
+            (reads.same x a b instr rest there there_h begins)
+        by (Some q) e instr rest begins = of (eqb_tells (g.own x) x)
           where
-            true_false : true ≡ false → ⊥
-            true_false = true≢false
-
-            of : (single : Bool) → is_unshared u x ≡ single → IsAllowed f aside d h.world K M O instr
-            of true single =
-                let own = busy_below u g t x a.phase q (ap stance_in there ∙ ap (λ o. Some (stance a.phase o)) e) single ∙ section q e in
-                all_allowed f aside d h.world K M O (may own (λ shared. absurd (true_false (sym single ∙ shared)))) instr
-                (stateless.unread x a instr rest there begins)
-            of false shared = none_allowed f aside d h.world K M O instr (stateless.keeps x a q instr rest there e shared begins)
-                (stateless.unread x a instr rest there begins)
+            of : (((g.own x == x) ≡ true) × (g.own x ≡ x)) ⊎ (((g.own x == x) ≡ false) × (g.own x ≢ x)) → IsAllowed f aside d h.world K M O instr
+            of (inr ne) =
+                let own = t.held x a.phase q (ap stance_in there ∙ ap (λ o. Some (stance a.phase o)) e) ne.1 ∙ section q e in
+                all_allowed f aside d h.world K M O (may own (λ is. absurd (ne.1 is))) instr (reads.same x a b instr rest there there_h begins)
+            of (inl own) = none_allowed f aside d h.world K M O instr (stateless.keeps x a q instr rest there e own.1 begins)
+                (reads.same x a b instr rest there there_h begins)
 
   pub main_of : (w : IsWorking g i x) → w.at.leaf.current ≡ None → x ≡ i
   main_of w none = sym (ap (thread_by g.root x) none) ∙ w.at.thread
@@ -209,7 +239,7 @@ module _ (u : System) (pays : (z : World) → paid u z ≡ true) (g h : Tracked)
 
 -- A STEP IN ONE WORLD
 
-module _ (u : System) (pays : (z : World) → paid u z ≡ true) (g : Tracked) (t : IsTracked u g) (stateless : IsStateless u g.world) (i x : ℕ)
+module _ (u : System) (pays : (z : World) → paid u z ≡ true) (g : Tracked) (t : IsPlaced u g) (stateless : IsStill g) (i x : ℕ)
     (is : who g x ≡ Some i)
     (component : Component) (placed : slice_get u.components x ≡ Some component) where
   abbrev itself : IsSameThread i g g
@@ -283,7 +313,8 @@ module _ (u : System) (pays : (z : World) → paid u z ≡ true) (g : Tracked) (
 
       by : (IsWorking g i x × IsWorking g i x) ⊎ ServesSame u g g t t i itself x → Solo new
       by (inl w) =
-          let r = both_go u pays g g t t stateless i x is itself (λ ne. thread_itself (g.own x) g) component placed (inl (w.0, w.0)) new event stepped in
+          let r = both_go u pays g g t t stateless (reads_itself g.world) i x is itself (λ ne. thread_itself (g.own x) g) component placed
+          (inl (w.0, w.0)) new event stepped in
           record {
             a = w.0.at.leaf;
             there = w.0.at.there;
@@ -301,7 +332,8 @@ module _ (u : System) (pays : (z : World) → paid u z ≡ true) (g : Tracked) (
           out : x ≢ i → (thread_by g.root x w.0.at.leaf.current == x) ≡ false
           out ne = elim (eqb_tells (thread_by g.root x w.0.at.leaf.current) x) [ inl q ↦ absurd (ne (sym q.1 ∙ w.0.at.thread)) | inr q ↦ q.0 ]
       by (inr w) =
-          let r = both_go u pays g g t t stateless i x is itself (λ ne. thread_itself (g.own x) g) component placed (inr w) new event stepped in
+          let r = both_go u pays g g t t stateless (reads_itself g.world) i x is itself (λ ne. thread_itself (g.own x) g) component placed
+          (inr w) new event stepped in
           record {
             a = w.first.leaf;
             there = w.first.there;

@@ -18,7 +18,7 @@ use Rattle.gq_laws.specs.internal.Renamed.{renamed_slot, renamed_leaf, renamed_r
 use Rattle.gq_determined.specs.internal.Threads.{Tracked, thread_by, anew, stepped_to, works, works_for, is_active, within, among, slots_of, seen, seen_by}
 use Rattle.gq_determined.specs.internal.Threads.{IsSameThread}
 use Rattle.gq_determined.proofs.regions.Outside_region_kept.{OursBy, IsElse, current_of}
-use Rattle.gq_determined.proofs.thread_positions.Single_thread_position.{IsTracked}
+use Rattle.gq_determined.proofs.thread_positions.Single_thread_position.{IsPlaced}
 use Rattle.gq_determined.proofs.thread_steps.Own_steps.{anew_else, anew_here, not_free, each_asked}
 
 pub is_or_not : (p : Phase) → (p ≡ Serving) ⊎ (p ≡ Serving → ⊥)
@@ -54,7 +54,7 @@ works_seen root i y (Some l) = by l.phase
     by Serving = refl
     by Exited = refl
 
-module _ (u : System) (g : Tracked) (t : IsTracked u g) (j x : ℕ) (component : Component) (a : Leaf) (there : slice_get g.world.leaves x ≡ Some a) where
+module _ (u : System) (g : Tracked) (t : IsPlaced u g) (j x : ℕ) (component : Component) (a : Leaf) (there : slice_get g.world.leaves x ≡ Some a) where
   abbrev d : Doing
   d = record { system = u; world = g.world; x = x; component = component; leaf = record a { steps = suc a.steps } }
 

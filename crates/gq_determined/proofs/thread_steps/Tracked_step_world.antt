@@ -18,12 +18,13 @@ use Rattle.gq_laws.proofs.Outside_step_untouched.{outlined}
 use Rattle.gq_determined.specs.internal.Threads.{is_unshared, Tracked, thread_by, anew, stepped_to, is_active, works, seen}
 use Rattle.gq_determined.proofs.passing_threads.Kept_by_steps.{IsNamed}
 use Rattle.gq_determined.proofs.regions.Outside_region_kept.{OursBy, IsOld, IsNew, IsElse, current_of}
-use Rattle.gq_determined.proofs.thread_positions.Single_thread_position.{root_at, IsByCurrent, AreOpened, IsTracked}
+use Rattle.gq_determined.proofs.thread_positions.Single_thread_position.{root_at, IsByCurrent, AreOpened, IsPlaced, IsTracked}
+use Rattle.gq_laws.proofs.verified_programs.Use_chains.{Uses}
 use Rattle.gq_determined.proofs.thread_steps.Own_steps.{anew_else, anew_here, not_free}
 use Rattle.gq_determined.proofs.thread_steps.Thread_step_frame.{seen_active, is_or_not, IsDone, thread_new}
 
 -- an operand that names a session's slot names one of the current session
-named_session : (x : ℕ) (current : Option Current) (place : OperandSlot) (j b : ℕ) → slot_id_of x current place ≡ Some (In_session j b)
+pub named_session : (x : ℕ) (current : Option Current) (place : OperandSlot) (j b : ℕ) → slot_id_of x current place ≡ Some (In_session j b)
     → (q : Current) × (current ≡ Some q) × (q.session ≡ j)
 named_session x current (Own i) j b e = absurd (ne (some_same e))
   where
@@ -41,19 +42,19 @@ named_session x (Some q) Object j b e = absurd (ne (some_same e))
     ne e = cc
 
 -- what is current at a leaf, by what it is seen to have
-same_currents : (o p : Option Leaf) → option_map current_of o ≡ option_map current_of p → (phase : Phase) (current : Option Current)
+pub same_currents : (o p : Option Leaf) → option_map current_of o ≡ option_map current_of p → (phase : Phase) (current : Option Current)
     → stance_in o ≡ Some (stance phase current)
     → (l : Leaf) × (p ≡ Some l) × (l.current ≡ current)
 same_currents None p e phase current at = absurd (none_some at)
 same_currents (Some o) None e phase current at = absurd (none_some (sym e))
 same_currents (Some o) (Some l) e phase current at = (l, refl, sym (some_same e) ∙ same_current at)
 
-leaf_of : (o : Option Leaf) (phase : Phase) (current : Option Current) → stance_in o ≡ Some (stance phase current)
+pub leaf_of : (o : Option Leaf) (phase : Phase) (current : Option Current) → stance_in o ≡ Some (stance phase current)
     → (l : Leaf) × (o ≡ Some l) × (l.phase ≡ phase) × (l.current ≡ current)
 leaf_of None phase current at = absurd (none_some at)
 leaf_of (Some l) phase current at = (l, refl, same_phase at, same_current at)
 
-module _ (u : System) (g : Tracked) (t : IsTracked u g) (i x : ℕ) (component : Component) (a : Leaf) (there : slice_get g.world.leaves x ≡ Some a) where
+module _ (u : System) (g : Tracked) (t : IsPlaced u g) (i x : ℕ) (component : Component) (a : Leaf) (there : slice_get g.world.leaves x ≡ Some a) where
   abbrev d : Doing
   d = record { system = u; world = g.world; x = x; component = component; leaf = record a { steps = suc a.steps } }
 
@@ -70,9 +71,10 @@ module _ (u : System) (g : Tracked) (t : IsTracked u g) (i x : ℕ) (component :
   abbrev pub Ours : SlotId → Type 0
   Ours = OursBy d i g.own root
 
-  -- the thread has its own leaf; a leaf that is not shared is of another thread once it takes a request; and all sessions are opened for someone
-  module _ (new : World) (event : Event) (done : IsDone u g t i x component a there new) (opened : AreOpened u g.own g.root new) (lives : g.own i ≡ i)
-      (taken : is_unshared u x ≡ true → a.phase ≡ Serving → g.own x ≢ x) where
+  -- the thread has its own leaf; a leaf that takes a request and is not its own is the thread's; and clients use their servers
+  module _ (new : World) (event : Event) (done : IsDone u g t i x component a there new)
+      (uses : (k : ℕ) (s : Session) → session_at new k ≡ Some s → Uses u s.client s.server) (lives : g.own i ≡ i)
+      (taken : a.phase ≡ Serving → g.own x ≢ x → g.own x ≡ i) where
     abbrev g_new : Tracked
     g_new = stepped_to g x i (Ok (new, event))
 
@@ -97,11 +99,11 @@ module _ (u : System) (g : Tracked) (t : IsTracked u g) (i x : ℕ) (component :
     kept (In_session j b) client r = let p = outlined (session_at g.world j) r.0 r.1 in same_root j p.0 p.1
     kept (In_object j) client r = absurd r
 
-    kept_old : (k : ℕ) (s : Session) (o : IsOld d i g.own root c Ours k s) → root_at g.own root s.slot_id ≡ root_at g.own g.root s.slot_id
+    pub kept_old : (k : ℕ) (s : Session) (o : IsOld d i g.own root c Ours k s) → root_at g.own root s.slot_id ≡ root_at g.own g.root s.slot_id
     kept_old k s o = subst (λ q. root_at g.own root q ≡ root_at g.own g.root q) (sym o.slot_id)
         (kept o.old.slot_id o.old.client (t.linked.belongs k (outline o.old) (ap outline_in o.there)))
 
-    kept_new : (q : SlotId) (client : ℕ) → IsNamed d q → Belongs (links new) q client → root_at g.own root q ≡ root_at g.own g.root q
+    pub kept_new : (q : SlotId) (client : ℕ) → IsNamed d q → Belongs (links new) q client → root_at g.own root q ≡ root_at g.own g.root q
     kept_new (In_leaf y b) client named r = refl
     kept_new (In_session j b) client named r =
         let q = named_session x a.current named.0 j b named.1 in
@@ -109,7 +111,7 @@ module _ (u : System) (g : Tracked) (t : IsTracked u g) (i x : ℕ) (component :
         same_root j m.0 (ap (session_at g.world) (sym q.2) ∙ m.1)
     kept_new (In_object j) client named r = absurd r
 
-    fresh : (q : SlotId) → Ours q → root_at g.own root q ≡ i
+    pub fresh : (q : SlotId) → Ours q → root_at g.own root q ≡ i
     fresh (In_leaf y b) ours = ours.0
     fresh (In_session j b) ours = ours
     fresh (In_object j) ours = ours
@@ -121,15 +123,6 @@ module _ (u : System) (g : Tracked) (t : IsTracked u g) (i x : ℕ) (component :
           ∙ (t.below k o.old o.there ∙ (ap (root_at g.own g.root) (sym o.slot_id) ∙ sym (kept_old k s o)))
       | inr o ↦ ap root o.free ∙ (anew_here g.root k0 i ∙ sym (fresh s.slot_id o.ours))
     ]
-
-    stands : AreOpened u g.own root new
-    stands k s at =
-        let o = opened k s at in
-        record { uses = o.uses; n = o.n; z = o.z; starts = o.starts; is = by (rest.slot_ids k s at) ∙ o.is }
-      where
-        by : IsOld d i g.own root c Ours k s ⊎ IsNew d i g.own root c Ours k s → root_at g.own root s.slot_id ≡ root_at g.own g.root s.slot_id
-        by (inl o) = kept_old k s o
-        by (inr o) = kept_new s.slot_id s.client o.named (linked.belongs k (outline s) (ap outline_in at))
 
     -- the client of a session that waits
     client_of : (w : World) → IsLinkedWorld u w → (q : SlotId) (k : ℕ) → slot_at w q ≡ Some (Waiting k)
@@ -159,7 +152,7 @@ module _ (u : System) (g : Tracked) (t : IsTracked u g) (i x : ℕ) (component :
         let l = leaf_of (slice_get new.leaves x) Blocked current at in
         sym (same_current (sym (ap stance_in l.1) ∙ is)) ∙ rest.blocked l.0 l.1 l.2
 
-    waits_leaf : (y b k : ℕ) → slot_at new (In_leaf y b) ≡ Some (Waiting k) → IsByCurrent u new (In_leaf y b)
+    waits_leaf : (y b k : ℕ) → slot_at new (In_leaf y b) ≡ Some (Waiting k) → IsByCurrent g.own new (In_leaf y b)
     waits_leaf y b k at phase current is shared = elim (rest.waits (In_leaf y b) k at) [
       | inl old ↦
           let m = client_of g.world t.linked (In_leaf y b) k old in
@@ -171,7 +164,7 @@ module _ (u : System) (g : Tracked) (t : IsTracked u g) (i x : ℕ) (component :
           current_now m.2.0 current phase (ap (links new).stances (sym here ∙ m.1) ∙ m.2.1) (ap (links new).stances (sym here) ∙ is) ∙ o.1.2 shared
     ]
 
-    waits_session : (j b k : ℕ) → slot_at new (In_session j b) ≡ Some (Waiting k) → IsByCurrent u new (In_session j b)
+    waits_session : (j b k : ℕ) → slot_at new (In_session j b) ≡ Some (Waiting k) → IsByCurrent g.own new (In_session j b)
     waits_session j b k at s there_s phase current is = elim (rest.waits (In_session j b) k at) [
       | inl old ↦
           let m = client_of g.world t.linked (In_session j b) k old in
@@ -201,7 +194,7 @@ module _ (u : System) (g : Tracked) (t : IsTracked u g) (i x : ℕ) (component :
           | inr o ↦ absurd (not_free g.world j p there_p o.free)
         ]
 
-    waits : (q : SlotId) (k : ℕ) → slot_at new q ≡ Some (Waiting k) → IsByCurrent u new q
+    waits : (q : SlotId) (k : ℕ) → slot_at new q ≡ Some (Waiting k) → IsByCurrent g.own new q
     waits (In_leaf y b) k at = waits_leaf y b k at
     waits (In_session j b) k at = waits_session j b k at
     waits (In_object j) k at = tt
@@ -253,7 +246,7 @@ module _ (u : System) (g : Tracked) (t : IsTracked u g) (i x : ℕ) (component :
             not_here y out e = true≢false (sym (ap (λ n. n == x) e ∙ equal_self x) ∙ or_false (works g i y) (y == x) out)
 
     -- a leaf in a section
-    fits_active : (phase : Phase) (q : Current) → Fits phase (Some q) → is_active phase ≡ true
+    pub fits_active : (phase : Phase) (q : Current) → Fits phase (Some q) → is_active phase ≡ true
     fits_active Blocked q f = refl
     fits_active Handling q f = refl
     fits_active Pending q f = absurd f
@@ -261,32 +254,88 @@ module _ (u : System) (g : Tracked) (t : IsTracked u g) (i x : ℕ) (component :
     fits_active Serving q f = absurd f
     fits_active Exited q f = absurd f
 
-    busy : (y : ℕ) (phase : Phase) (q : Current) → (links new).stances y ≡ Some (stance phase (Some q)) → is_unshared u y ≡ true → g.own y ≢ y
-    busy y phase q at single = elim (eqb_tells y x) [
-      | inl e ↦ subst (λ y. g.own y ≢ y) (sym e.1)
-          (here (ap (links new).stances (sym e.1) ∙ at) (ap (is_unshared u) (sym e.1) ∙ single) (is_or_not a.phase))
+    held : (y : ℕ) (phase : Phase) (q : Current) → (links new).stances y ≡ Some (stance phase (Some q)) → g.own y ≢ y → g.own y ≡ root q.session
+    held y phase q at ne = elim (eqb_tells y x) [
+      | inl e ↦ ap g.own e.1 ∙ here (ap (links new).stances (sym e.1) ∙ at) (λ own. ne (ap g.own e.1 ∙ (own ∙ sym e.1))) (is_or_not a.phase)
       | inr e ↦
           let o = same_currents (slice_get new.leaves y) (slice_get g.world.leaves y) (rest.currents y e.1) phase (Some q) at in
-          t.busy y o.0.phase q (ap stance_in o.1 ∙ ap (λ p. Some (stance o.0.phase p)) o.2) single
+          before y o.0.phase (ap stance_in o.1 ∙ ap (λ p. Some (stance o.0.phase p)) o.2) ne
     ]
       where
-        here : (links new).stances x ≡ Some (stance phase (Some q)) → is_unshared u x ≡ true → (a.phase ≡ Serving) ⊎ (a.phase ≡ Serving → ⊥) → g.own x ≢ x
-        here at single (inl serves) = taken single serves
-        here at single (inr works) =
+        before : (y : ℕ) (p : Phase) → (links g.world).stances y ≡ Some (stance p (Some q)) → g.own y ≢ y → g.own y ≡ root q.session
+        before y p stood ne =
+            let m = t.linked.handles y p q stood in
+            let s = outlined (session_at g.world q.session) m.0 m.1 in
+            t.held y p q stood ne ∙ sym (same_root q.session s.0 s.1)
+
+        here : (links new).stances x ≡ Some (stance phase (Some q)) → g.own x ≢ x → (a.phase ≡ Serving) ⊎ (a.phase ≡ Serving → ⊥) → g.own x ≡ root q.session
+        here at own (inl serves) =
+            let l = leaf_of (slice_get new.leaves x) phase (Some q) at in
+            let act = fits_active phase q (linked.fits x (stance phase (Some q)) at) in
+            taken serves own ∙ sym (sym (ap (thread_by root x) l.3) ∙ done.taken serves l.0 l.1 (ap is_active l.2 ∙ act))
+        here at own (inr works) =
             let l = leaf_of (slice_get new.leaves x) phase (Some q) at in
             let act = fits_active phase q (linked.fits x (stance phase (Some q)) at) in
             let current : a.current ≡ Some q = sym (rest.mine works l.0 l.1 (ap is_active l.2 ∙ act)) ∙ l.3 in
-            t.busy x a.phase q (ap stance_in there ∙ ap (λ o. Some (stance a.phase o)) current) single
+            before x a.phase (ap stance_in there ∙ ap (λ o. Some (stance a.phase o)) current) own
 
-    pub still_tracked : IsTracked u g_new
-    still_tracked = record {
+    pub still_placed : IsPlaced u g_new
+    still_placed = record {
       acyclic = t.acyclic;
       linked = linked;
       below = below;
       waits = waits;
-      stands = stands;
-      owned = t.owned;
+      uses = uses;
       lives = lives_on;
       main = main;
-      busy = busy;
+      held = held;
     }
+
+-- WHERE A LEAF THAT IS NOT SHARED IS ANOTHER'S FOR GOOD
+
+module _ (u : System) (g : Tracked) (t : IsTracked u g) (i x : ℕ) (component : Component) (a : Leaf) (there : slice_get g.world.leaves x ≡ Some a)
+    (new : World) (event : Event) (done : IsDone u g t.placed i x component a there new) (opened : AreOpened u g.own g.root new) (lives : g.own i ≡ i)
+    (taken : a.phase ≡ Serving → g.own x ≢ x → g.own x ≡ i) (single_taken : is_unshared u x ≡ true → a.phase ≡ Serving → g.own x ≢ x) where
+  abbrev dd : Doing
+  dd = record { system = u; world = g.world; x = x; component = component; leaf = record a { steps = suc a.steps } }
+
+  abbrev roots : ℕ → ℕ
+  roots = anew g.root (free_place g.world.sessions) i
+
+  abbrev cs : ℕ → Bool
+  cs y = works g i y || y == x
+
+  placed : IsPlaced u (stepped_to g x i (Ok (new, event)))
+  placed = still_placed u g t.placed i x component a there new event done (λ k s at. (opened k s at).uses) lives taken
+
+  stands : AreOpened u g.own roots new
+  stands k s at =
+      let o = opened k s at in
+      record { uses = o.uses; n = o.n; z = o.z; starts = o.starts; is = by (done.rest.slot_ids k s at) ∙ o.is }
+    where
+      by : IsOld dd i g.own roots cs (OursBy dd i g.own roots) k s ⊎ IsNew dd i g.own roots cs (OursBy dd i g.own roots) k s
+          → root_at g.own roots s.slot_id ≡ root_at g.own g.root s.slot_id
+      by (inl o) = kept_old u g t.placed i x component a there new event done (λ k s at. (opened k s at).uses) lives taken k s o
+      by (inr o) = kept_new u g t.placed i x component a there new event done (λ k s at. (opened k s at).uses) lives taken s.slot_id s.client o.named
+          (done.linked.belongs k (outline s) (ap outline_in at))
+
+  busy : (y : ℕ) (phase : Phase) (q : Current) → (links new).stances y ≡ Some (stance phase (Some q)) → is_unshared u y ≡ true → g.own y ≢ y
+  busy y phase q at single = elim (eqb_tells y x) [
+    | inl e ↦ subst (λ y. g.own y ≢ y) (sym e.1)
+        (here (ap (links new).stances (sym e.1) ∙ at) (ap (is_unshared u) (sym e.1) ∙ single) (is_or_not a.phase))
+    | inr e ↦
+        let o = same_currents (slice_get new.leaves y) (slice_get g.world.leaves y) (done.rest.currents y e.1) phase (Some q) at in
+        t.busy y o.0.phase q (ap stance_in o.1 ∙ ap (λ p. Some (stance o.0.phase p)) o.2) single
+  ]
+    where
+      here : (links new).stances x ≡ Some (stance phase (Some q)) → is_unshared u x ≡ true → (a.phase ≡ Serving) ⊎ (a.phase ≡ Serving → ⊥) → g.own x ≢ x
+      here at single (inl serves) = single_taken single serves
+      here at single (inr works) =
+          let l = leaf_of (slice_get new.leaves x) phase (Some q) at in
+          let act = fits_active u g t.placed i x component a there new event done (λ k s at. (opened k s at).uses) lives taken phase q
+          (done.linked.fits x (stance phase (Some q)) at) in
+          let current : a.current ≡ Some q = sym (done.rest.mine works l.0 l.1 (ap is_active l.2 ∙ act)) ∙ l.3 in
+          t.busy x a.phase q (ap stance_in there ∙ ap (λ o. Some (stance a.phase o)) current) single
+
+  pub still_tracked : IsTracked u (stepped_to g x i (Ok (new, event)))
+  still_tracked = record { placed = placed; stands = stands; owned = t.owned; busy = busy }

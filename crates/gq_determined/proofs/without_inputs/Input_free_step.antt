@@ -1,6 +1,6 @@
 -- A step whose statement reads no input, in two worlds that are the same but for inputs: it shows the same, and leaves worlds that are the same but for inputs.
 -- All is paid for there: so it is in a system in which nothing is counted.
-use Rattle.std.proofs.Common.{◌≡◌, ℕ, suc, ◌++◌, true, false, List, [], ◌∷◌, Option, Some, None, Ok, refl, ap, sym, ◌∙◌, subst}
+use Rattle.std.proofs.Common.{inl, ◌≡◌, ℕ, suc, ◌++◌, true, false, List, [], ◌∷◌, Option, Some, None, Ok, refl, ap, sym, ◌∙◌, subst}
 use Rattle.std.specs.Prelude.{option_map, slice_get, slice_set}
 use Rattle.gq_model.specs.declared.fault.Wrong.TheVariants.{ExceededQuota, WrongKind}
 use Rattle.gq_model.specs.declared.phase.Phase.TheVariants.{Serving}
@@ -234,7 +234,7 @@ module _ (u : System) (pays : (z : World) → paid u z ≡ true) (w z : World) (
       → (other_new : World) × (next u z x ≡ Ok (other_new, event)) × SameUnset new other_new
   step_too placed unread new event stepped =
       let may = first_allowed same aside d z SameUnset Any Any SameUnset a.todo (λ i rest is.
-      all_allowed same aside d z SameUnset Any Any anywhere i (unread i rest is)) in
+      all_allowed same aside d z SameUnset Any Any anywhere i (inl (unread i rest is))) in
       let both = both_step same aside d z SameUnset SameUnset Any Any takes linked around a.phase refl (λ busy. may) in
       let r = both.holds new event (sym next_here ∙ stepped) in
       (r.0, next_there ∙ r.1, r.2)

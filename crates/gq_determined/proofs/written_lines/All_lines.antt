@@ -84,7 +84,8 @@ module _ (s : Scenario) (sound : IsSound s) (none : IsRaceFree s) (quiet : IsOrd
         of : (w : IsWorking g i y) → w.at.leaf ≡ leaf → (current : Option Current) → leaf.current ≡ current → (single : Bool) → is_unshared u y ≡ single
             → IsNextSilent leaf.todo
         of w same None e single is =
-            let own = t.main y w.at.leaf.phase (ap stance_in w.at.there ∙ ap (λ o. Some (stance w.at.leaf.phase o)) (ap (λ (l : Leaf). l.current) same ∙ e))
+            let own = t.placed.main y w.at.leaf.phase
+            (ap stance_in w.at.there ∙ ap (λ o. Some (stance w.at.leaf.phase o)) (ap (λ (l : Leaf). l.current) same ∙ e))
             w.at.is_active in
             absurd (ne (own ∙ (sym (ap (thread_by g.root y) (ap (λ (l : Leaf). l.current) same ∙ e)) ∙ w.at.thread)))
         of w same (Some q) e true is =

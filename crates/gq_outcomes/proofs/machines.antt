@@ -1,0 +1,2 @@
+-- Machines whose steps are each taken for a thread.
+pub mod Two_starts

@@ -1,0 +1,55 @@
+-- What is promised of the outcomes that are found.
+use Rattle.std.specs.Prelude.{◌≡◌, ◌==◌, ℕ, suc, true, false, List, [], ◌∷◌, ◌++◌, length, None}
+use Rattle.gq_model.specs.declared.act.Act.TheVariants.{Turns}
+use Rattle.gq_model.specs.machine.Accounts.{account_lines, accounts}
+use Rattle.gq_model.specs.machine.Run.{Acts, run}
+use Rattle.gq_model.specs.machine.Scenario.{Component, Scenario, components, system}
+use Rattle.gq_model.specs.rules.Accept.{budgets, step_budgets}
+use Rattle.gq_laws.specs.Progress.{AllRest}
+use Rattle.gq_laws.specs.Shapes.{Each}
+use Rattle.gq_laws.specs.Group_alone.{own_lines}
+use Rattle.gq_races.specs.Races.{IsRaceFree}
+use Rattle.gq_outcomes.specs.Outcomes.{Outcome, if_none, is_found, outcomes}
+
+-- turns of leaves, of which the last comes first, before these
+abbrev pub acts_before : List ℕ → Acts → Acts
+acts_before [] acts = acts
+acts_before (x ∷ past) acts = acts_before past ((x, Turns 1) ∷ acts)
+
+abbrev pub acts_of : List ℕ → Acts
+acts_of past = acts_before past []
+
+-- the lines in a run of those of these leaves that provide nothing, of which the first is the x-th
+abbrev pub quiet_lines : Scenario → ℕ → List Component → Acts → List ℕ
+quiet_lines s x [] acts = []
+quiet_lines s x (c ∷ rest) acts = if_none c.node.provides (own_lines (system s) (λ y. y == x) acts) ++ quiet_lines s (suc x) rest acts
+
+-- how a run ends: what each leaf that provides nothing has written, and all account lines
+abbrev pub ending : Scenario → Acts → List ℕ
+ending s acts =
+    quiet_lines s 0 (components s) acts ++ account_lines s.version (accounts s (run (system s) acts).world (step_budgets (budgets s)))
+
+-- a run over the turns of an outcome has no wrong step, comes to rest, and ends so
+pub record IsOutcome (s : Scenario) (o : Outcome) : Type 0 where
+  pub right : (run (system s) (acts_of o.past)).wrong ≡ None
+  pub rests : AllRest (run (system s) (acts_of o.past)).world
+  pub ends : ending s (acts_of o.past) ≡ o.text
+
+-- each outcome that is found is that of a run
+abbrev pub AreOutcomes : Scenario → Type 0
+AreOutcomes s = Each (IsOutcome s) (outcomes s).found
+
+-- leaves and numbers of turns, one after the other
+abbrev pub turns_alone : List (ℕ × ℕ) → Acts
+turns_alone [] = []
+turns_alone (t ∷ turns) = (t.0, Turns t.1) ∷ turns_alone turns
+
+-- unless more turns were wanted, each run over turns that comes to rest ends as one of the outcomes
+abbrev pub AreAll : Scenario → Type 0
+AreAll s =
+    (outcomes s).cut ≡ false → (turns : List (ℕ × ℕ)) → AllRest (run (system s) (turns_alone turns)).world
+    → is_found (ending s (turns_alone turns)) (outcomes s).found ≡ true
+
+-- without a race there is one outcome, unless more turns were wanted
+abbrev pub IsOne : Scenario → Type 0
+IsOne s = IsRaceFree s → (outcomes s).cut ≡ false → length (outcomes s).found ≡ 1
