@@ -15,9 +15,9 @@ use Rattle.gq_contents.specs.declared.content.Content.TheVariants.{Empty, Block,
 use Rattle.gq_contents.specs.Contents.{bytes_in, extent_of, put_in, size_of}
 use Rattle.gq_trade.specs.declared.session.SlotId.{SlotId}
 use Rattle.gq_trade.specs.Seen_sessions.{slot_id_seen}
-use Rattle.gq_slots.specs.Slots.{Frame, IsSlotId, Slots, holder, memory_of, slot_of, content_at, world_seen}
+use Rattle.gq_slots.specs.Slots.{AreRead, Frame, IsExtent, IsSlotId, Slots, holder, memory_of, slot_of, content_at, world_seen}
 use Rattle.gq_slots.specs.Calls.{PutsSlot}
-use Rattle.gq_slots.specs.Slot_addresses.{place_seen}
+use Rattle.gq_slots.specs.Slot_addresses.{extent_at, place_seen}
 use Rattle.gq_slots.proofs.Slot_byte_counts.{length_seen}
 use Rattle.gq_region.specs.Region_addresses.{AreFound, AreThere, LiesAt, bytes_behind, bytes_seen, bytes_there, number_in, number_of, put_behind}
 use Rattle.gq_region.specs.Region_addresses.{put_slot, put_there, within}
@@ -102,34 +102,40 @@ extent_size (Pool q) o e = ap length_of (sym e)
 extent_size (Link k) o e = ap length_of (sym e)
 extent_size (Waiting k) o e = ap length_of (sym e)
 
+-- what stands at a place reads as it is
+pub reads_at : (f : Frame) (s : Slots) (o : Option SlotId) → AreRead s → IfSome o (λ q. IsSlotId s q)
+    → IfSome o (λ q. world.slot_at (world_seen f s) (slot_id_seen q) ≡ Some (slot_of s q))
+reads_at f s None reads ids = tt
+reads_at f s (Some q) reads ids = reads f q ids
+
+-- what lies at a place is an extent
+pub extent_is : (s : Slots) (o : Option SlotId) (x : Extent) → Some x ≡ extent_at s o → IfSome o (λ q. IsSlotId s q) → IsExtent s x
+extent_is s None x e ids = cc
+extent_is s (Some q) x e ids = record { slot_id = q; there = ids; is = sym e }
+
 module _ (s : Slots) (i : ℕ) (width : Width) where
-  -- no slot is named
-  pub lies_nowhere : (o : Option SlotId) → None ≡ o → within s i (bytes_of width) o ≡ None
-  lies_nowhere o e = ap (within s i (bytes_of width)) (sym e)
+  short_at : (q : SlotId) → nat_le (i + bytes_of width) (size_of (content_at s q)) ≡ false → within s i (bytes_of width) (Some q) ≡ None
+  short_at q f = ap (λ b. cond b (Some (q, i)) None) f
 
-  module _ (q : SlotId) (o : Option SlotId) (e : Some q ≡ o) where
-    short_at : nat_le (i + bytes_of width) (size_of (content_at s q)) ≡ false → within s i (bytes_of width) o ≡ None
-    short_at f = ap (within s i (bytes_of width)) (sym e) ∙ ap (λ b. cond b (Some (q, i)) None) f
+  -- nothing stands there, or it has no bytes
+  pub lies_nowhere : (o : Option SlotId) → None ≡ extent_at s o → within s i (bytes_of width) o ≡ None
+  lies_nowhere None e = refl
+  lies_nowhere (Some q) e =
+      let size = extent_size (content_at s q) None e in let some = width_some width in short_at q (grind (arith, nat_tests, size, some))
 
-    -- what stands there has no bytes, or too few
-    pub lies_none : None ≡ extent_of (content_at s q) → within s i (bytes_of width) o ≡ None
-    lies_none f =
-        let size = extent_size (content_at s q) None f in let some = width_some width in short_at (grind (arith, nat_tests, size, some))
+  -- too few bytes stand there
+  pub lies_short : (o : Option SlotId) (x : Extent) → Some x ≡ extent_at s o → x.length < i + bytes_of width → within s i (bytes_of width) o ≡ None
+  lies_short None x e lt = cc
+  lies_short (Some q) x e lt =
+      let size = extent_size (content_at s q) (Some x) e in short_at q (grind (arith, nat_tests, size, lt))
 
-    pub lies_short : (x : Extent) → Some x ≡ extent_of (content_at s q) → x.length < i + bytes_of width → within s i (bytes_of width) o ≡ None
-    lies_short x f lt = let size = extent_size (content_at s q) (Some x) f in short_at (grind (arith, nat_tests, size, lt))
-
-    pub lies_there : (x : Extent) → Some x ≡ extent_of (content_at s q) → i + bytes_of width ≤ x.length → IsSlotId s q
-        → LiesAt s (within s i (bytes_of width) o) x i
-    lies_there x f le there =
-        let size = extent_size (content_at s q) (Some x) f in
-        let fit : nat_le (i + bytes_of width) (size_of (content_at s q)) ≡ true = grind (arith, nat_tests, size, le) in
-        record {
-          slot_id = q;
-          place_is = ap (within s i (bytes_of width)) (sym e) ∙ ap (λ b. cond b (Some (q, i)) None) fit;
-          there = there;
-          is = sym f;
-        }
+  pub lies_there : (o : Option SlotId) (x : Extent) → Some x ≡ extent_at s o → i + bytes_of width ≤ x.length → IfSome o (λ q. IsSlotId s q)
+      → LiesAt s (within s i (bytes_of width) o) x i
+  lies_there None x e le ids = cc
+  lies_there (Some q) x e le ids =
+      let size = extent_size (content_at s q) (Some x) e in
+      let fit : nat_le (i + bytes_of width) (size_of (content_at s q)) ≡ true = grind (arith, nat_tests, size, le) in
+      record { slot_id = q; place_is = ap (λ b. cond b (Some (q, i)) None) fit; there = ids; is = sym e }
 
 -- WHAT IS READ AND WRITTEN THERE
 

@@ -46,8 +46,7 @@ fn find(
     slots.laws();
     let slot = (address / WINDOW) as u8;
     let index = address % WINDOW;
-    let slot_id = addresses.bytes_slot_id(slots, SlotId::InLeaf(leaf, slot))?;
-    let extent = slots.extent(slot_id)?;
+    let extent = addresses.extent(slots, SlotId::InLeaf(leaf, slot))?;
     if u64::from(index) + count_of(width) <= extent.length {
         Some((extent, index))
     } else {

@@ -6,7 +6,7 @@ use Rattle.gq_model.specs.machine.World as world
 use Rattle.gq_store.specs.Store.{Store}
 use Rattle.gq_contents.specs.declared.content.Content.{Content}
 use Rattle.gq_contents.specs.declared.content.Content.TheVariants.{Empty, Block, Slice, Space, Pool, Link, Waiting}
-use Rattle.gq_contents.specs.Contents.{seen}
+use Rattle.gq_contents.specs.Contents.{extent_of, seen}
 use Rattle.gq_trade.specs.declared.session.SlotId.{SlotId}
 use Rattle.gq_trade.specs.declared.session.SlotId.TheVariants.{InSession}
 use Rattle.gq_trade.specs.Seen_sessions.{seen_in, session_seen, slot_id_seen}
@@ -15,7 +15,7 @@ use Rattle.gq_trade.specs.declared.session.Session.{Session}
 use Rattle.gq_trade.proofs.Sessions_kept.{between_some}
 use Rattle.gq_slots.specs.Slots.{Frame, Slots, memory_of, content_at, world_seen}
 use Rattle.gq_slots.proofs.Slot_change_worlds.{session_seen_at}
-use Rattle.gq_slots.specs.Slot_addresses.{AreBuffers, behind_link, buffer_slot_id, place_in, place_seen}
+use Rattle.gq_slots.specs.Slot_addresses.{AreBuffers, behind_link, buffer_slot_id, extent_at, place_in, place_of, place_seen}
 
 chosen : (b : Bool) (k : ℕ) → place_seen (cond b None (Some (InSession k 0))) ≡ cond b None (Some (world.In_session k 0))
 chosen true k = refl
@@ -52,11 +52,19 @@ place_there f system bs s st (Link k) p w a = buffer_there f system bs s k w a
 place_there f system bs s st (Waiting k) p w a = refl
 
 -- read as the machine's world has it
-pub place_read : (f : Frame) (system : System) (bs : List ℕ) (s : Slots) (st : Store) (t : Content) (p : SlotId) (o : Option SlotId) → IsTrading
-    s.trades.trading
-    → o ≡ place_in bs s t p → t ≡ content_at s p → world.slot_at (world_seen f s) (slot_id_seen p) ≡ Some (seen st t)
-    → AreBuffers system f s bs
-    → place_seen o ≡ bytes_slot_id system (world_seen f s) (world.slot_at (world_seen f s) (slot_id_seen p)) (slot_id_seen p)
-place_read f system bs s st t p o w is e r a =
-    ap place_seen is ∙ place_there f system bs s st t p w a
+pub place_read : (f : Frame) (system : System) (bs : List ℕ) (s : Slots) (st : Store) (t : Content) (p : SlotId) → IsTrading s.trades.trading
+    → t ≡ content_at s p → world.slot_at (world_seen f s) (slot_id_seen p) ≡ Some (seen st t) → AreBuffers system f s bs
+    → place_seen (place_of bs s p) ≡ bytes_slot_id system (world_seen f s) (world.slot_at (world_seen f s) (slot_id_seen p)) (slot_id_seen p)
+place_read f system bs s st t p w e r a =
+    ap (λ c. place_seen (place_in bs s c p)) (sym e) ∙ place_there f system bs s st t p w a
     ∙ sym (ap (λ y. bytes_slot_id system (world_seen f s) y (slot_id_seen p)) r)
+
+-- WHERE THE BYTES LIE
+
+module _ (bs : List ℕ) (s : Slots) (t : Content) (p : SlotId) (e : t ≡ content_at s p) where
+  -- unless it is a link, in the slot itself
+  pub own_is : Some p ≡ place_in bs s t p → place_of bs s p ≡ Some p
+  own_is f = ap (λ c. place_in bs s c p) (sym e) ∙ sym f
+
+  pub own_extent : Some p ≡ place_in bs s t p → extent_of t ≡ extent_at s (place_of bs s p)
+  own_extent f = ap extent_of e ∙ sym (ap (extent_at s) (own_is f))

@@ -3,8 +3,10 @@ use Rattle.std.specs.Prelude.{◌≡◌, ℕ, ◌<◌, ◌==◌, if◌then◌els
 use Rattle.gq_model.specs.machine.Scenario.{System}
 use Rattle.gq_model.specs.machine.Memory.{buffer_of}
 use Rattle.gq_model.specs.machine.World as world
+use Rattle.gq_store.specs.declared.extent.Extent.{Extent}
 use Rattle.gq_contents.specs.declared.content.Content.{Content}
 use Rattle.gq_contents.specs.declared.content.Content.TheVariants.{Empty, Block, Slice, Space, Pool, Link, Waiting}
+use Rattle.gq_contents.specs.Contents.{extent_of}
 use Rattle.gq_trade.specs.declared.session.Session.{Session}
 use Rattle.gq_trade.specs.declared.session.SlotId.{SlotId}
 use Rattle.gq_trade.specs.declared.session.SlotId.TheVariants.{InSession}
@@ -37,6 +39,11 @@ place_in bs s (Waiting k) p = Some p
 -- nothing lies behind a link to a session that is gone or has no buffer
 abbrev pub place_of : List ℕ → Slots → SlotId → Option SlotId
 place_of bs s p = place_in bs s (content_at s p) p
+
+-- where the bytes lie that stand at a place
+abbrev pub extent_at : Slots → Option SlotId → Option Extent
+extent_at s None = None
+extent_at s (Some p) = extent_of (content_at s p)
 
 abbrev pub place_seen : Option SlotId → Option world.SlotId
 place_seen None = None

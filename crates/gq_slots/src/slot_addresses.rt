@@ -1,4 +1,4 @@
-// Where the bytes of a slot stand: in the slot itself, or, behind a link, in the buffer of its session. A statement names a slot and an index, so the machine
+// Where the bytes of a slot lie: in the slot itself, or, behind a link, in the buffer of its session. A statement names a slot and an index, so the machine
 // goes there at once; bytes by their addresses are a matter of gq_region.
 ghost use Rattle.std.specs.Prelude.{◌≡◌, ℕ, get_or, IfSome};
 ghost use Rattle.gq_model.specs.machine.Scenario.{System};
@@ -6,10 +6,11 @@ ghost use Rattle.gq_model.specs.machine.Memory.{bytes_slot_id};
 ghost use Rattle.gq_model.specs.machine.World.{slot_at};
 ghost use Rattle.gq_trade.specs.Seen_sessions.{slot_id_seen};
 ghost use Rattle.gq_slots.specs.Slots.{Frame, IsSlotId, world_seen};
-ghost use Rattle.gq_slots.specs.Slot_addresses.{AreBuffers, buffer_slot_id, place_of, place_seen};
+ghost use Rattle.gq_slots.specs.Slot_addresses.{AreBuffers, buffer_slot_id, extent_at, place_of, place_seen};
 
 use crate::slots::Slots;
 use gq_contents::Content;
+use gq_store::Extent;
 use gq_trade::SlotId;
 use std::marker::Model;
 
@@ -37,34 +38,39 @@ impl Addresses {
         Addresses { buffers }
     }
 
-    /// Where the bytes of a slot stand: in the slot itself, or, where it is a link, in the first slot of its session. `None` where that session is gone or
-    /// its service shares no buffer.
+    /// Where the bytes of a slot lie: its own, or, where it is a link, those of the first slot of its session. `None` where there are none: the slot is empty,
+    /// waits or has a pool, or the session behind the link is gone, shares no buffer, or has no bytes there.
     #[inline(always)]
-    pub fn bytes_slot_id(&self, slots: &Slots, slot_id: SlotId) -> Option<SlotId>
+    pub fn extent(&self, slots: &Slots, slot_id: SlotId) -> Option<Extent>
         requires { IsSlotId slots.now slot_id }
-        ensures is { result ≡ place_of self.now slots.now slot_id }
-        ensures there { IfSome result (λ p. IsSlotId slots.now p) }
+        ensures is { result ≡ extent_at slots.now (place_of self.now slots.now slot_id) }
+        ensures there { IfSome (place_of self.now slots.now slot_id) (λ p. IsSlotId slots.now p) }
         ensures world { (f : Frame) (system : System) → AreBuffers system f slots.now self.now
-            → place_seen result ≡ bytes_slot_id system (world_seen f slots.now) (slot_at (world_seen f slots.now) (slot_id_seen slot_id))
-            (slot_id_seen slot_id) }
+            → place_seen (place_of self.now slots.now slot_id) ≡ bytes_slot_id system (world_seen f slots.now)
+            (slot_at (world_seen f slots.now) (slot_id_seen slot_id)) (slot_id_seen slot_id) }
     {
         slots.trades().laws();
-        match slots.content(slot_id) {
-            Content::Link(session) => self.buffer_slot_id(slots, session as usize),
+        let content = slots.content(slot_id);
+        match content {
+            Content::Link(session) => {
+                // A value of its own: what a call writes stays in memory, and the usual way would go through it.
+                let behind = self.buffer_extent(slots, session as usize)?;
+                Some(behind)
+            }
             Content::Empty
             | Content::Block(_, _)
             | Content::Slice(_, _)
             | Content::Space(_, _)
             | Content::Pool(_)
-            | Content::Waiting(_) => Some(slot_id),
+            | Content::Waiting(_) => content.extent(),
         }
     }
 
-    // The first slot of a session, if it is there and its service shares a buffer.
+    // Where the bytes of the first slot of a session lie, if it is there and its service shares a buffer.
     #[inline(never)]
-    fn buffer_slot_id(&self, slots: &Slots, session: usize) -> Option<SlotId>
-        ensures is { result ≡ buffer_slot_id self.now slots.now session }
-        ensures there { IfSome result (λ p. IsSlotId slots.now p) }
+    fn buffer_extent(&self, slots: &Slots, session: usize) -> Option<Extent>
+        ensures is { result ≡ extent_at slots.now (buffer_slot_id self.now slots.now session) }
+        ensures there { IfSome (buffer_slot_id self.now slots.now session) (λ p. IsSlotId slots.now p) }
     {
         match slots.trades().find_session(session) {
             None => None,
@@ -72,7 +78,7 @@ impl Addresses {
                 if self.buffer(found.service) == 0 {
                     None
                 } else {
-                    Some(SlotId::InSession(session, 0))
+                    slots.extent(SlotId::InSession(session, 0))
                 }
             }
         }

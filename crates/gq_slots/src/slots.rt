@@ -319,6 +319,7 @@ impl Slots {
     }
 
     /// The byte of an entry of a pool, 0 where the entry is absent.
+    #[inline(always)]
     pub fn peek(&self, slot_id: SlotId, index: u32, offset: u32) -> u8
         requires there { IsSlotId self.now slot_id }
         requires inside { (index < entry_count (content_at self.now slot_id)) × (offset < entry_size (content_at self.now slot_id)) }
@@ -331,6 +332,7 @@ impl Slots {
     }
 
     /// Sets the byte of an entry of a pool; where the entry is absent nothing is done.
+    #[inline(always)]
     pub fn poke(&mut self, slot_id: SlotId, index: u32, offset: u32, value: u8)
         requires there { IsSlotId self.old slot_id }
         requires inside { (index < entry_count (content_at self.old slot_id)) × (offset < entry_size (content_at self.old slot_id)) }

@@ -1,5 +1,5 @@
 -- Which bytes a statement names.
-use Rattle.std.proofs.Common.{◌≡◌, ℕ, List, Option, Some, None, refl, sym, ap, ◌∙◌}
+use Rattle.std.proofs.Common.{◌≡◌, ℕ, List, Option, Some, None, refl, sym, ap, subst, ◌∙◌}
 use Rattle.std.specs.Prelude.{Err, IfSome}
 use Rattle.gq_model.specs.declared.program.OperandSlot.{OperandSlot}
 use Rattle.gq_model.specs.machine.World as world
@@ -15,7 +15,7 @@ use Rattle.gq_contents.specs.Contents.{bytes_in, extent_of, seen}
 use Rattle.gq_trade.specs.declared.session.SlotId.{SlotId}
 use Rattle.gq_trade.specs.Seen_sessions.{slot_id_seen}
 use Rattle.gq_slots.specs.Slots.{AreRead, Frame, IsExtent, IsSlotId, Slots, holder, memory_of, slot_of, content_at, world_seen}
-use Rattle.gq_slots.specs.Slot_addresses.{AreBuffers, place_seen}
+use Rattle.gq_slots.specs.Slot_addresses.{AreBuffers, extent_at, place_seen}
 use Rattle.gq_model.specs.machine.Scenario.{System}
 use Rattle.gq_statements.specs.declared.actor.Actor.{Actor}
 use Rattle.gq_statements.specs.Slot_statements.{IsBy, current_seen}
@@ -83,9 +83,14 @@ module _ (d : Doing) (w : world.World) (place : OperandSlot) (s : Slots) where
   }
 
 -- what lies there lies in this slot
-pub is_extent : (s : Slots) (p : SlotId) (o : Option Extent) → IsSlotId s p → o ≡ extent_of (content_at s p) → IfSome o (λ x. IsExtent s x)
+is_extent : (s : Slots) (p : SlotId) (o : Option Extent) → IsSlotId s p → o ≡ extent_of (content_at s p) → IfSome o (λ x. IsExtent s x)
 is_extent s p None there h = tt
 is_extent s p (Some x) there h = record { slot_id = p; there = there; is = sym h }
+
+-- what lies at a place lies in the slot that stands there
+pub is_extent_at : (s : Slots) (o : Option SlotId) (r : Option Extent) → IfSome o (λ p. IsSlotId s p) → r ≡ extent_at s o → IfSome r (λ x. IsExtent s x)
+is_extent_at s None r there h = subst (λ y. IfSome y (λ x. IsExtent s x)) (sym h) tt
+is_extent_at s (Some p) r there h = is_extent s p r there h
 
 -- BYTES OF A LEAF THAT DOES A STATEMENT
 
@@ -112,3 +117,9 @@ module _ (d : Doing) (a : Actor) (f : Frame) (s : Slots) (bs : List ℕ) (place 
       → AreRead s → IsSlotId s p → o ≡ extent_of (content_at s p) → IsFound d (world_seen f s) place s o
   found_at q p o e g reads there is =
       at_slot d (world_seen f s) place s (slot_id_seen q) p o (same_slot_id d a place (Some q) h e) (sym (g f d.system buffers)) (reads f p there) there is
+
+  -- what lies at the place of the slot's bytes is what the statement names
+  pub found_behind : (q : SlotId) (o : Option SlotId) (r : Option Extent) → place_seen (Some q) ≡ world.slot_id_of a.leaf (current_seen a.current) place
+      → Placed q o → AreRead s → IfSome o (λ p. IsSlotId s p) → r ≡ extent_at s o → IsFound d (world_seen f s) place s r
+  found_behind q None r e g reads there is = subst (IsFound d (world_seen f s) place s) (sym is) (found_nowhere q None e refl g)
+  found_behind q (Some p) r e g reads there is = found_at q p r e g reads there is

@@ -29,8 +29,7 @@ impl Actor {
     {
         slots.laws();
         let named = self.slot_id(place)?;
-        let slot_id = addresses.bytes_slot_id(slots, named)?;
-        slots.extent(slot_id)
+        addresses.extent(slots, named)
     }
 
     /// Reads a byte or a word, from an index of the bytes in a slot on, the least byte first.

@@ -15,6 +15,7 @@ use gq_trade::SlotId;
 
 impl Actor {
     // The pool that a statement names: where it stands, the bytes of an entry, and how many entries there are. `None` where it names none.
+    #[inline(always)]
     pub(crate) fn pool(self, slots: &Slots, place: OperandSlot) -> Option<(SlotId, u32, u32)>
         requires place { IsTrue (is_slot place) }
         requires actor { IsActor slots.now self }
@@ -31,6 +32,7 @@ impl Actor {
     ///
     /// `WrongKind` where the slot is not there or holds no pool, else `UnmappedByte` where the pool has no such entry, or its entries have no such
     /// byte.
+    #[inline(always)]
     pub fn peek(
         self,
         slots: &Slots,
@@ -57,6 +59,7 @@ impl Actor {
 
     /// Sets the byte of an entry of a pool to the lowest byte of a number; where the entry is absent nothing changes. Wrong as in `peek`; then nothing
     /// changes.
+    #[inline(always)]
     pub fn poke(
         self,
         slots: &mut Slots,
@@ -86,6 +89,7 @@ impl Actor {
 
     /// Removes an entry of a pool, and says whether it did: not where it was absent. `WrongKind` as in `peek`, else `UnmappedByte` where the pool has no
     /// such entry; then nothing changes.
+    #[inline(always)]
     pub fn give(self, slots: &mut Slots, place: OperandSlot, index: u32) -> Result<bool, Wrong>
         requires place { IsTrue (is_slot place) }
         requires acting { IsActor slots.old self }
