@@ -53,7 +53,7 @@ impl Addresses {
         let content = slots.content(slot_id);
         match content {
             Content::Link(session) => {
-                // A value of its own: what a call writes stays in memory, and the usual way would go through it.
+                // It is held apart, so that the extents of the other arms need not stand in memory, where the call writes its own.
                 let behind = self.buffer_extent(slots, session as usize)?;
                 Some(behind)
             }
