@@ -7,7 +7,8 @@ use Rattle.gq_model.specs.machine.World.{Session, Request, World, session_at}
 use Rattle.gq_model.specs.machine.Step.{is_to, kept_before, oldest}
 use Rattle.gq_model.proofs.Small_facts.{some_same, none_some, some_none}
 use Rattle.gq_laws.specs.Separation.{own_session, own_requests}
-use Rattle.gq_laws.specs.internal.Renamed.{renamed_session, renamed_request, own_at, IsSame}
+use Rattle.gq_laws.specs.Renamed.{renamed_session, renamed_request}
+use Rattle.gq_laws.specs.internal.Corresponding.{own_at, IsSame}
 use Rattle.gq_laws.proofs.Session_renaming.{own_there}
 
 abbrev pub Found : Type 0

@@ -24,7 +24,8 @@ use Rattle.gq_laws.proofs.upheld_worlds.Upheld_runs.{run_upholds}
 use Rattle.gq_laws.specs.Separation.{IsApart, IsUntouched, SameRequests}
 use Rattle.gq_laws.proofs.Outside_step_untouched.{free_none, step_untouched, step_requests}
 use Rattle.gq_laws.specs.Group_alone.{own_turns, silent, lines_from, RunsAlone, SeeTheSame}
-use Rattle.gq_laws.specs.internal.Renamed.{renamed_leaf, renamed_request, IsSame}
+use Rattle.gq_laws.specs.Renamed.{renamed_leaf, renamed_request}
+use Rattle.gq_laws.specs.internal.Corresponding.{IsSame}
 use Rattle.gq_laws.proofs.Session_renaming.{updated, updated_here, same_updated}
 use Rattle.gq_laws.proofs.Renamed_session_sums.{same_account}
 use Rattle.gq_laws.proofs.Inside_step_both.{Steps, both_step}

@@ -13,7 +13,7 @@ use Rattle.gq_laws.specs.Session_links.{outline_in, stance, stance_in, one_if, r
 use Rattle.gq_laws.proofs.session_links.Written_world_links.{set_else}
 use Rattle.gq_laws.specs.Separation.{own_session}
 use Rattle.gq_laws.proofs.Outside_step_untouched.{free_none}
-use Rattle.gq_laws.specs.internal.Renamed.{own_at}
+use Rattle.gq_laws.specs.internal.Corresponding.{own_at}
 use Rattle.gq_laws.proofs.Session_renaming.{own_there}
 use Rattle.gq_laws.proofs.Renamed_world_equality.{place_here, added_else, own_like, IsNear, each_else}
 

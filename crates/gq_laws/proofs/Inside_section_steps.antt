@@ -28,7 +28,8 @@ use Rattle.gq_laws.proofs.step_shapes.Step_end_worlds.{closed}
 use Rattle.gq_laws.proofs.session_links.Written_world_links.{slot_requests}
 use Rattle.gq_laws.proofs.session_links.Linked_after_accept.{oldest_found}
 use Rattle.gq_laws.specs.Separation.{own_session, own_requests, IsApart}
-use Rattle.gq_laws.specs.internal.Renamed.{renamed_slot, renamed_slot_id, renamed_current, renamed_leaf, renamed_session, renamed_request, own_at, IsSame}
+use Rattle.gq_laws.specs.Renamed.{renamed_slot, renamed_slot_id, renamed_current, renamed_leaf, renamed_session, renamed_request}
+use Rattle.gq_laws.specs.internal.Corresponding.{own_at, IsSame}
 use Rattle.gq_laws.proofs.Session_renaming.{own_there}
 use Rattle.gq_laws.proofs.Paired_step_outcomes.{Both, one_fails, both_give, same_need, both_when, both_pop}
 use Rattle.gq_laws.proofs.Renamed_world_equality.{own_like, is_own, IsNear, same_active, same_released, same_session, same_closed, same_requests, same_slot}

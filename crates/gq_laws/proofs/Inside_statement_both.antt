@@ -36,7 +36,8 @@ use Rattle.gq_laws.proofs.session_links.Written_world_links.{slot_requests}
 use Rattle.gq_laws.proofs.session_links.Linked_after_accept.{stand_slots}
 use Rattle.gq_laws.specs.Separation.{own_session, IsApart}
 use Rattle.gq_laws.proofs.Outside_step_untouched.{outlined}
-use Rattle.gq_laws.specs.internal.Renamed.{renamed_slot, renamed_slot_id, renamed_current, renamed_leaf, renamed_session, own_at, IsSame}
+use Rattle.gq_laws.specs.Renamed.{renamed_slot, renamed_slot_id, renamed_current, renamed_leaf, renamed_session}
+use Rattle.gq_laws.specs.internal.Corresponding.{own_at, IsSame}
 use Rattle.gq_laws.proofs.Session_renaming.{own_there}
 use Rattle.gq_laws.proofs.Paired_step_outcomes.{Both, one_fails, both_give, same_need, both_when, both_pop, both_push, both_absent, both_fill}
 use Rattle.gq_laws.proofs.Paired_step_outcomes.{both_bytes_in, both_pool_in, both_link_in}

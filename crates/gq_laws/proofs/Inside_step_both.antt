@@ -17,7 +17,8 @@ use Rattle.gq_laws.proofs.quota_payment.Paid_worlds.{kept_paid}
 use Rattle.gq_laws.specs.Separation.{IsApart, IsUntouched}
 use Rattle.gq_laws.proofs.Group_account_sums.{paid_same as untouched_paid}
 use Rattle.gq_laws.proofs.Outside_step_untouched.{step_untouched}
-use Rattle.gq_laws.specs.internal.Renamed.{renamed_leaf, IsSame}
+use Rattle.gq_laws.specs.Renamed.{renamed_leaf}
+use Rattle.gq_laws.specs.internal.Corresponding.{IsSame}
 use Rattle.gq_laws.proofs.Renamed_session_sums.{paid_same}
 use Rattle.gq_laws.proofs.Inside_section_steps.{both_next}
 

@@ -7,7 +7,7 @@ use Rattle.gq_model.specs.declared.fault.Wrong.{Wrong}
 use Rattle.gq_model.specs.declared.fault.Wrong.TheVariants.{WrongKind}
 use Rattle.gq_model.specs.machine.Memory.{bytes_in, pool_in, if_absent}
 use Rattle.gq_model.specs.machine.Requests.{link_in}
-use Rattle.gq_laws.specs.internal.Renamed.{renamed_slot, renamed_slot_id}
+use Rattle.gq_laws.specs.Renamed.{renamed_slot, renamed_slot_id}
 
 -- where the one step is not wrong, the other is not; both show the same, and P holds of the worlds after them
 pub record Both (P : World → World → Type 0) (r q : Stepped) : Type 0 where

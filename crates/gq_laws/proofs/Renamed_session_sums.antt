@@ -16,7 +16,8 @@ use Rattle.gq_laws.proofs.session_links.Written_world_links.{set_else}
 use Rattle.gq_laws.proofs.step_shapes.Number_sums.{sum_zero}
 use Rattle.gq_laws.specs.Separation.{own_session}
 use Rattle.gq_laws.proofs.Group_account_sums.{to_known, from_known}
-use Rattle.gq_laws.specs.internal.Renamed.{renamed_slot, renamed_leaf, renamed_session, own_at, Correspond, IsSame}
+use Rattle.gq_laws.specs.Renamed.{renamed_slot, renamed_leaf, renamed_session}
+use Rattle.gq_laws.specs.internal.Corresponding.{own_at, Correspond, IsSame}
 
 -- TERMS THAT CORRESPOND
 

@@ -16,8 +16,8 @@ use Rattle.gq_laws.specs.Shapes.{Each}
 use Rattle.gq_laws.proofs.session_links.Written_world_links.{set_else}
 use Rattle.gq_laws.specs.Separation.{own_session, own_requests}
 use Rattle.gq_laws.proofs.Outside_step_untouched.{free_none}
-use Rattle.gq_laws.specs.internal.Renamed.{renamed_slot, renamed_slot_id, renamed_current, renamed_leaf, renamed_session, renamed_request, own_at, Correspond}
-use Rattle.gq_laws.specs.internal.Renamed.{IsSame}
+use Rattle.gq_laws.specs.Renamed.{renamed_slot, renamed_slot_id, renamed_current, renamed_leaf, renamed_session, renamed_request}
+use Rattle.gq_laws.specs.internal.Corresponding.{own_at, Correspond, IsSame}
 use Rattle.gq_laws.proofs.Session_renaming.{changed, own_there}
 
 -- LISTS

@@ -9,8 +9,8 @@ use Rattle.gq_model.specs.machine.World.{session_at, slot_at, leaf_slot, session
 use Rattle.gq_model.proofs.Small_facts.{none_some, equal_self}
 use Rattle.gq_laws.specs.Session_links.{Naming, Leads, Waits, named, naming, naming_in, outline, outline_in, stance, stance_in, Belongs, AreLinked, links}
 use Rattle.gq_laws.specs.Separation.{own_session, own_requests}
-use Rattle.gq_laws.specs.internal.Renamed.{renamed_slot, renamed_slot_id, renamed_current, renamed_leaf, renamed_session, renamed_request, own_at, Correspond}
-use Rattle.gq_laws.specs.internal.Renamed.{IsSame}
+use Rattle.gq_laws.specs.Renamed.{renamed_slot, renamed_slot_id, renamed_current, renamed_leaf, renamed_session, renamed_request}
+use Rattle.gq_laws.specs.internal.Corresponding.{own_at, Correspond, IsSame}
 
 -- ONE PLACE CHANGES
 

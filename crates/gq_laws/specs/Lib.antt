@@ -30,5 +30,7 @@ pub mod Progress
 pub mod Separation
 -- what is seen of a group, and its turns alone
 pub mod Group_alone
+-- what a world has, with other numbers of sessions
+pub mod Renamed
 -- what only proofs and invariants speak of
 pub mod internal

@@ -8,4 +8,4 @@ pub mod Section_counts
 pub mod Init_quanta
 pub mod Carrying
 -- How two runs of the same scenario correspond, up to the numbers of their sessions.
-pub mod Renamed
+pub mod Corresponding

@@ -5,7 +5,7 @@ use Rattle.std.specs.Prelude.{IfSome, option_map, slice_get}
 use Rattle.gq_model.specs.machine.World.{Slot, Empty, Session, Leaf, World, leaf_slot, session_at, session_slot}
 use Rattle.gq_tariff.specs.declared.class.Class.{Class}
 use Rattle.gq_tariff.specs.declared.class.Class.TheVariants.{Bytes16, Bytes32, Bytes64, Bytes128, Bytes256, Bytes512, Bytes1024, Bytes2048}
-use Rattle.gq_laws.specs.internal.Renamed.{renamed_leaf, renamed_request, renamed_session, renamed_slot}
+use Rattle.gq_laws.specs.Renamed.{renamed_leaf, renamed_request, renamed_session, renamed_slot}
 use Rattle.gq_machine.specs.Machine_world.{no_leaf}
 use Rattle.gq_outcomes.specs.Same.{ordered_by, session_slots}
 use Rattle.gq_outcomes.specs.internal.Keys.{current_key, each_key, flag, leaf_key, left_key, list_key, number_key, option_key, phase_tag, request_key}

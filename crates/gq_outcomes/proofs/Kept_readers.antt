@@ -11,7 +11,7 @@ use Rattle.gq_model.specs.machine.Scenario.{Component, components}
 use Rattle.gq_model.specs.machine.World.{Slot, Empty, Bytes, Pool, Link, Waiting, Session, Leaf, session_at}
 use Rattle.gq_model.proofs.Small_facts.{get_within, none_some, some_same}
 use Rattle.gq_laws.specs.Shapes.{IsWholeLeaf}
-use Rattle.gq_laws.specs.internal.Renamed.{renamed_session, renamed_slot_id}
+use Rattle.gq_laws.specs.Renamed.{renamed_session, renamed_slot_id}
 use Rattle.gq_prepared.specs.Prepared.{names_of}
 use Rattle.gq_trade.specs.Seen_sessions.{slot_id_seen}
 use Rattle.gq_trade.specs.declared.session.SlotId.{SlotId}

@@ -25,7 +25,7 @@ use Rattle.gq_model.specs.machine.Program.{Statements, Done, Do, If, Loop, same_
 use Rattle.gq_model.specs.machine.World.{Slot, Empty, Bytes, Pool, Link, Waiting, SlotId, In_leaf, In_session, In_object, Session, Ask, Ask_open, Ask_upgrade}
 use Rattle.gq_model.specs.machine.World.{Ask_close, Ask_call, Request, Current, Round, Leaf, World}
 use Rattle.gq_model.specs.machine.World.{session_at}
-use Rattle.gq_laws.specs.internal.Renamed.{renamed_leaf, renamed_request, renamed_session}
+use Rattle.gq_laws.specs.Renamed.{renamed_leaf, renamed_request, renamed_session}
 
 -- THE ORDER OF SESSIONS
 

@@ -2,7 +2,7 @@
 ghost use Rattle.std.specs.Prelude.{◌≡◌, ◌<◌, ◌≤◌, ◌++◌, ◌∷◌, [], Some, OnOk, IfOk, map, option_map, slice_get};
 ghost use Rattle.std.specs.Prelude.{IsTrue, get_or, is_some, length};
 ghost use Rattle.gq_bytecode.specs.Bytecode_layout.{width};
-ghost use Rattle.gq_laws.specs.internal.Renamed.{renamed_current, renamed_slot_id};
+ghost use Rattle.gq_laws.specs.Renamed.{renamed_current, renamed_slot_id};
 ghost use Rattle.gq_machine.specs.Readers.{HasSlotId, body_in, section_of};
 ghost use Rattle.gq_model.specs.machine.Program.{body_of, section_in};
 ghost use Rattle.gq_model.specs.machine.Scenario.{Component, components};

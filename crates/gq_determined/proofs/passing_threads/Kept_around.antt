@@ -24,7 +24,7 @@ use Rattle.gq_model.specs.machine.Step.{accept_oldest, step_in, instruct}
 use Rattle.gq_laws.specs.Session_links.{AreLinked, links}
 use Rattle.gq_laws.specs.Inside_steps.{TakesLeaf}
 use Rattle.gq_laws.proofs.step_shapes.Step_end_worlds.{closed}
-use Rattle.gq_laws.specs.internal.Renamed.{renamed_slot, renamed_slot_id, renamed_current, renamed_session, renamed_request}
+use Rattle.gq_laws.specs.Renamed.{renamed_slot, renamed_slot_id, renamed_current, renamed_session, renamed_request}
 use Rattle.gq_laws.proofs.Paired_step_outcomes.{Both, one_fails, both_give, same_need, both_when, both_pop}
 use Rattle.gq_determined.proofs.passing_threads.Kept_by_steps.{Aside, other_leaf, other_doing, KeepsOwn, IsKept, IsAllowed, both_instruct, stands}
 

@@ -31,7 +31,7 @@ use Rattle.gq_model.specs.machine.Step.{bench, operated, instruct}
 use Rattle.gq_laws.specs.Inside_steps.{TakesLeaf}
 use Rattle.gq_laws.specs.Session_links.{naming, AreLinked, links}
 use Rattle.gq_laws.proofs.session_links.Linked_after_accept.{stand_slots}
-use Rattle.gq_laws.specs.internal.Renamed.{renamed_slot, renamed_slot_id, renamed_current, renamed_leaf, renamed_session, renamed_request}
+use Rattle.gq_laws.specs.Renamed.{renamed_slot, renamed_slot_id, renamed_current, renamed_leaf, renamed_session, renamed_request}
 use Rattle.gq_laws.proofs.Paired_step_outcomes.{Both, one_fails, both_give, same_need, both_when, both_pop, both_push, both_absent, both_fill}
 use Rattle.gq_laws.proofs.Paired_step_outcomes.{both_link_in}
 use Rattle.gq_laws.proofs.Group_slots_sessions.{slot_free}

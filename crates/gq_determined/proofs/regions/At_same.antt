@@ -10,7 +10,7 @@ use Rattle.gq_model.specs.machine.World.{put_session_slot, put_object, with_slot
 use Rattle.gq_model.specs.machine.Step.{is_named, released, all_released, resumed, active_again, unblocked}
 use Rattle.gq_model.proofs.Small_facts.{none_some, some_same}
 use Rattle.gq_laws.proofs.session_links.Written_world_links.{set_else}
-use Rattle.gq_laws.specs.internal.Renamed.{renamed_current, renamed_leaf}
+use Rattle.gq_laws.specs.Renamed.{renamed_current, renamed_leaf}
 use Rattle.gq_determined.specs.internal.Threads.{seen, seen_by, IsAtSame}
 use Rattle.gq_determined.proofs.regions.Region_changes.{put_at}
 

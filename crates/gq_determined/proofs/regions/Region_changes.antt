@@ -13,7 +13,7 @@ use Rattle.gq_model.specs.machine.Step.{all_released}
 use Rattle.gq_model.proofs.Small_facts.{none_some, some_same, equal_self}
 use Rattle.gq_laws.proofs.session_links.Written_world_links.{set_else}
 use Rattle.gq_laws.proofs.Outside_step_untouched.{free_none}
-use Rattle.gq_laws.specs.internal.Renamed.{renamed_slot, renamed_session, renamed_request}
+use Rattle.gq_laws.specs.Renamed.{renamed_slot, renamed_session, renamed_request}
 use Rattle.gq_laws.proofs.Session_renaming.{changed}
 use Rattle.gq_laws.proofs.Renamed_world_equality.{place_here, added_here, added_else}
 use Rattle.gq_determined.specs.internal.Threads.{within, among, slots_of, IsSameRegion}

@@ -18,7 +18,7 @@ use Rattle.gq_laws.proofs.session_links.Asked_request_changes.{same_phase}
 use Rattle.gq_laws.proofs.session_links.Written_world_links.{set_else, slot_stances}
 use Rattle.gq_laws.proofs.step_shapes.Step_end_worlds.{closed}
 use Rattle.gq_laws.proofs.Outside_step_untouched.{outlined}
-use Rattle.gq_laws.specs.internal.Renamed.{renamed_slot, renamed_slot_id, renamed_leaf, renamed_session, renamed_request}
+use Rattle.gq_laws.specs.Renamed.{renamed_slot, renamed_slot_id, renamed_leaf, renamed_session, renamed_request}
 use Rattle.gq_determined.specs.internal.Threads.{is_active, among, slots_of, seen, IsAtSame}
 use Rattle.gq_determined.proofs.passing_threads.Kept_by_steps.{Aside, other_leaf, other_doing}
 use Rattle.gq_determined.proofs.passing_threads.Kept_around.{IsTaken, AreTaken, Match, IsKeptAround}

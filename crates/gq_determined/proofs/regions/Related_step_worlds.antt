@@ -20,7 +20,7 @@ use Rattle.gq_laws.specs.Session_links.{Leads, naming, naming_in, stance, links,
 use Rattle.gq_laws.proofs.session_links.Link_free_statements.{stood}
 use Rattle.gq_laws.proofs.session_links.Written_world_links.{set_else}
 use Rattle.gq_laws.proofs.Outside_step_untouched.{free_none, outlined}
-use Rattle.gq_laws.specs.internal.Renamed.{renamed_slot, renamed_slot_id, renamed_leaf, renamed_session, renamed_request}
+use Rattle.gq_laws.specs.Renamed.{renamed_slot, renamed_slot_id, renamed_leaf, renamed_session, renamed_request}
 use Rattle.gq_laws.proofs.Paired_step_outcomes.{Both, one_fails, both_give, both_when}
 use Rattle.gq_laws.proofs.Renamed_world_equality.{place_here, added_else}
 use Rattle.gq_determined.specs.internal.Threads.{is_active, among, slots_of, seen, seen_by, IsAtSame, IsSameRegion}

@@ -11,7 +11,7 @@ use Rattle.gq_model.specs.machine.World.{session_at, slot_at, leaf_slot, session
 use Rattle.gq_laws.specs.Shapes.{Each}
 use Rattle.gq_laws.specs.Session_links.{Naming, Leads, Waits, named, naming, naming_in, outline, outline_in, Belongs, IsAsked, links}
 use Rattle.gq_laws.proofs.Outside_step_untouched.{outlined}
-use Rattle.gq_laws.specs.internal.Renamed.{renamed_slot, renamed_slot_id, renamed_current, renamed_leaf, renamed_session, renamed_request}
+use Rattle.gq_laws.specs.Renamed.{renamed_slot, renamed_slot_id, renamed_current, renamed_leaf, renamed_session, renamed_request}
 use Rattle.gq_determined.specs.internal.Threads.{Tracked, within, among, slots_of, seen, seen_by, IsAtSame, IsSameRegion}
 use Rattle.gq_determined.proofs.regions.Region_changes.{within_there}
 use Rattle.gq_determined.proofs.thread_positions.Single_thread_position.{root_at, IsPlaced}

@@ -9,7 +9,8 @@ use Rattle.gq_model.specs.machine.World.{Session, Leaf, World, joined, session_a
 use Rattle.gq_model.specs.machine.Accounts.{account_at}
 use Rattle.gq_model.proofs.Small_facts.{none_some, some_same}
 use Rattle.gq_laws.specs.Separation.{own_session}
-use Rattle.gq_laws.specs.internal.Renamed.{renamed_slot, renamed_leaf, renamed_session, own_at, Correspond, IsSame}
+use Rattle.gq_laws.specs.Renamed.{renamed_slot, renamed_leaf, renamed_session}
+use Rattle.gq_laws.specs.internal.Corresponding.{own_at, Correspond, IsSame}
 use Rattle.gq_laws.proofs.Renamed_session_sums.{same_account}
 use Rattle.gq_determined.specs.internal.Threads.{Tracked, slots_of, IsSameRegion, IsSameThread}
 use Rattle.gq_determined.proofs.regions.Region_changes.{within_there, within_here}

@@ -11,7 +11,7 @@ use Rattle.gq_model.specs.machine.Sums.{places, raised, slot_places}
 use Rattle.gq_model.proofs.Small_facts.{get_within, none_some, some_same, equal_self}
 use Rattle.gq_laws.specs.Shapes.{Each, IsWholeLeaf}
 use Rattle.gq_laws.specs.Sound_scenarios.{IsSound}
-use Rattle.gq_laws.specs.internal.Renamed.{renamed_slot}
+use Rattle.gq_laws.specs.Renamed.{renamed_slot}
 use Rattle.gq_laws.specs.internal.Uncounted.{uncounted}
 use Rattle.gq_races.specs.Races.{IsRaceFree}
 use Rattle.gq_determined.specs.internal.Thread_machines.{is_for}

@@ -14,7 +14,7 @@ use Rattle.gq_laws.specs.Leaf_phases.{Suits}
 use Rattle.gq_laws.specs.Progress.{rests, AllRest}
 use Rattle.gq_laws.specs.Sound_scenarios.{IsSound}
 use Rattle.gq_laws.specs.internal.Verified_holdings.{HoldsNone}
-use Rattle.gq_laws.specs.internal.Renamed.{renamed_slot}
+use Rattle.gq_laws.specs.Renamed.{renamed_slot}
 use Rattle.gq_laws.specs.internal.Uncounted.{uncounted}
 use Rattle.gq_laws.proofs.progress.Lasting_world_invariant.{reached_lasts}
 use Rattle.gq_laws.proofs.step_shapes.Step_counting.{stands_still}

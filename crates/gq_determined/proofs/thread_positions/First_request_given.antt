@@ -12,7 +12,8 @@ use Rattle.gq_model.proofs.Small_facts.{none_some, some_same, equal_self}
 use Rattle.gq_laws.specs.Shapes.{Each}
 use Rattle.gq_laws.specs.Session_links.{Fits, one_if, requests_of, stance, stance_in, links}
 use Rattle.gq_laws.proofs.session_links.Asked_request_changes.{same_current, same_phase}
-use Rattle.gq_laws.specs.internal.Renamed.{renamed_request, Correspond}
+use Rattle.gq_laws.specs.Renamed.{renamed_request}
+use Rattle.gq_laws.specs.internal.Corresponding.{Correspond}
 use Rattle.gq_determined.specs.internal.Threads.{is_unshared, Starts, Tracked, thread_by, who, who_of, who_by, asker, moved, given}
 use Rattle.gq_determined.specs.internal.Threads.{works, works_for, is_active, within, among, IsSameThread}
 use Rattle.gq_determined.proofs.thread_positions.Single_thread_position.{root_at, IsOpened, AreOpened, IsUnder, AreOwned, IsByCurrent, IsPlaced, IsTracked}

@@ -11,7 +11,7 @@ use Rattle.gq_model.specs.machine.World.{Session, Request, Current, Leaf, sessio
 use Rattle.gq_model.specs.machine.Step.{oldest}
 use Rattle.gq_model.proofs.Small_facts.{some_same, equal_self}
 use Rattle.gq_laws.specs.Session_links.{stance, stance_in, links}
-use Rattle.gq_laws.specs.internal.Renamed.{renamed_slot, renamed_request, renamed_session}
+use Rattle.gq_laws.specs.Renamed.{renamed_slot, renamed_request, renamed_session}
 use Rattle.gq_determined.specs.internal.Threads.{is_unshared, Tracked, thread_by, who, moved, given, first_of, first_by}
 use Rattle.gq_determined.specs.internal.Threads.{works, works_for, is_active, within, slots_of, IsSameRegion, IsSameThread}
 use Rattle.gq_determined.proofs.regions.Region_changes.{within_there, within_here}

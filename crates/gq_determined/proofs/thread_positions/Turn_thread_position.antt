@@ -15,7 +15,7 @@ use Rattle.gq_laws.specs.Session_links.{stance, stance_in, one_if, requests_of, 
 use Rattle.gq_laws.proofs.session_links.Asked_request_changes.{same_phase}
 use Rattle.gq_laws.proofs.session_links.Linked_after_accept.{Found, oldest_found}
 use Rattle.gq_laws.proofs.Outside_step_untouched.{outlined}
-use Rattle.gq_laws.specs.internal.Renamed.{renamed_leaf, renamed_session, renamed_request}
+use Rattle.gq_laws.specs.Renamed.{renamed_leaf, renamed_session, renamed_request}
 use Rattle.gq_determined.specs.internal.Threads.{Tracked, thread_by, who_by, who_of, who, is_active, works, works_for, among, seen, seen_by, IsSameThread}
 use Rattle.gq_determined.specs.internal.Threads.{asker}
 use Rattle.gq_determined.proofs.regions.Region_changes.{within_there, within_here}

@@ -17,7 +17,7 @@ use Rattle.gq_laws.specs.Inside_steps.{TakesLeaf}
 use Rattle.gq_laws.specs.Session_links.{stance, stance_in, outline, outline_in, links, Belongs, Fits, IsAsked}
 use Rattle.gq_laws.proofs.session_links.Asked_request_changes.{same_phase, same_current}
 use Rattle.gq_laws.proofs.Outside_step_untouched.{free_none, outlined}
-use Rattle.gq_laws.specs.internal.Renamed.{renamed_slot, renamed_leaf}
+use Rattle.gq_laws.specs.Renamed.{renamed_slot, renamed_leaf}
 use Rattle.gq_determined.specs.internal.Threads.{Tracked, thread_by, anew, works, works_for, is_active, among, slots_of, seen, seen_by, IsAtSame, IsSameRegion}
 use Rattle.gq_determined.specs.internal.Threads.{IsSameThread}
 use Rattle.gq_determined.proofs.passing_threads.Kept_by_steps.{Aside, other_doing}

@@ -10,7 +10,7 @@ use Rattle.gq_model.specs.machine.Sums.{paid}
 use Rattle.gq_model.specs.machine.Doing.{Event}
 use Rattle.gq_model.specs.machine.Step.{next}
 use Rattle.gq_model.proofs.Small_facts.{none_some, some_none, some_same}
-use Rattle.gq_laws.specs.internal.Renamed.{renamed_leaf}
+use Rattle.gq_laws.specs.Renamed.{renamed_leaf}
 use Rattle.gq_determined.specs.internal.Threads.{Tracked, thread_by, who, more_of, stepped_to, works, works_for, is_active, seen, IsAtSame, IsSameThread}
 use Rattle.gq_determined.proofs.thread_positions.Single_thread_position.{IsPlaced}
 use Rattle.gq_determined.proofs.thread_positions.Turn_thread_position.{IsWorking, ServesSame, same_place}

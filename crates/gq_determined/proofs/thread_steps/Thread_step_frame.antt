@@ -14,7 +14,7 @@ use Rattle.gq_model.proofs.Small_facts.{none_some, some_same, equal_self}
 use Rattle.gq_laws.specs.Shapes.{Each}
 use Rattle.gq_laws.specs.Session_links.{stance, stance_in, IsLinkedWorld}
 use Rattle.gq_laws.proofs.Outside_step_untouched.{free_none, outlined}
-use Rattle.gq_laws.specs.internal.Renamed.{renamed_slot, renamed_leaf, renamed_request}
+use Rattle.gq_laws.specs.Renamed.{renamed_slot, renamed_leaf, renamed_request}
 use Rattle.gq_determined.specs.internal.Threads.{Tracked, thread_by, anew, stepped_to, works, works_for, is_active, within, among, slots_of, seen, seen_by}
 use Rattle.gq_determined.specs.internal.Threads.{IsSameThread}
 use Rattle.gq_determined.proofs.regions.Outside_region_kept.{OursBy, IsElse, current_of}

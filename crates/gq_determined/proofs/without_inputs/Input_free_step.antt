@@ -18,7 +18,7 @@ use Rattle.gq_model.specs.machine.World.{with_session}
 use Rattle.gq_model.specs.machine.World.{with_slot}
 use Rattle.gq_laws.specs.Session_links.{Leads, stance, stance_in, naming_in, IsLinkedWorld}
 use Rattle.gq_laws.specs.Inside_steps.{TakesLeaf}
-use Rattle.gq_laws.specs.internal.Renamed.{renamed_session, renamed_slot, renamed_slot_id}
+use Rattle.gq_laws.specs.Renamed.{renamed_session, renamed_slot, renamed_slot_id}
 use Rattle.gq_laws.proofs.Paired_step_outcomes.{Both, both_give, both_when, one_fails}
 use Rattle.gq_laws.proofs.Outside_step_untouched.{outlined}
 use Rattle.gq_laws.proofs.session_links.Linked_after_accept.{oldest_found}

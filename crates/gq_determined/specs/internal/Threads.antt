@@ -13,7 +13,8 @@ use Rattle.gq_model.specs.machine.World.{Slot, Session, Request, Current, Leaf, 
 use Rattle.gq_model.specs.machine.Doing.{Event, Stepped}
 use Rattle.gq_model.specs.machine.Requests.{free_place}
 use Rattle.gq_model.specs.machine.Step.{oldest, next}
-use Rattle.gq_laws.specs.internal.Renamed.{renamed_slot, renamed_leaf, renamed_request, Correspond}
+use Rattle.gq_laws.specs.Renamed.{renamed_slot, renamed_leaf, renamed_request}
+use Rattle.gq_laws.specs.internal.Corresponding.{Correspond}
 use Rattle.gq_races.specs.Races.{opens_first, opens_later, is_shared}
 use Rattle.gq_determined.specs.internal.Thread_machines.{after, shown}
 use Rattle.gq_determined.specs.internal.Unset.{each_turn, turns_alone}

@@ -6,7 +6,8 @@ use Rattle.gq_model.specs.machine.Run.{is_within, inputs_with, set_in, set_input
 use Rattle.gq_model.specs.machine.Scenario.{System, Component}
 use Rattle.gq_model.specs.machine.World.{Request, Leaf, World, session_at, with_leaf}
 use Rattle.gq_laws.specs.Separation.{own_session, own_requests, IsUntouched, SameRequests}
-use Rattle.gq_laws.specs.internal.Renamed.{renamed_leaf, renamed_request, IsSame}
+use Rattle.gq_laws.specs.Renamed.{renamed_leaf, renamed_request}
+use Rattle.gq_laws.specs.internal.Corresponding.{IsSame}
 use Rattle.gq_laws.proofs.Outside_changes_untouched.{outside_ne}
 use Rattle.gq_laws.proofs.session_links.Written_world_links.{set_here, set_else}
 use Rattle.gq_laws.proofs.input_settings.Setting_keeps_invariants.{of_setting}

@@ -19,7 +19,7 @@ use Rattle.gq_laws.specs.Sound_scenarios.{IsSound}
 use Rattle.gq_laws.proofs.Outside_step_untouched.{outlined}
 use Rattle.gq_laws.proofs.verified_programs.Use_chains.{Uses}
 use Rattle.gq_laws.specs.Turn_effects.{can_run, runs, runs_as, steps_of}
-use Rattle.gq_laws.specs.internal.Renamed.{renamed_request, renamed_session, renamed_slot}
+use Rattle.gq_laws.specs.Renamed.{renamed_request, renamed_session, renamed_slot}
 use Rattle.gq_laws.specs.internal.Uncounted.{uncounted}
 use Rattle.gq_laws.proofs.step_shapes.Step_counting.{counts_steps}
 use Rattle.gq_determined.specs.internal.Threads.{among, moved, slots_of, who, IsSameThread}

@@ -14,7 +14,8 @@ use Rattle.gq_model.specs.machine.World.{SlotId, In_leaf, In_session, In_object,
 use Rattle.gq_model.proofs.Small_facts.{equal_self}
 use Rattle.gq_laws.specs.Shapes.{Each}
 use Rattle.gq_laws.specs.Session_links.{Belongs, links, one_if, outline, outline_in, requests_of, stance, stance_in}
-use Rattle.gq_laws.specs.internal.Renamed.{renamed_request, renamed_session, renamed_slot_id, Correspond}
+use Rattle.gq_laws.specs.Renamed.{renamed_request, renamed_session, renamed_slot_id}
+use Rattle.gq_laws.specs.internal.Corresponding.{Correspond}
 use Rattle.gq_laws.proofs.Outside_step_untouched.{outlined}
 use Rattle.gq_laws.proofs.verified_programs.Use_chains.{Uses, Chain, chain_short}
 use Rattle.gq_determined.specs.internal.Threads.{Tracked, among, anew, is_active, stepped_to, thread_by, who, within, works, works_for}

@@ -18,8 +18,8 @@ use Rattle.gq_laws.specs.Shapes.{Each}
 use Rattle.gq_laws.specs.Separation.{own_session, own_requests}
 use Rattle.gq_laws.specs.Session_links.{Naming, Leads, Waits, named as named_of, naming, naming_in, outline, outline_in, stance, stance_in, Stands, Belongs}
 use Rattle.gq_laws.specs.Session_links.{IsAsked, IsLinkedWorld, links}
-use Rattle.gq_laws.specs.internal.Renamed.{renamed_slot, renamed_slot_id, renamed_current, renamed_leaf, renamed_session, renamed_request, own_at}
-use Rattle.gq_laws.specs.internal.Renamed.{IsSame}
+use Rattle.gq_laws.specs.Renamed.{renamed_slot, renamed_slot_id, renamed_current, renamed_leaf, renamed_session, renamed_request}
+use Rattle.gq_laws.specs.internal.Corresponding.{own_at, IsSame}
 use Rattle.gq_laws.proofs.Outside_step_untouched.{outlined}
 use Rattle.gq_laws.proofs.progress.Lasting_world_invariant.{Lasts}
 use Rattle.gq_laws.proofs.verified_programs.Sound_systems.{is_resolved}

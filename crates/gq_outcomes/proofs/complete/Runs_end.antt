@@ -19,7 +19,8 @@ use Rattle.gq_laws.specs.Progress.{AllRest}
 use Rattle.gq_laws.specs.Separation.{own_requests}
 use Rattle.gq_laws.specs.Sound_scenarios.{IsSound}
 use Rattle.gq_laws.specs.Turn_effects.{can_run}
-use Rattle.gq_laws.specs.internal.Renamed.{IsSame, renamed_leaf, renamed_request}
+use Rattle.gq_laws.specs.Renamed.{renamed_leaf, renamed_request}
+use Rattle.gq_laws.specs.internal.Corresponding.{IsSame}
 use Rattle.gq_laws.proofs.step_shapes.Step_counting.{stands_still}
 use Rattle.gq_determined.proofs.thread_steps.Thread_reflexivity.{leaf_itself, session_itself}
 use Rattle.gq_outcomes.specs.Laws.{AreAll, ending, turns_alone}

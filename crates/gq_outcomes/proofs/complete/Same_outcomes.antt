@@ -17,7 +17,8 @@ use Rattle.gq_laws.specs.Reached_worlds.{IsReached}
 use Rattle.gq_laws.specs.Separation.{IsApart}
 use Rattle.gq_laws.specs.Sound_scenarios.{IsSound}
 use Rattle.gq_laws.specs.Turn_effects.{can_run, runs, runs_as}
-use Rattle.gq_laws.specs.internal.Renamed.{IsSame, renamed_leaf}
+use Rattle.gq_laws.specs.Renamed.{renamed_leaf}
+use Rattle.gq_laws.specs.internal.Corresponding.{IsSame}
 use Rattle.gq_laws.proofs.Group_oldest_requests.{Match, matched}
 use Rattle.gq_laws.proofs.Inside_step_both.{both_step}
 use Rattle.gq_laws.proofs.Outside_step_untouched.{free_none}

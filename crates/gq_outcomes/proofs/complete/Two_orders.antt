@@ -14,7 +14,7 @@ use Rattle.gq_model.proofs.Small_facts.{none_some, some_same, equal_self, get_wi
 use Rattle.gq_laws.specs.Leaf_phases.{Suits}
 use Rattle.gq_laws.specs.Session_links.{links, stance, stance_in}
 use Rattle.gq_laws.specs.Sound_scenarios.{IsSound}
-use Rattle.gq_laws.specs.internal.Renamed.{renamed_leaf}
+use Rattle.gq_laws.specs.Renamed.{renamed_leaf}
 use Rattle.gq_laws.specs.internal.Uncounted.{uncounted}
 use Rattle.gq_laws.proofs.session_links.Asked_request_changes.{same_phase}
 use Rattle.gq_determined.specs.internal.Threads.{asker, is_active, seen, seen_by, thread_by, who, who_by, who_of, works, works_for, IsSameThread}

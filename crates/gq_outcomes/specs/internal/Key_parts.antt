@@ -5,7 +5,7 @@ use Rattle.gq_model.specs.declared.phase.Phase.{Phase}
 use Rattle.gq_model.specs.declared.phase.Phase.TheVariants.{Pending, Running, Blocked, Serving, Handling, Exited}
 use Rattle.gq_heap.specs.Classes.{index_of}
 use Rattle.gq_tariff.specs.declared.class.Class.{Class}
-use Rattle.gq_laws.specs.internal.Renamed.{renamed_leaf, renamed_request, renamed_session, renamed_slot, renamed_slot_id}
+use Rattle.gq_laws.specs.Renamed.{renamed_leaf, renamed_request, renamed_session, renamed_slot, renamed_slot_id}
 use Rattle.gq_trade.specs.Seen_requests.{request_seen}
 use Rattle.gq_trade.specs.Seen_sessions.{slot_id_seen}
 use Rattle.gq_trade.specs.declared.requests.Request.{Request}

@@ -1,6 +1,6 @@
 use Rattle.std.proofs.Common.{◌∙◌, ◌++◌, ◌∷◌, [], ap, sym}
 use Rattle.std.proofs.lemmas.Result.{on_ok_weaker}
-use Rattle.gq_laws.specs.internal.Renamed.{renamed_session}
+use Rattle.gq_laws.specs.Renamed.{renamed_session}
 use Rattle.gq_model.specs.machine.World.{session_object}
 use Rattle.gq_outcomes.specs.Same.{session_slots}
 use Rattle.gq_outcomes.specs.internal.Key_parts.{kept_slot_key, place_in, session_head_key, slot_or_empty}

@@ -1,6 +1,6 @@
 use Rattle.std.proofs.Common.{◌∙◌, ◌++◌, ◌∷◌, [], ap}
 use Rattle.std.proofs.lemmas.Result.{on_ok_weaker}
-use Rattle.gq_laws.specs.internal.Renamed.{renamed_slot_id}
+use Rattle.gq_laws.specs.Renamed.{renamed_slot_id}
 use Rattle.gq_prepared.specs.Prepared.{names_of}
 use Rattle.gq_trade.specs.Seen_sessions.{slot_id_seen}
 use Rattle.std.specs.Prelude.{get_or}

@@ -1,7 +1,7 @@
 use Rattle.std.proofs.Common.{◌≡◌, ◌∙◌, ◌++◌, ◌∷◌, [], ap}
 use Rattle.std.proofs.lemmas.Result.{on_ok_weaker}
 use Rattle.std.specs.Prelude.{option_map}
-use Rattle.gq_laws.specs.internal.Renamed.{renamed_current}
+use Rattle.gq_laws.specs.Renamed.{renamed_current}
 use Rattle.gq_statements.specs.Slot_statements.{current_seen}
 use Rattle.gq_outcomes.specs.internal.Key_parts.{leaf_at, place_in}
 use Rattle.gq_outcomes.specs.internal.Keys.{current_key, option_key, phase_tag}

@@ -1,6 +1,6 @@
 use Rattle.std.proofs.Common.{◌∙◌, ◌++◌, ap, sym}
 use Rattle.std.proofs.lemmas.Result.{on_ok_weaker}
-use Rattle.gq_laws.specs.internal.Renamed.{renamed_request}
+use Rattle.gq_laws.specs.Renamed.{renamed_request}
 use Rattle.gq_model.specs.machine.World.{Request}
 use Rattle.gq_trade.specs.Seen_requests.{request_seen}
 use Rattle.gq_outcomes.specs.internal.Key_parts.{kept_leaf_key, numbered_key, place_in}
