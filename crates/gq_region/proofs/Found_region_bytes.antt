@@ -20,7 +20,7 @@ use Rattle.gq_slots.specs.Calls.{PutsSlot}
 use Rattle.gq_slots.specs.Slot_addresses.{extent_at, place_seen}
 use Rattle.gq_slots.proofs.Slot_byte_counts.{length_seen}
 use Rattle.gq_region.specs.Region_addresses.{AreFound, AreThere, LiesAt, bytes_behind, bytes_seen, bytes_there, number_in, number_of, put_behind}
-use Rattle.gq_region.specs.Region_addresses.{put_slot, put_there, within}
+use Rattle.gq_region.specs.Region_addresses.{put_slot, put_there, slot_under, within}
 
 abbrev length_of : Option Extent → ℕ
 length_of None = 0
@@ -101,6 +101,10 @@ extent_size (Space k n) o e = ap length_of (sym e)
 extent_size (Pool q) o e = ap length_of (sym e)
 extent_size (Link k) o e = ap length_of (sym e)
 extent_size (Waiting k) o e = ap length_of (sym e)
+
+-- the slot in whose window an address is
+pub window_slot : (s : Slots) (x a : ℕ) → x < length s.own → a < 4294967296 → IsSlotId s (slot_under x a)
+window_slot s x a lt small = (lt, omega (arith, small))
 
 -- what stands at a place reads as it is
 pub reads_at : (f : Frame) (s : Slots) (o : Option SlotId) → AreRead s → IfSome o (λ q. IsSlotId s q)

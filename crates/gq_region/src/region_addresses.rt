@@ -44,6 +44,7 @@ fn find(
         (bytes_at addresses.now slots.now leaf address (bytes_of width)) }
 {
     slots.laws();
+    addresses.laws(slots);
     let slot = (address / WINDOW) as u8;
     let index = address % WINDOW;
     let extent = addresses.extent(slots, SlotId::InLeaf(leaf, slot))?;

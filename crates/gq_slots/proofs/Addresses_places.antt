@@ -1,5 +1,6 @@
 -- Where the bytes of a slot stand, in the machine's world.
-use Rattle.std.proofs.Common.{◌≡◌, ℕ, List, length, get_or, Option, Some, None, Bool, true, false, cond, eqb, refl, sym, ap, ◌∙◌}
+use Rattle.std.proofs.Common.{◌≡◌, ℕ, List, length, get_or, Option, Some, None, Bool, true, false, cond, eqb, refl, sym, ap, ◌∙◌, arith}
+use Rattle.std.specs.Prelude.{IfSome, is_some}
 use Rattle.gq_model.specs.machine.Scenario.{System}
 use Rattle.gq_model.specs.machine.Memory.{behind, bytes_slot_id}
 use Rattle.gq_model.specs.machine.World as world
@@ -12,8 +13,9 @@ use Rattle.gq_trade.specs.declared.session.SlotId.TheVariants.{InSession}
 use Rattle.gq_trade.specs.Seen_sessions.{seen_in, session_seen, slot_id_seen}
 use Rattle.gq_trade.specs.Trading.{IsTrading}
 use Rattle.gq_trade.specs.declared.session.Session.{Session}
+use Rattle.gq_trade.specs.Numbers.{IsTaken}
 use Rattle.gq_trade.proofs.Sessions_kept.{between_some}
-use Rattle.gq_slots.specs.Slots.{Frame, Slots, memory_of, content_at, world_seen}
+use Rattle.gq_slots.specs.Slots.{Frame, IsSlotId, Slots, holder, memory_of, slot_of, content_at, world_seen}
 use Rattle.gq_slots.proofs.Slot_change_worlds.{session_seen_at}
 use Rattle.gq_slots.specs.Slot_addresses.{AreBuffers, behind_link, buffer_slot_id, extent_at, place_in, place_of, place_seen}
 
@@ -40,7 +42,7 @@ buffer_there f system bs s k w a =
         chosen (eqb (get_or bs q.service 0) 0) k ∙ ap (λ n. cond (eqb n 0) None (Some (world.In_session k 0))) (a q.service b.service)
 
 -- the place of a slot's bytes is the world's
-pub place_there : (f : Frame) (system : System) (bs : List ℕ) (s : Slots) (st : Store) (t : Content) (p : SlotId) → IsTrading s.trades.trading
+place_there : (f : Frame) (system : System) (bs : List ℕ) (s : Slots) (st : Store) (t : Content) (p : SlotId) → IsTrading s.trades.trading
     → AreBuffers system f s bs
     → place_seen (place_in bs s t p) ≡ bytes_slot_id system (world_seen f s) (Some (seen st t)) (slot_id_seen p)
 place_there f system bs s st Empty p w a = refl
@@ -51,13 +53,37 @@ place_there f system bs s st (Pool q) p w a = refl
 place_there f system bs s st (Link k) p w a = buffer_there f system bs s k w a
 place_there f system bs s st (Waiting k) p w a = refl
 
--- read as the machine's world has it
-pub place_read : (f : Frame) (system : System) (bs : List ℕ) (s : Slots) (st : Store) (t : Content) (p : SlotId) → IsTrading s.trades.trading
-    → t ≡ content_at s p → world.slot_at (world_seen f s) (slot_id_seen p) ≡ Some (seen st t) → AreBuffers system f s bs
+-- THE PLACE OF A SLOT'S BYTES, AS THE DEFINITIONS SAY
+
+module _ (bs : List ℕ) (s : Slots) where
+  -- the first slot of a session that is there is a slot
+  first_slot : (o : Option Session) (k : ℕ) → get_or s.trades.trading.sessions k None ≡ o → IfSome (behind_link bs o k) (λ q. IsSlotId s q)
+  first_slot None k e = tt
+  first_slot (Some q) k e = chosen_slot (eqb (get_or bs q.service 0) 0)
+    where
+      taken : IsTaken s.trades.trading.sessions k
+      taken = ap is_some e
+
+      chosen_slot : (b : Bool) → IfSome (cond b None (Some (InSession k 0))) (λ q. IsSlotId s q)
+      chosen_slot true = tt
+      chosen_slot false = (taken, omega arith)
+
+  -- it is a slot
+  pub place_is : (t : Content) (p : SlotId) → IsSlotId s p → IfSome (place_in bs s t p) (λ q. IsSlotId s q)
+  place_is Empty p i = i
+  place_is (Block q n) p i = i
+  place_is (Slice k n) p i = i
+  place_is (Space k n) p i = i
+  place_is (Pool q) p i = i
+  place_is (Link k) p i = first_slot (get_or s.trades.trading.sessions k None) k refl
+  place_is (Waiting k) p i = i
+
+-- it is the machine's
+pub place_read : (f : Frame) (system : System) (bs : List ℕ) (s : Slots) (p : SlotId) → IsTrading s.trades.trading
+    → world.slot_at (world_seen f s) (slot_id_seen p) ≡ Some (slot_of s p) → AreBuffers system f s bs
     → place_seen (place_of bs s p) ≡ bytes_slot_id system (world_seen f s) (world.slot_at (world_seen f s) (slot_id_seen p)) (slot_id_seen p)
-place_read f system bs s st t p w e r a =
-    ap (λ c. place_seen (place_in bs s c p)) (sym e) ∙ place_there f system bs s st t p w a
-    ∙ sym (ap (λ y. bytes_slot_id system (world_seen f s) y (slot_id_seen p)) r)
+place_read f system bs s p w r a =
+    place_there f system bs s (memory_of s (holder s p)) (content_at s p) p w a ∙ sym (ap (λ y. bytes_slot_id system (world_seen f s) y (slot_id_seen p)) r)
 
 -- WHERE THE BYTES LIE
 

@@ -38,25 +38,31 @@ impl Addresses {
         Addresses { buffers }
     }
 
+    /// What holds of the place that the definitions give to the bytes of a slot. It does nothing.
+    ///
+    /// - The place is a slot that there is, or there is none.
+    /// - It is the one that the abstract machine gives.
+    pub fn laws(&self, slots: &Slots)
+        ensures there { (p : SlotId) → IsSlotId slots.now p → IfSome (place_of self.now slots.now p) (λ q. IsSlotId slots.now q) }
+        ensures world { (f : Frame) (system : System) (p : SlotId) → IsSlotId slots.now p → AreBuffers system f slots.now self.now
+            → place_seen (place_of self.now slots.now p) ≡ bytes_slot_id system (world_seen f slots.now)
+            (slot_at (world_seen f slots.now) (slot_id_seen p)) (slot_id_seen p) }
+    {
+        let _buffers = &self.buffers;
+        slots.laws();
+        slots.trades().laws();
+    }
+
     /// Where the bytes of a slot lie: its own, or, where it is a link, those of the first slot of its session. `None` where there are none: the slot is empty,
     /// waits or has a pool, or the session behind the link is gone, shares no buffer, or has no bytes there.
     #[inline(always)]
     pub fn extent(&self, slots: &Slots, slot_id: SlotId) -> Option<Extent>
         requires { IsSlotId slots.now slot_id }
-        ensures is { result ≡ extent_at slots.now (place_of self.now slots.now slot_id) }
-        ensures there { IfSome (place_of self.now slots.now slot_id) (λ p. IsSlotId slots.now p) }
-        ensures world { (f : Frame) (system : System) → AreBuffers system f slots.now self.now
-            → place_seen (place_of self.now slots.now slot_id) ≡ bytes_slot_id system (world_seen f slots.now)
-            (slot_at (world_seen f slots.now) (slot_id_seen slot_id)) (slot_id_seen slot_id) }
+        ensures { result ≡ extent_at slots.now (place_of self.now slots.now slot_id) }
     {
-        slots.trades().laws();
         let content = slots.content(slot_id);
         match content {
-            Content::Link(session) => {
-                // It is held apart, so that the extents of the other arms need not stand in memory, where the call writes its own.
-                let behind = self.buffer_extent(slots, session as usize)?;
-                Some(behind)
-            }
+            Content::Link(session) => self.linked(slots, session as usize),
             Content::Empty
             | Content::Block(_, _)
             | Content::Slice(_, _)
@@ -66,11 +72,19 @@ impl Addresses {
         }
     }
 
+    // What `buffer_extent` returns, in a variable of its own. Else the extents of other contents would stand in memory, where that call writes.
+    #[inline(always)]
+    fn linked(&self, slots: &Slots, session: usize) -> Option<Extent>
+        ensures { result ≡ extent_at slots.now (buffer_slot_id self.now slots.now session) }
+    {
+        let behind = self.buffer_extent(slots, session)?;
+        Some(behind)
+    }
+
     // Where the bytes of the first slot of a session lie, if it is there and its service shares a buffer.
     #[inline(never)]
     fn buffer_extent(&self, slots: &Slots, session: usize) -> Option<Extent>
-        ensures is { result ≡ extent_at slots.now (buffer_slot_id self.now slots.now session) }
-        ensures there { IfSome (buffer_slot_id self.now slots.now session) (λ p. IsSlotId slots.now p) }
+        ensures { result ≡ extent_at slots.now (buffer_slot_id self.now slots.now session) }
     {
         match slots.trades().find_session(session) {
             None => None,

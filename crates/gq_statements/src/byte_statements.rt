@@ -28,6 +28,7 @@ impl Actor {
             → IsFound d (world_seen f slots.now) place slots.now result }
     {
         slots.laws();
+        addresses.laws(slots);
         let named = self.slot_id(place)?;
         addresses.extent(slots, named)
     }
@@ -53,10 +54,11 @@ impl Actor {
         let Some(extent) = self.extent(addresses, slots, place) else {
             return Err(Wrong::WrongKind);
         };
-        if !is_inside(width, index, extent.length) {
-            return Err(Wrong::UnmappedByte);
+        // Where the width is known, bounds and access need no further branch on it.
+        match width {
+            Width::Byte => read_inside(slots, extent, Width::Byte, index),
+            Width::Word => read_inside(slots, extent, Width::Word, index),
         }
-        Ok(slots.read(extent, width, index))
     }
 
     /// Writes a byte of a number, or all four as a word, to an index of the bytes in a slot, the least byte first. Wrong as in `load`; then nothing
@@ -81,12 +83,46 @@ impl Actor {
         let Some(extent) = self.extent(addresses, slots, place) else {
             return Err(Wrong::WrongKind);
         };
-        if !is_inside(width, index, extent.length) {
-            return Err(Wrong::UnmappedByte);
+        match width {
+            Width::Byte => write_inside(slots, extent, Width::Byte, index, value),
+            Width::Word => write_inside(slots, extent, Width::Word, index, value),
         }
-        slots.write(extent, width, index, value);
-        Ok(())
     }
+}
+
+// Reads a byte or a word from an index of the bytes that lie there on. `UnmappedByte` where not all that is read is among them.
+#[inline(always)]
+fn read_inside(slots: &Slots, extent: Extent, width: Width, index: u32) -> Result<u32, Wrong>
+    requires { IsExtent slots.now extent }
+    ensures { (f : Frame) (d : Doing) (place : OperandSlot) (rest : List ℕ) → IsFound d (world_seen f slots.now) place slots.now (Some extent)
+        → d.world ≡ world_seen f slots.now → d.leaf.operands ≡ index ∷ rest → memory.load d width place ≡ read d rest result }
+{
+    if !is_inside(width, index, extent.length) {
+        return Err(Wrong::UnmappedByte);
+    }
+    Ok(slots.read(extent, width, index))
+}
+
+// Writes a byte of a number, or all four as a word, to an index of the bytes that lie there. `UnmappedByte` as in `read_inside`; then nothing changes.
+#[inline(always)]
+fn write_inside(
+    slots: &mut Slots,
+    extent: Extent,
+    width: Width,
+    index: u32,
+    value: u32,
+) -> Result<(), Wrong>
+    requires { IsExtent slots.old extent }
+    ensures step { (f : Frame) (d : Doing) (place : OperandSlot) (rest : List ℕ) → IsFound d (world_seen f slots.old) place slots.old (Some extent)
+        → standing d (with_operands d rest) ≡ world_seen f slots.old → d.leaf.operands ≡ value ∷ index ∷ rest
+        → memory.store d width place ≡ done result (world_seen f slots.new) }
+    ensures leaves { LeavesRest result slots.old slots.new }
+{
+    if !is_inside(width, index, extent.length) {
+        return Err(Wrong::UnmappedByte);
+    }
+    slots.write(extent, width, index, value);
+    Ok(())
 }
 
 // Whether the bytes of a width from an index on are among so many.
