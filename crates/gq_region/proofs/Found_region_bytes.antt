@@ -102,7 +102,7 @@ extent_size (Pool q) o e = ap length_of (sym e)
 extent_size (Link k) o e = ap length_of (sym e)
 extent_size (Waiting k) o e = ap length_of (sym e)
 
--- the slot in whose window an address is
+-- an address of a leaf is in the window of a slot that there is
 pub window_slot : (s : Slots) (x a : ℕ) → x < length s.own → a < 4294967296 → IsSlotId s (slot_under x a)
 window_slot s x a lt small = (lt, omega (arith, small))
 

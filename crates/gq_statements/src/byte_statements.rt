@@ -90,7 +90,7 @@ impl Actor {
     }
 }
 
-// Reads a byte or a word from an index of the bytes that lie there on. `UnmappedByte` where not all that is read is among them.
+// Reads a byte or a word of the bytes that lie there, from an index on. `UnmappedByte` where not all that is read is among them.
 #[inline(always)]
 fn read_inside(slots: &Slots, extent: Extent, width: Width, index: u32) -> Result<u32, Wrong>
     requires { IsExtent slots.now extent }
