@@ -16,8 +16,8 @@ from definitions import CRATES, TOP, clauses, file_of, mentioned_by  # noqa: E40
 # The public functions whose contracts TRUSTED.md is about: of a file those named, or all of them.
 TRUSTED = {
     "gq_world/src/run.rt": {"run"},
-    "gq_world/src/check.rt": {"check"},
-    "gq_world/src/asm.rt": {"asm"},
+    "gq_reports/src/check.rt": {"check"},
+    "gq_reports/src/asm.rt": {"asm"},
     "gq_world/src/load.rt": {"load"},
     "gq_world/src/world.rt": {"turn", "account", "budgets", "leaf", "nodes", "node", "free_pages"},
     "gq_library/src/loading.rt": None,

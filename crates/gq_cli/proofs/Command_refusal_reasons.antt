@@ -6,10 +6,10 @@ use Rattle.gq_model.specs.machine.Scenario.{Scenario}
 use Rattle.gq_model.specs.texts.Turns.{turned}
 use Rattle.gq_init.specs.declared.counted.Counted.{Counted}
 use Rattle.gq_init.specs.Writer_failures.{written_to}
-use Rattle.gq_world.specs.Command_outcomes.{GivesOf, IsBefore, IsCutShort, IsFaultOf, WritesAs, run_fault_text}
-use Rattle.gq_world.specs.Whole.{Written, refused_with, run_written}
-use Rattle.gq_world.specs.declared.run_fault.RunFault.{RunFault}
-use Rattle.gq_world.specs.declared.run_fault.RunFault.TheVariants as faults
+use Rattle.gq_reports.specs.Command_outcomes.{GivesOf, IsBefore, IsCutShort, IsFaultOf, WritesAs, run_fault_text}
+use Rattle.gq_reports.specs.Whole.{Written, refused_with, run_written}
+use Rattle.gq_reports.specs.declared.run_fault.RunFault.{RunFault}
+use Rattle.gq_reports.specs.declared.run_fault.RunFault.TheVariants as faults
 use Rattle.gq_cli.specs.Early_command_ends.{Ended, IsKnown, IsSilent, IsReportedAs, LeavesWriter}
 use Rattle.gq_cli.specs.Executed.{Asked, IsRefusedBy, ReadsText, WritesCut, both_written, leaf_written, scenario_written, Of_scenario, Of_leaf, Of_both}
 use Rattle.gq_command.specs.declared.command.LeafCommand.{LeafCommand}

@@ -11,9 +11,9 @@ use Rattle.gq_model.proofs.Small_facts.{none_some, some_same}
 use Rattle.gq_model.specs.declared.fault.TurnFault.{TurnFault}
 use Rattle.gq_model.specs.machine.Scenario.{Scenario}
 use Rattle.gq_model.specs.texts.Turns.{Turned, turned}
-use Rattle.gq_world.specs.Command_outcomes.{IsWhole, run_fault_text}
-use Rattle.gq_world.specs.Whole.{refused_with, turn_fault_text, with_scenario}
-use Rattle.gq_world.specs.declared.run_fault.RunFault.TheVariants as faults
+use Rattle.gq_reports.specs.Command_outcomes.{IsWhole, run_fault_text}
+use Rattle.gq_reports.specs.Whole.{refused_with, turn_fault_text, with_scenario}
+use Rattle.gq_reports.specs.declared.run_fault.RunFault.TheVariants as faults
 use Rattle.gq_faults.specs.First_stage_faults.{fault_lines, refusal_of}
 use Rattle.gq_faults.specs.Found_lists.{first}
 use Rattle.gq_faults.specs.Reported_faults.{EndsEarly, WritesFaults, WritesPrefix}

@@ -15,7 +15,7 @@ use Rattle.gq_load.specs.declared.load_fault.LoadFault.{LoadFault}
 use Rattle.gq_load.specs.declared.load_fault.LoadError.TheVariants as error
 use Rattle.gq_model.specs.machine.Scenario.{Scenario}
 use Rattle.gq_sizes.specs.Judged_scenario.{judged_without}
-use Rattle.gq_world.specs.Whole.{refused_with}
+use Rattle.gq_reports.specs.Whole.{refused_with}
 use Rattle.gq_cli.specs.Early_command_ends.{Ended, IsKnown, IsSilent, LeavesWriter}
 use Rattle.gq_cli.specs.Executed.{IsUnfit, Of_fit, fits, reasons}
 use Rattle.gq_cli.specs.declared.execute.CommandFault.{CommandFault}

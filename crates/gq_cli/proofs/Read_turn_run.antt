@@ -11,12 +11,12 @@ use Rattle.gq_model.specs.texts.Turns.{turned}
 use Rattle.gq_init.specs.TurnReading.{Reading, answer}
 use Rattle.gq_load.specs.Load.{loaded}
 use Rattle.gq_world.specs.Headline.{Upholding, WritesPromised}
-use Rattle.gq_world.specs.Whole.{refused_with, run_written, turn_fault_text, with_scenario, written_turns}
+use Rattle.gq_reports.specs.Whole.{refused_with, run_written, turn_fault_text, with_scenario, written_turns}
 use Rattle.gq_world.specs.internal.Act_transitions.{turns_written}
 use Rattle.gq_model.specs.declared.fault.TurnFault.{TurnFault}
-use Rattle.gq_world.specs.Command_outcomes.{GivesOf, run_fault_text}
-use Rattle.gq_world.specs.declared.run_fault.RunFault.{RunFault}
-use Rattle.gq_world.specs.declared.run_fault.RunFault.TheVariants as faults
+use Rattle.gq_reports.specs.Command_outcomes.{GivesOf, run_fault_text}
+use Rattle.gq_reports.specs.declared.run_fault.RunFault.{RunFault}
+use Rattle.gq_reports.specs.declared.run_fault.RunFault.TheVariants as faults
 use Rattle.gq_world.proofs.Run_text.{load_is, promised}
 use Rattle.gq_cli.specs.Early_command_ends.{Ended, IsKnown, IsUnread}
 use Rattle.gq_cli.specs.Executed.{ReadsText, Of_both}

@@ -3,10 +3,10 @@ use Rattle.std.specs.Prelude.{◌≡◌, ◌≢◌, ℕ, List, Option, Result, O
 use Rattle.gq_init.specs.declared.counted.Counted.{Counted}
 use Rattle.gq_init.specs.Writer_failures.{failures_of}
 use Rattle.gq_init.specs.Writes.{IsRaised}
-use Rattle.gq_world.specs.Command_outcomes.{run_fault_text}
-use Rattle.gq_world.specs.Whole.{refused_with}
-use Rattle.gq_world.specs.declared.run_fault.RunFault.{RunFault}
-use Rattle.gq_world.specs.declared.run_fault.RunFault.TheVariants as faults
+use Rattle.gq_reports.specs.Command_outcomes.{run_fault_text}
+use Rattle.gq_reports.specs.Whole.{refused_with}
+use Rattle.gq_reports.specs.declared.run_fault.RunFault.{RunFault}
+use Rattle.gq_reports.specs.declared.run_fault.RunFault.TheVariants as faults
 use Rattle.gq_cli.specs.Executed.{Asked, IsRefusedBy, ReportsAll, ReportsPart, WritesCut, WritesWhole}
 use Rattle.gq_faults.specs.declared.report_error.ReportError.{ReportError}
 use Rattle.gq_faults.specs.declared.report_error.ReportError.TheVariants as errors

@@ -8,9 +8,9 @@ use Rattle.gq_init.specs.Writes.{IsPrefix, IsRaised}
 use Rattle.gq_load.specs.Load.{LoadRefusal, fault_text, loaded}
 use Rattle.gq_model.specs.machine.Scenario.{Scenario}
 use Rattle.gq_model.specs.texts.Turns.{Turned, turned}
-use Rattle.gq_world.specs.Whole.{Written, refused_with, with_scenario, turn_fault_text, run_written, check_written, asm_written}
+use Rattle.gq_reports.specs.Whole.{Written, refused_with, with_scenario, turn_fault_text, run_written, check_written, asm_written}
 use Rattle.gq_world.specs.Headline.{WritesPromised}
-use Rattle.gq_world.specs.Command_outcomes.{IsCutShort, IsWhole}
+use Rattle.gq_reports.specs.Command_outcomes.{IsCutShort, IsWhole}
 use Rattle.gq_views.specs.declared.margin.Margin.TheVariants.{Plain, Numbered}
 use Rattle.gq_views.specs.Views_written.{list_written, tree_written, graph_written}
 use Rattle.gq_traces.specs.Rest_runs.{WritesToRest}

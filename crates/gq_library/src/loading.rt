@@ -7,7 +7,7 @@ ghost use Rattle.gq_library.specs.Texts.{IsPut};
 use crate::held::WorldHandle;
 use crate::refusal_line::{put_fault, status_of};
 use crate::result_codes::{LOADED, MEMORY, REFUSED};
-use gq_world::RunFault;
+use gq_reports::RunFault;
 use gq_world::world::World;
 use std::alloc::Global;
 use std::mem::replace;

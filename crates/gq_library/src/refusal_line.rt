@@ -1,14 +1,14 @@
 // Why a text is refused.
 ghost use Rattle.std.specs.Prelude.{◌≡◌, false, true};
 ghost use Rattle.gq_load.specs.Load_faults.{load_fault_text};
-ghost use Rattle.gq_world.specs.Command_outcomes.{GivesOf};
+ghost use Rattle.gq_reports.specs.Command_outcomes.{GivesOf};
 ghost use Rattle.gq_library.specs.Loads.{IsRefused};
 ghost use Rattle.gq_library.specs.Texts.{IsPut};
 
 use crate::result_codes::{MEMORY, REFUSED};
 use crate::texts::put;
 use gq_load::load_fault::LoadFault;
-use gq_world::RunFault;
+use gq_reports::RunFault;
 use std::alloc::Global;
 
 // The status of a fault of loading.

@@ -9,10 +9,10 @@ use Rattle.gq_load.specs.Load_faults.{Refuses, load_fault_text}
 use Rattle.gq_load.specs.declared.load_fault.LoadError.TheVariants as error
 use Rattle.gq_load.specs.declared.load_fault.LoadFault.{LoadFault}
 use Rattle.gq_model.specs.machine.Scenario.{Scenario, components}
-use Rattle.gq_world.specs.Command_outcomes.{GivesOf, IsBefore, IsFaultOf}
-use Rattle.gq_world.specs.Whole.{Written, refused_with, with_scenario}
-use Rattle.gq_world.specs.declared.run_fault.RunFault.{RunFault}
-use Rattle.gq_world.specs.declared.run_fault.RunFault.TheVariants.{Load, NoComponent, NoOutcome, Turns, Memory, Write}
+use Rattle.gq_reports.specs.Command_outcomes.{GivesOf, IsBefore, IsFaultOf}
+use Rattle.gq_reports.specs.Whole.{Written, refused_with, with_scenario}
+use Rattle.gq_reports.specs.declared.run_fault.RunFault.{RunFault}
+use Rattle.gq_reports.specs.declared.run_fault.RunFault.TheVariants.{Load, NoComponent, NoOutcome, Turns, Memory, Write}
 use Rattle.gq_outcomes.specs.Outcomes.{Outcome, Search, outcomes}
 use Rattle.gq_outcomes.specs.Text.{count_text, nth_outcome, outcomes_text_from, rows_text, search_text}
 use Rattle.gq_outcomes.specs.Written.{outcome_turns_written, outcomes_written, turns_of_outcome}

@@ -2,7 +2,7 @@
 use Rattle.std.specs.Prelude.{ℕ, List, ◌++◌, Option, Some, None, Ok, Err, codes, decimal}
 use Rattle.gq_model.specs.machine.Scenario.{Scenario, components}
 use Rattle.gq_load.specs.Load.{loaded}
-use Rattle.gq_world.specs.Whole.{Written, refused_with, with_scenario}
+use Rattle.gq_reports.specs.Whole.{Written, refused_with, with_scenario}
 use Rattle.gq_outcomes.specs.Outcomes.{Outcome, outcomes}
 use Rattle.gq_outcomes.specs.Text.{nth_outcome, search_text, turns_text}
 

@@ -2,7 +2,7 @@
 //!
 //! ```rust
 //! use gq_outcomes::outcomes::{outcome_turns, outcomes};
-//! use gq_world::Counted;
+//! use gq_init::counted::Counted;
 //!
 //! let mut out = Counted::new(writer);
 //! // What leaves that provide nothing wrote, and the account lines, of each outcome.

@@ -4,14 +4,14 @@ ghost use Rattle.gq_model.specs.machine.Scenario.{components};
 ghost use Rattle.gq_outcomes.specs.Text.{nth_outcome};
 ghost use Rattle.gq_outcomes.specs.Written.{outcome_turns_written, outcomes_written, turns_of_outcome};
 ghost use Rattle.gq_outcomes.specs.internal.Search_states.{Finds, IsSearch};
-ghost use Rattle.gq_world.specs.Command_outcomes.{IsBefore, IsFaultOf, WritesAs};
+ghost use Rattle.gq_reports.specs.Command_outcomes.{IsBefore, IsFaultOf, WritesAs};
 
 use crate::search::{Search, search_all};
 use crate::text::{search_text, turns_text};
 use crate::walk::Walk;
 use gq_init::counted::Counted;
-use gq_world::RunFault;
-use gq_world::command_text::put_text;
+use gq_reports::RunFault;
+use gq_reports::command_text::put_text;
 use std::alloc::Global;
 use std::io::Write;
 

@@ -2,7 +2,7 @@
 ghost use Rattle.std.specs.Prelude.{◌≡◌, ◌<◌, ◌≤◌, ◌⊎◌, ◌∷◌, [], true, false, Ok, OnOk, IfOk, IfErr, IfSome, IfNone, length, drop, map, take};
 ghost use Rattle.gq_load.specs.Load.{loaded};
 ghost use Rattle.gq_model.specs.machine.Scenario.{components};
-ghost use Rattle.gq_world.specs.Command_outcomes.{GivesOf};
+ghost use Rattle.gq_reports.specs.Command_outcomes.{GivesOf};
 ghost use Rattle.gq_outcomes.specs.Outcomes as spec;
 ghost use Rattle.gq_outcomes.specs.Outcomes.{outcomes};
 ghost use Rattle.gq_outcomes.specs.internal.Found_outcomes.{outcome_seen};
@@ -17,9 +17,9 @@ use crate::text::outcome_text;
 use crate::walk::Walk;
 use arrayvec::ArrayVec;
 use gq_model::limits::GREATEST_LEAVES;
+use gq_reports::RunFault;
 use gq_scenario::scenario::LeafNo;
 use gq_scenario::text_pieces::same_bytes;
-use gq_world::RunFault;
 use std::alloc::{AllocError, Global};
 use std::collections::BTreeSet;
 

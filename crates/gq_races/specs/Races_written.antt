@@ -1,7 +1,7 @@
 -- What is written for a scenario's text.
 use Rattle.std.specs.Prelude.{◌≡◌, ℕ, List, Option, Some, Ok}
 use Rattle.gq_load.specs.Load.{loaded}
-use Rattle.gq_world.specs.Whole.{Written, with_scenario}
+use Rattle.gq_reports.specs.Whole.{Written, with_scenario}
 use Rattle.gq_races.specs.Race_text.{races_text}
 
 -- the statements by which the outcome of an accepted scenario could depend on the turns

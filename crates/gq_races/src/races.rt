@@ -10,7 +10,7 @@ ghost use Rattle.gq_races.specs.Races_written.{races_written, WroteNothing};
 ghost use Rattle.gq_races.specs.internal.Openers.{opened_among};
 ghost use Rattle.gq_races.specs.internal.Owners.{AreShared};
 ghost use Rattle.gq_views.specs.Listing.{joined};
-ghost use Rattle.gq_world.specs.Command_outcomes.{WritesAs};
+ghost use Rattle.gq_reports.specs.Command_outcomes.{WritesAs};
 
 use crate::effects::push_leaf_effects;
 use crate::openers::all_opened;
@@ -20,11 +20,11 @@ use gq_init::counted::Counted;
 use gq_load::accepted::Accepted;
 use gq_load::load_fault::LoadError;
 use gq_program::program_tree::Program;
+use gq_reports::RunFault;
+use gq_reports::command_text::put_text;
 use gq_resolve::NodeTable;
 use gq_resolve::component::{Component, components};
 use gq_scenario::scenario::LeafNo;
-use gq_world::RunFault;
-use gq_world::command_text::put_text;
 use std::alloc::{AllocError, Global};
 use std::io::Write;
 

@@ -1,6 +1,6 @@
 -- What is written for a scenario's text.
 use Rattle.std.specs.Prelude.{ℕ, List, Ok}
-use Rattle.gq_world.specs.Whole.{Written, with_scenario}
+use Rattle.gq_reports.specs.Whole.{Written, with_scenario}
 use Rattle.gq_sizes.specs.Judged_scenario.{judged_without}
 use Rattle.gq_sizes.specs.Size_text.{size_text}
 

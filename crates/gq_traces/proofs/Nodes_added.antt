@@ -18,7 +18,7 @@ use Rattle.gq_laws.proofs.quota_payment.Quota_total.{IsCounted}
 use Rattle.gq_load.specs.Load.{LoadRefusal, loaded}
 use Rattle.gq_resolve.specs.NodeTables.{NodeRow, leaf_node, node_rows, rows_of}
 use Rattle.gq_scenario.specs.Sizes.{node_count}
-use Rattle.gq_world.specs.Whole.{Written, with_scenario}
+use Rattle.gq_reports.specs.Whole.{Written, with_scenario}
 use Rattle.gq_traces.specs.Made_of.{AddsUp, LeafAddsUp, Shown, ShowsSums, after, all_shown, shown_below, shown_leaf}
 use Rattle.gq_traces.specs.Made_of.{shown_node, shown_nodes, shown_text, sum_of}
 use Rattle.gq_traces.specs.Account_state.{Lent, init_items, items_text, leaf_items, leaf_text, node_text, nodes_text, state_text}

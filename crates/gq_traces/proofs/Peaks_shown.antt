@@ -5,7 +5,7 @@ use Rattle.gq_model.specs.machine.Run.{Acts, run}
 use Rattle.gq_model.specs.machine.Scenario.{Component, Scenario, components, system}
 use Rattle.gq_model.specs.texts.Turns.{Turned, turned}
 use Rattle.gq_load.specs.Load.{LoadRefusal, loaded}
-use Rattle.gq_world.specs.Whole.{Written, with_scenario}
+use Rattle.gq_reports.specs.Whole.{Written, with_scenario}
 use Rattle.gq_traces.specs.First_turns.{turns_in}
 use Rattle.gq_traces.specs.Greatest.{AreGreatest, IsGreatest, ShowsPeaks, used_after}
 use Rattle.gq_traces.specs.Account_peaks.{peak_in, peaks_from, peaks_of, peaks_text, used_in, world_after}

@@ -4,7 +4,7 @@ use Rattle.std.specs.Io.KnownBytes.{Appends}
 use Rattle.gq_model.specs.machine.Scenario.{Scenario}
 use Rattle.gq_model.specs.texts.Turns.{turned}
 use Rattle.gq_load.specs.Load.{loaded}
-use Rattle.gq_world.specs.Whole.{with_scenario}
+use Rattle.gq_reports.specs.Whole.{with_scenario}
 use Rattle.gq_traces.specs.Rest_runs.{EndsIn, RestsUnless, WritesToRest}
 use Rattle.gq_traces.specs.Schedule.{as_acts, is_cut, schedule_text, scheduled_by}
 use Rattle.gq_traces.specs.Traces_written.{turns_written}

@@ -16,12 +16,12 @@ use Rattle.gq_load.specs.Load_faults.{Refuses, load_fault_text}
 use Rattle.gq_load.specs.declared.load_fault.LoadFault.{LoadFault}
 use Rattle.gq_load.specs.declared.load_fault.LoadError.TheVariants as error
 use Rattle.gq_world.specs.Account_lines.{accounts_by}
-use Rattle.gq_world.specs.Command_outcomes.{GivesOf, IsFaultOf, WritesAs}
-use Rattle.gq_world.specs.Whole.{Written, refused_with, with_scenario}
+use Rattle.gq_reports.specs.Command_outcomes.{GivesOf, IsFaultOf, WritesAs}
+use Rattle.gq_reports.specs.Whole.{Written, refused_with, with_scenario}
 use Rattle.gq_world.specs.World_between_turns.{World}
-use Rattle.gq_world.specs.declared.run_fault.RunFault.{RunFault}
-use Rattle.gq_world.specs.declared.run_fault.RunFault.TheVariants as fault
-use Rattle.gq_world.proofs.Command_text_endings.{cut_short, nothing_written, since}
+use Rattle.gq_reports.specs.declared.run_fault.RunFault.{RunFault}
+use Rattle.gq_reports.specs.declared.run_fault.RunFault.TheVariants as fault
+use Rattle.gq_reports.proofs.Command_text_endings.{cut_short, nothing_written, since}
 use Rattle.gq_world.proofs.Line_text_prefixes.{prefix_after}
 use Rattle.gq_traces.specs.First_turns.{turns_in}
 use Rattle.gq_traces.specs.Trace.{Traced, after_all, all_text, start_traced, trace_text}

@@ -4,7 +4,7 @@ use Rattle.gq_model.specs.machine.Run.{Acts}
 use Rattle.gq_model.specs.machine.Scenario.{Scenario}
 use Rattle.gq_model.specs.texts.Turns.{Turned, turned}
 use Rattle.gq_load.specs.Load.{loaded}
-use Rattle.gq_world.specs.Whole.{Written, refused_with, turn_fault_text, with_scenario}
+use Rattle.gq_reports.specs.Whole.{Written, refused_with, turn_fault_text, with_scenario}
 use Rattle.gq_traces.specs.First_turns.{some_turns}
 use Rattle.gq_traces.specs.Account_peaks.{peaks_text}
 use Rattle.gq_traces.specs.Schedule.{schedule_text}

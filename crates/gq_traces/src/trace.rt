@@ -2,7 +2,7 @@
 ghost use Rattle.std.specs.Prelude.{◌≡◌, ◌+◌, ◌<◌, ◌≤◌, ◌++◌, true, false, codes, decimal, length, Ok, IfOk, IfErr};
 ghost use Rattle.gq_model.specs.machine.Scenario.{components, system};
 ghost use Rattle.gq_model.specs.machine.World.{start};
-ghost use Rattle.gq_world.specs.Command_outcomes.{WritesAs};
+ghost use Rattle.gq_reports.specs.Command_outcomes.{WritesAs};
 ghost use Rattle.gq_world.specs.World_between_turns as worlds;
 ghost use Rattle.gq_world.specs.World_between_turns.{AreBelow};
 ghost use Rattle.gq_traces.specs.Trace.{act_text, after_act, after_all, after_turn, after_turns, all_text, start_traced, trace_text, turn_text};
@@ -29,8 +29,8 @@ use gq_init::turns::{TurnsError, read_items};
 use gq_model::act::Act;
 use gq_model::phase::Phase;
 use gq_model::program::Section;
+use gq_reports::RunFault;
 use gq_scenario::scenario::LeafNo;
-use gq_world::RunFault;
 use gq_world::account_lines::write_accounts;
 use gq_world::world::World;
 use std::alloc::{AllocError, Global};

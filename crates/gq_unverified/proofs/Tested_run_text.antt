@@ -16,8 +16,8 @@ use Rattle.gq_load.specs.declared.load_fault.LoadError.TheVariants as error
 use Rattle.gq_init.specs.Writes.{IsPrefix}
 use Rattle.gq_init.proofs.Written_byte_facts.{appends_both}
 use Rattle.gq_world.specs.Account_lines.{accounts_by}
-use Rattle.gq_world.specs.Command_outcomes.{run_fault_of}
-use Rattle.gq_world.specs.Whole.{refused_with, turn_fault_text}
+use Rattle.gq_reports.specs.Command_outcomes.{run_fault_of}
+use Rattle.gq_reports.specs.Whole.{refused_with, turn_fault_text}
 use Rattle.gq_world.specs.internal.Act_transitions.{going}
 use Rattle.gq_world.proofs.Line_text_prefixes.{prefix_by, prefix_after}
 use Rattle.gq_world.proofs.Run_text.{rest_of}

@@ -8,7 +8,7 @@ use Rattle.gq_model.specs.machine.Accounts.{text_of}
 use Rattle.gq_model.specs.texts.Turns.{Turned, turned}
 use Rattle.gq_load.specs.Load.{LoadRefusal, fault_text}
 use Rattle.gq_load.specs.Unverified.{unverified}
-use Rattle.gq_world.specs.Whole.{refused_with, turn_fault_text}
+use Rattle.gq_reports.specs.Whole.{refused_with, turn_fault_text}
 
 -- the lines of these turns and settings up to a wrong step, and, where none is wrong, the accounts; no account reports a step budget
 unfoldable pub tested_text : Scenario → Acts → List ℕ

@@ -6,10 +6,10 @@ use Rattle.gq_load.specs.Load_faults.{load_fault_text}
 use Rattle.gq_init.specs.Writer_failures.{failures_of, written_to}
 use Rattle.gq_init.specs.Writes.{IsPrefix, IsRaised}
 use Rattle.gq_init.specs.declared.counted.Counted.{Counted}
-use Rattle.gq_world.specs.Command_outcomes.{IsBefore}
-use Rattle.gq_world.specs.Whole.{refused_with, turn_fault_text}
-use Rattle.gq_world.specs.declared.run_fault.RunFault.{RunFault}
-use Rattle.gq_world.specs.declared.run_fault.RunFault.TheVariants.{Load, NoComponent, NoOutcome, Turns, Memory, Write}
+use Rattle.gq_reports.specs.Command_outcomes.{IsBefore}
+use Rattle.gq_reports.specs.Whole.{refused_with, turn_fault_text}
+use Rattle.gq_reports.specs.declared.run_fault.RunFault.{RunFault}
+use Rattle.gq_reports.specs.declared.run_fault.RunFault.TheVariants.{Load, NoComponent, NoOutcome, Turns, Memory, Write}
 use Rattle.gq_unverified.specs.Tested.{Tested}
 
 -- the definition gives a text and this wrong step, or none, and just the text was written

@@ -22,7 +22,7 @@ use Rattle.gq_load.specs.Load.{LoadRefusal, code_fault, source_fault, text_fault
 use Rattle.gq_load.specs.Named.{leaf_named}
 use Rattle.gq_load.proofs.Sound_programs.{IsGiven, nodes_given, programs_are}
 use Rattle.gq_load.proofs.Sound_texts.{not_ok, same_scenario}
-use Rattle.gq_world.specs.Whole.{Written}
+use Rattle.gq_reports.specs.Whole.{Written}
 use Rattle.gq_views.specs.Assembled_listing.{IsGivenBy, ListsNumbers, ListsProgram}
 use Rattle.gq_views.specs.declared.margin.Margin.TheVariants.{Plain, Numbered}
 use Rattle.gq_views.specs.Listing.{listing}

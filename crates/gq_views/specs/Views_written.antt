@@ -5,7 +5,7 @@ use Rattle.gq_model.specs.machine.Scenario.{LeafNode, Scenario, components}
 use Rattle.gq_scenario.specs.Top_table.{ReadFault, read_text, scenario_in}
 use Rattle.gq_load.specs.Named.{leaf_named}
 use Rattle.gq_load.specs.Load.{LoadRefusal, source_fault, fault_text, loaded}
-use Rattle.gq_world.specs.Whole.{Written, refused_with, with_scenario}
+use Rattle.gq_reports.specs.Whole.{Written, refused_with, with_scenario}
 use Rattle.gq_views.specs.declared.margin.Margin.{Margin}
 use Rattle.gq_views.specs.declared.margin.Margin.TheVariants.{Plain, Numbered}
 use Rattle.gq_views.specs.Listing.{listing}

@@ -13,7 +13,7 @@ ghost use Rattle.gq_views.specs.Listing.{line};
 ghost use Rattle.gq_views.specs.Tree.{after_arrow, all_afters, all_services, arrow, arrow_from, arrow_to, budget_part, cluster, graph_text, in_quotes};
 ghost use Rattle.gq_views.specs.Tree.{init_label, inputs_part, leaf_label, next_part, node_boxes, node_name, point_line, provides_part};
 ghost use Rattle.gq_views.specs.Views_written.{graph_written};
-ghost use Rattle.gq_world.specs.Command_outcomes.{WritesAs};
+ghost use Rattle.gq_reports.specs.Command_outcomes.{WritesAs};
 
 use crate::drawn::{Drawn, Opened};
 use crate::left::left_of;
@@ -26,10 +26,10 @@ use gq_load::accepted::Accepted;
 use gq_load::budget::Budget;
 use gq_load::load_fault::LoadError;
 use gq_model::program::Name;
+use gq_reports::RunFault;
+use gq_reports::command_text::put_text;
 use gq_scenario::node_numbers::NodeNo;
 use gq_scenario::scenario::{Leaf, LeafNo, Node, Nodes, Quantum, Version};
-use gq_world::RunFault;
-use gq_world::command_text::put_text;
 use std::alloc::{AllocError, Global};
 use std::io::Write;
 

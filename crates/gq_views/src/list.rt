@@ -3,7 +3,7 @@ ghost use Rattle.std.specs.Prelude.{◌≡◌, Ok, Err, IfOk, IfErr, None, OnOk}
 ghost use Rattle.gq_load.specs.Load_faults.{PrintsFault};
 ghost use Rattle.gq_load.specs.Load.{source_fault};
 ghost use Rattle.gq_views.specs.Views_written.{list_from, list_written, shown};
-ghost use Rattle.gq_world.specs.Command_outcomes.{IsBefore, IsFaultOf, WritesAs};
+ghost use Rattle.gq_reports.specs.Command_outcomes.{IsBefore, IsFaultOf, WritesAs};
 
 use crate::listing::listing;
 use crate::margin::Margin;
@@ -14,11 +14,11 @@ use gq_load::load_fault::{LoadError, LoadFault};
 use gq_load::named::leaf_named;
 use gq_program::program_tree::Program;
 use gq_reader::reader::read_scenario;
+use gq_reports::RunFault;
+use gq_reports::command_text::put_text;
 use gq_resolve::component::components;
 use gq_scenario::scenario::{Leaf, Scenario};
 use gq_scenario::scenario_fault::ScenarioError;
-use gq_world::RunFault;
-use gq_world::command_text::put_text;
 use std::alloc::{AllocError, Global};
 use std::io::Write;
 

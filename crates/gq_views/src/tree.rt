@@ -12,7 +12,7 @@ ghost use Rattle.gq_views.specs.Listing.{line};
 ghost use Rattle.gq_views.specs.Tree.{budget_entries, init_lines, init_text, inputs_entry, leaf_opens, leaf_text, left_entries, named_entry, nodes_text};
 ghost use Rattle.gq_views.specs.Tree.{offers_lines, server_label, tree_text};
 ghost use Rattle.gq_views.specs.Views_written.{tree_written};
-ghost use Rattle.gq_world.specs.Command_outcomes.{WritesAs};
+ghost use Rattle.gq_reports.specs.Command_outcomes.{WritesAs};
 
 use crate::drawn::{Drawn, Opened};
 use crate::left::left_of;
@@ -22,9 +22,9 @@ use gq_load::accepted::Accepted;
 use gq_load::budget::Budget;
 use gq_load::load_fault::LoadError;
 use gq_model::program::Name;
+use gq_reports::RunFault;
+use gq_reports::command_text::put_text;
 use gq_scenario::scenario::{Init, Leaf, Node, Nodes, Quantum, Version};
-use gq_world::RunFault;
-use gq_world::command_text::put_text;
 use std::alloc::{AllocError, Global};
 use std::io::Write;
 

@@ -6,7 +6,7 @@ use Rattle.gq_scenario.specs.Top_table.{ReadFault, read_text, scenario_in}
 use Rattle.gq_scenario.specs.Without_quantities.{unsized}
 use Rattle.gq_load.specs.Load.{LoadRefusal, fault_text}
 use Rattle.gq_load.specs.Unsized_judgement.{unsized_fault}
-use Rattle.gq_world.specs.Whole.{Written, refused_with}
+use Rattle.gq_reports.specs.Whole.{Written, refused_with}
 use Rattle.gq_why.specs.Why.{why_text}
 
 -- the number of the first leaf of that name, among those from the x-th on

@@ -7,7 +7,7 @@ ghost use Rattle.gq_scenario.specs.Without_quantities.{unsized};
 ghost use Rattle.gq_load.specs.Load_faults.{PrintsFault};
 ghost use Rattle.gq_load.specs.Unsized_judgement.{unsized_fault};
 ghost use Rattle.gq_load.specs.internal.Surveys.{AreSurveys};
-ghost use Rattle.gq_world.specs.Command_outcomes.{IsBefore, IsFaultOf, WritesAs};
+ghost use Rattle.gq_reports.specs.Command_outcomes.{IsBefore, IsFaultOf, WritesAs};
 ghost use Rattle.gq_why.specs.Why.{why_text};
 ghost use Rattle.gq_why.specs.Why_written.{leaf_number, why_from, why_of, why_written};
 
@@ -18,13 +18,13 @@ use gq_init::counted::Counted;
 use gq_load::load_fault::{LoadError, LoadFault};
 use gq_load::unsized_scenarios::{Unsized, judge_unsized, verified};
 use gq_reader::reader::read_scenario;
+use gq_reports::RunFault;
+use gq_reports::command_text::put_text;
 use gq_resolve::component::{Component, components};
 use gq_scenario::scenario::{LeafNo, Scenario};
 use gq_scenario::scenario_fault::ScenarioError;
 use gq_scenario::text_pieces::same_bytes;
 use gq_scenario::without_quantities::without_quantities;
-use gq_world::RunFault;
-use gq_world::command_text::put_text;
 use std::alloc::{AllocError, Global};
 use std::io::Write;
 

@@ -4,7 +4,4 @@ pub mod Turn_sequence_runs
 pub mod Turns_name_leaves
 pub mod Line_text_prefixes
 pub mod Run_text
-pub mod Hexadecimal_digits
 pub mod Holdings_within_total
-pub mod Printed_budget_lines
-pub mod Command_text_endings

@@ -18,11 +18,11 @@ use Rattle.gq_load.specs.Load.{LoadRefusal, loaded}
 use Rattle.gq_load.specs.Load_faults.{load_fault_text, Refuses}
 use Rattle.gq_load.specs.declared.load_fault.LoadFault.{LoadFault}
 use Rattle.gq_load.specs.declared.load_fault.LoadError.TheVariants as error
-use Rattle.gq_world.specs.declared.run_fault.RunFault.{RunFault}
-use Rattle.gq_world.specs.declared.run_fault.RunFault.TheVariants.{Load, NoComponent, NoOutcome, Turns, Memory, Write}
+use Rattle.gq_reports.specs.declared.run_fault.RunFault.{RunFault}
+use Rattle.gq_reports.specs.declared.run_fault.RunFault.TheVariants.{Load, NoComponent, NoOutcome, Turns, Memory, Write}
 use Rattle.gq_world.specs.Headline.{Upholding, WritesPromised}
-use Rattle.gq_world.specs.Command_outcomes.{IsFaultOf, IsWhole, GivesOf}
-use Rattle.gq_world.specs.Whole.{Written, whole_of, refused_with, with_scenario, written_turns, run_written}
+use Rattle.gq_reports.specs.Command_outcomes.{IsFaultOf, IsWhole, GivesOf}
+use Rattle.gq_reports.specs.Whole.{Written, whole_of, refused_with, with_scenario, written_turns, run_written}
 use Rattle.gq_world.specs.internal.Act_transitions.{AreBelow, turns_written}
 use Rattle.gq_world.proofs.Turns_name_leaves.{AreBelowIn, turned_below}
 use Rattle.gq_init.proofs.Written_byte_facts.{appends_both}

@@ -2,7 +2,7 @@
 //!
 //! ```rust
 //! use gq_world::world::World;
-//! use gq_world::Counted;
+//! use gq_init::counted::Counted;
 //!
 //! let mut world = World::load(alloc, scenario)?;
 //! let mut out = Counted::new(writer);
@@ -13,17 +13,13 @@
 #![tactic(auto)]
 
 pub mod account_lines;
-pub mod asm;
-pub mod check;
-pub mod command_text;
 pub mod leaf_lines;
 pub mod load;
 mod node_accounts;
 pub mod run;
-pub mod run_fault;
 pub mod world;
 
 pub use gq_init::counted::Counted;
 pub use gq_init::{account_report, counted};
 pub use gq_machine::{event, input_settings};
-pub use run_fault::RunFault;
+pub use gq_reports::{RunFault, asm, check};

@@ -5,15 +5,15 @@ ghost use Rattle.gq_model.specs.machine.World.{start};
 ghost use Rattle.gq_model.specs.rules.Accept.{IsAccepted};
 ghost use Rattle.gq_load.specs.Load.{loaded};
 ghost use Rattle.gq_world.specs.Headline.{Upholding};
-ghost use Rattle.gq_world.specs.Command_outcomes.{GivesOf};
+ghost use Rattle.gq_reports.specs.Command_outcomes.{GivesOf};
 
-use crate::run_fault::RunFault;
 use crate::world::World;
 use gq_laws::accepted_runs::accepted_laws;
 use gq_load::accepted::Accepted;
 use gq_load::loaded::loaded_laws;
 use gq_load::read::read_laws;
 use gq_machine::machine::Machine;
+use gq_reports::RunFault;
 use std::alloc::Global;
 
 impl World {

@@ -3,9 +3,9 @@
 
 use gq_command::input::{InputError, read_input};
 use gq_command::status::Status;
+use gq_init::counted::Counted;
+use gq_reports::run_fault::RunFault;
 use gq_unverified::tested_run::run_unverified;
-use gq_world::Counted;
-use gq_world::run_fault::RunFault;
 use std::env;
 use std::fs::File;
 use std::io::Write;

@@ -1,6 +1,6 @@
 -- Why a text that fits a scenario was not written to its end.
 use Rattle.std.specs.Prelude.{◌≡◌, ◌≢◌, string_bytes}
-use Rattle.gq_world.specs.Whole.{refused_with}
+use Rattle.gq_reports.specs.Whole.{refused_with}
 use Rattle.gq_fit.specs.Fit_words.{fit_fault_text}
 use Rattle.gq_fit.specs.declared.fit_fault.FitFault.{FitFault}
 use Rattle.gq_fit.specs.declared.fit_fault.FitFault.TheVariants as faults

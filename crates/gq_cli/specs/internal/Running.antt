@@ -6,8 +6,8 @@ use Rattle.gq_model.specs.declared.act.Act.{Act}
 use Rattle.gq_model.specs.machine.Scenario.{Scenario}
 use Rattle.gq_model.specs.texts.Turns.{turned}
 use Rattle.gq_init.specs.TurnReading.{Reading, answer}
-use Rattle.gq_world.specs.Command_outcomes.{IsCutShort, IsWhole}
-use Rattle.gq_world.specs.Whole.{Written}
+use Rattle.gq_reports.specs.Command_outcomes.{IsCutShort, IsWhole}
+use Rattle.gq_reports.specs.Whole.{Written}
 use Rattle.gq_world.specs.internal.Act_transitions.{turns_written}
 use Rattle.gq_cli.specs.Executed.{ReadsText}
 use Rattle.gq_cli.specs.declared.execute.CommandFault.{CommandFault}

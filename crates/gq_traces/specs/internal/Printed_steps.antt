@@ -25,8 +25,8 @@ use Rattle.gq_model.specs.machine.Run.{label_at}
 use Rattle.gq_world.specs.Headline.{Standing}
 use Rattle.gq_world.specs.Account_lines.{all_accounts}
 use Rattle.gq_world.specs.World_between_turns as worlds
-use Rattle.gq_world.specs.declared.run_fault.RunFault.{RunFault}
-use Rattle.gq_world.specs.declared.run_fault.RunFault.TheVariants as fault
+use Rattle.gq_reports.specs.declared.run_fault.RunFault.{RunFault}
+use Rattle.gq_reports.specs.declared.run_fault.RunFault.TheVariants as fault
 use Rattle.gq_traces.specs.Step_positions.{Ahead, StepPosition, ahead, body_in, next_place, past, place, section_at}
 use Rattle.gq_traces.specs.Traces_written.{prints_all}
 use Rattle.gq_traces.specs.Trace.{Due, Traced, account_change, account_changes, after_turns, changes, due_in, head_line, session_changes, standing_of}

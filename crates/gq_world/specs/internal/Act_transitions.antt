@@ -8,7 +8,7 @@ use Rattle.gq_model.specs.texts.Turns.{turned}
 use Rattle.gq_init.specs.declared.counted.Counted.{Counted}
 use Rattle.gq_init.specs.Writer_failures.{written_to, failures_of}
 use Rattle.gq_init.specs.Writes.{IsRaised}
-use Rattle.gq_world.specs.Whole.{Written, written_turns}
+use Rattle.gq_reports.specs.Whole.{Written, written_turns}
 use Rattle.gq_world.specs.World_between_turns.{World}
 pub use Rattle.gq_world.specs.World_between_turns.{AreBelow}
 

@@ -1,7 +1,7 @@
 -- The line that is put is that of the definition's fault.
 use Rattle.std.proofs.Common.{refl, subst}
 use Rattle.gq_load.specs.Load.{loaded}
-use Rattle.gq_world.specs.Command_outcomes.{GivesOf}
+use Rattle.gq_reports.specs.Command_outcomes.{GivesOf}
 use Rattle.gq_library.proofs.Faulty_text_unloaded.{not_loaded, line_put}
 use Rattle.gq_library.proofs.loading.trade_fault.Goals as goal
 

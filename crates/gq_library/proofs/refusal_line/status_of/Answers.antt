@@ -1,7 +1,7 @@
 -- A fault of the definition is no accepted scenario.
 use Rattle.std.proofs.Common.{subst}
 use Rattle.gq_load.specs.Load.{loaded}
-use Rattle.gq_world.specs.Command_outcomes.{GivesOf}
+use Rattle.gq_reports.specs.Command_outcomes.{GivesOf}
 use Rattle.gq_library.proofs.Faulty_text_unloaded.{not_loaded}
 use Rattle.gq_library.proofs.refusal_line.status_of.Goals as goal
 

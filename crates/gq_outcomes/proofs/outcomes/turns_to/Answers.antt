@@ -1,7 +1,7 @@
 use Rattle.std.proofs.Common.{◌≡◌, Ok, sym, subst}
 use Rattle.std.specs.Prelude.{IfErr, IfOk}
-use Rattle.gq_world.specs.Command_outcomes.{IsBefore, IsFaultOf}
-use Rattle.gq_world.specs.Whole.{Written}
+use Rattle.gq_reports.specs.Command_outcomes.{IsBefore, IsFaultOf}
+use Rattle.gq_reports.specs.Whole.{Written}
 use Rattle.gq_outcomes.specs.Outcomes.{outcomes}
 use Rattle.gq_outcomes.specs.Text.{nth_outcome}
 use Rattle.gq_outcomes.specs.Written.{turns_of_outcome}

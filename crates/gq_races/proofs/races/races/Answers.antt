@@ -3,7 +3,7 @@ use Rattle.std.proofs.Common.{Ok, ap, sym, ◌∙◌}
 use Rattle.std.specs.Prelude.{IsOkAnd}
 use Rattle.gq_init.specs.Writer_failures.{written_to}
 use Rattle.gq_load.specs.Load.{loaded}
-use Rattle.gq_world.proofs.Command_text_endings.{reported_text, whole_text}
+use Rattle.gq_reports.proofs.Command_text_endings.{reported_text, whole_text}
 use Rattle.gq_races.specs.Races.{IsOrderFree, IsRaceFree}
 use Rattle.gq_races.specs.Race_text.{races_text}
 use Rattle.gq_races.specs.Races_written.{WroteNothing, races_written}

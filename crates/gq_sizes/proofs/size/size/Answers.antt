@@ -3,7 +3,7 @@ use Rattle.std.proofs.Common.{Ok, ap, sym, ◌∙◌}
 use Rattle.gq_sizes.specs.Judged_scenario.{judged_without}
 use Rattle.gq_sizes.specs.Size_text.{size_text}
 use Rattle.gq_sizes.specs.Size_written.{size_written}
-use Rattle.gq_world.proofs.Command_text_endings.{reported_text}
+use Rattle.gq_reports.proofs.Command_text_endings.{reported_text}
 use Rattle.gq_sizes.proofs.size.size.Goals as goal
 
 pub returns : goal.returns

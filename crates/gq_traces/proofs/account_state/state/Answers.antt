@@ -2,8 +2,8 @@
 use Rattle.std.proofs.Common.{◌≡◌, List, Ok, Option, ap, sym, subst, ℕ}
 use Rattle.gq_model.specs.machine.Scenario.{Scenario}
 use Rattle.gq_load.specs.Load.{loaded}
-use Rattle.gq_world.specs.Command_outcomes.{WritesAs}
-use Rattle.gq_world.specs.Whole.{with_scenario}
+use Rattle.gq_reports.specs.Command_outcomes.{WritesAs}
+use Rattle.gq_reports.specs.Whole.{with_scenario}
 use Rattle.gq_traces.specs.Traces_written.{state_from, state_written}
 use Rattle.gq_traces.proofs.account_state.state.Goals as goal
 

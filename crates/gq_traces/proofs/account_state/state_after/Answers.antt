@@ -1,6 +1,6 @@
 -- All was reported, or a write failed.
 use Rattle.std.proofs.Common.{Ok, refl}
-use Rattle.gq_world.proofs.Command_text_endings.{all_written, cut_short}
+use Rattle.gq_reports.proofs.Command_text_endings.{all_written, cut_short}
 use Rattle.gq_traces.specs.First_turns.{some_turns}
 use Rattle.gq_traces.specs.Account_state.{state_text}
 use Rattle.gq_traces.proofs.account_state.state_after.Goals as goal

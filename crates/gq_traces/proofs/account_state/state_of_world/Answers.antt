@@ -3,7 +3,7 @@ use Rattle.std.proofs.Common.{◌≡◌, ◌∙◌, List, Ok, Option, ap, length
 use Rattle.gq_model.specs.machine.Run.{Acts}
 use Rattle.gq_model.specs.machine.Scenario.{Scenario, components}
 use Rattle.gq_model.specs.texts.Turns.{turned}
-use Rattle.gq_world.specs.Command_outcomes.{WritesAs}
+use Rattle.gq_reports.specs.Command_outcomes.{WritesAs}
 use Rattle.gq_world.specs.World_between_turns.{AreBelow}
 use Rattle.gq_world.proofs.Run_text.{below_of}
 use Rattle.gq_traces.specs.First_turns.{some_turns}

@@ -1,6 +1,6 @@
 -- The text of the definition was written, or a prefix of it.
 use Rattle.std.proofs.Common.{sym, subst}
-use Rattle.gq_world.specs.Command_outcomes.{WritesAs}
+use Rattle.gq_reports.specs.Command_outcomes.{WritesAs}
 use Rattle.gq_traces.specs.Traces_written.{prints_all}
 use Rattle.gq_traces.proofs.Traced_whole.{scenario_given}
 use Rattle.gq_traces.proofs.trace.trace.Goals as goal

@@ -2,7 +2,7 @@
 use Rattle.std.proofs.Common.{Ok, refl}
 use Rattle.gq_traces.specs.Trace.{trace_text}
 use Rattle.gq_traces.specs.Traces_written.{prints_all}
-use Rattle.gq_world.proofs.Command_text_endings.{all_written, cut_short}
+use Rattle.gq_reports.proofs.Command_text_endings.{all_written, cut_short}
 use Rattle.gq_traces.proofs.Traced_whole.{failed, since_then}
 use Rattle.gq_traces.proofs.trace.write_trace.Goals as goal
 

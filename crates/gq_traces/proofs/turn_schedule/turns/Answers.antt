@@ -1,5 +1,5 @@
 -- The text of the scenario was written, or a prefix of it.
-use Rattle.gq_world.proofs.Command_text_endings.{all_written, cut_short}
+use Rattle.gq_reports.proofs.Command_text_endings.{all_written, cut_short}
 use Rattle.gq_traces.specs.Schedule.{schedule_text}
 use Rattle.gq_traces.specs.Traces_written.{turns_written}
 use Rattle.gq_traces.proofs.Schedule_command_text.{given, to_rest}

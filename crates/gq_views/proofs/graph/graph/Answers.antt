@@ -1,7 +1,7 @@
 -- The text was made, and is written.
 use Rattle.std.proofs.Common.{Ok, ap, sym, ◌∙◌}
 use Rattle.gq_load.specs.Load.{loaded}
-use Rattle.gq_world.proofs.Command_text_endings.{reported_text}
+use Rattle.gq_reports.proofs.Command_text_endings.{reported_text}
 use Rattle.gq_views.specs.Tree.{graph_text}
 use Rattle.gq_views.specs.Views_written.{graph_written}
 use Rattle.gq_views.proofs.graph.graph.Goals as goal

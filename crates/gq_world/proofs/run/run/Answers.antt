@@ -4,9 +4,9 @@ use Rattle.gq_model.specs.machine.Scenario.{Scenario, components}
 use Rattle.gq_model.specs.texts.Turns.{turned}
 use Rattle.gq_load.specs.Load.{loaded}
 use Rattle.gq_world.specs.Headline.{WritesPromised}
-use Rattle.gq_world.specs.Command_outcomes.{IsWhole, WritesAs}
+use Rattle.gq_reports.specs.Command_outcomes.{IsWhole, WritesAs}
 use Rattle.gq_world.specs.internal.Act_transitions.{turns_written}
-use Rattle.gq_world.specs.Whole.{run_written, with_scenario, written_turns}
+use Rattle.gq_reports.specs.Whole.{run_written, with_scenario, written_turns}
 use Rattle.gq_world.proofs.Run_text.{promised}
 use Rattle.gq_world.proofs.run.run.Goals as goal
 

@@ -2,8 +2,8 @@ use Rattle.std.proofs.Common.{◌≡◌, sym, ap, subst, length, ℕ, List, Ok, 
 use Rattle.gq_model.specs.machine.Scenario.{Scenario, components}
 use Rattle.gq_model.specs.texts.Turns.{turned}
 use Rattle.gq_world.specs.internal.Act_transitions.{AreBelow, turns_written}
-use Rattle.gq_world.specs.Whole.{whole_of, written_turns}
-use Rattle.gq_world.proofs.Command_text_endings.{all_written, cut_short}
+use Rattle.gq_reports.specs.Whole.{whole_of, written_turns}
+use Rattle.gq_reports.proofs.Command_text_endings.{all_written, cut_short}
 use Rattle.gq_world.proofs.Run_text.{below_of}
 use Rattle.gq_world.proofs.run.run_turns.Goals as goal
 use Rattle.gq_model.specs.machine.Run.{Acts}

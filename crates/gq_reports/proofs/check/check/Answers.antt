@@ -1,9 +1,9 @@
 -- The lines of the budgets were made, and are written.
 use Rattle.std.proofs.Common.{Ok, ap, sym, ◌∙◌}
 use Rattle.gq_load.specs.Load.{loaded}
-use Rattle.gq_world.specs.Whole.{check_written}
-use Rattle.gq_world.proofs.Printed_budget_lines.{written_lines}
-use Rattle.gq_world.proofs.check.check.Goals as goal
+use Rattle.gq_reports.specs.Whole.{check_written}
+use Rattle.gq_reports.proofs.Printed_budget_lines.{written_lines}
+use Rattle.gq_reports.proofs.check.check.Goals as goal
 
 pub returns : goal.returns
 returns g c =

@@ -1,6 +1,6 @@
 // The budgets of a scenario's leaves, as text.
-ghost use Rattle.gq_world.specs.Command_outcomes.{WritesAs};
-ghost use Rattle.gq_world.specs.Whole.{check_written};
+ghost use Rattle.gq_reports.specs.Command_outcomes.{WritesAs};
+ghost use Rattle.gq_reports.specs.Whole.{check_written};
 
 use crate::command_text::put_text;
 use crate::run_fault::RunFault;

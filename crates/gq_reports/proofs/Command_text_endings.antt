@@ -7,10 +7,10 @@ use Rattle.gq_model.specs.machine.Scenario.{Scenario}
 use Rattle.gq_init.specs.declared.counted.Counted.{Counted}
 use Rattle.gq_init.specs.Writer_failures.{Writes, failures_of, written_to}
 use Rattle.gq_init.specs.Writes.{IsPrefix, IsRaised}
-use Rattle.gq_world.specs.declared.run_fault.RunFault.{RunFault}
-use Rattle.gq_world.specs.declared.run_fault.RunFault.TheVariants.{Load, NoComponent, Turns, Memory, Write}
-use Rattle.gq_world.specs.Command_outcomes.{IsBefore, IsFaultOf, WritesAs}
-use Rattle.gq_world.specs.Whole.{Written, with_scenario}
+use Rattle.gq_reports.specs.declared.run_fault.RunFault.{RunFault}
+use Rattle.gq_reports.specs.declared.run_fault.RunFault.TheVariants.{Load, NoComponent, Turns, Memory, Write}
+use Rattle.gq_reports.specs.Command_outcomes.{IsBefore, IsFaultOf, WritesAs}
+use Rattle.gq_reports.specs.Whole.{Written, with_scenario}
 
 never_both : {A : Type 0} (a : A) (fault : RunFault) → ◌≡◌ {A = Result A RunFault} (Ok a) (Err fault) → ⊥
 never_both a fault e = cc

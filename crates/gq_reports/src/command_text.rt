@@ -1,7 +1,7 @@
 // The text of a command, written out.
 ghost use Rattle.std.specs.Prelude.{◌≡◌, Ok};
-ghost use Rattle.gq_world.specs.Command_outcomes.{WritesAs};
-ghost use Rattle.gq_world.specs.Whole.{Written};
+ghost use Rattle.gq_reports.specs.Command_outcomes.{WritesAs};
+ghost use Rattle.gq_reports.specs.Whole.{Written};
 
 use crate::run_fault::RunFault;
 use gq_init::counted::{Counted, put};

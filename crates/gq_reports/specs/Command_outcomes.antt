@@ -5,12 +5,12 @@ use Rattle.gq_load.specs.Load.{loaded}
 use Rattle.gq_load.specs.Load_faults.{load_fault_text, Refuses}
 use Rattle.gq_load.specs.declared.load_fault.LoadError.{LoadError}
 use Rattle.gq_load.specs.declared.load_fault.LoadError.TheVariants as error
-use Rattle.gq_world.specs.declared.run_fault.RunFault.{RunFault}
-use Rattle.gq_world.specs.declared.run_fault.RunFault.TheVariants.{Load, NoComponent, NoOutcome, Turns, Memory, Write}
+use Rattle.gq_reports.specs.declared.run_fault.RunFault.{RunFault}
+use Rattle.gq_reports.specs.declared.run_fault.RunFault.TheVariants.{Load, NoComponent, NoOutcome, Turns, Memory, Write}
 use Rattle.gq_init.specs.declared.counted.Counted.{Counted}
 use Rattle.gq_init.specs.Writer_failures.{written_to, failures_of}
 use Rattle.gq_init.specs.Writes.{IsPrefix, IsRaised}
-use Rattle.gq_world.specs.Whole.{Written, refused_with, turn_fault_text}
+use Rattle.gq_reports.specs.Whole.{Written, refused_with, turn_fault_text}
 
 -- the line that a fault prints
 abbrev pub run_fault_text : RunFault → List ℕ

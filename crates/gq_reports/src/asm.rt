@@ -3,8 +3,8 @@ ghost use Rattle.std.specs.Prelude.{◌≡◌, ◌∷◌, ◌++◌, [], Ok, Err,
 ghost use Rattle.gq_model.specs.texts.Code.{code_of, hex_of};
 ghost use Rattle.gq_load.specs.Load_faults.{PrintsFault};
 ghost use Rattle.gq_load.specs.Load.{source_fault};
-ghost use Rattle.gq_world.specs.Command_outcomes.{IsBefore, IsFaultOf, WritesAs};
-ghost use Rattle.gq_world.specs.Whole.{asm_from, asm_written};
+ghost use Rattle.gq_reports.specs.Command_outcomes.{IsBefore, IsFaultOf, WritesAs};
+ghost use Rattle.gq_reports.specs.Whole.{asm_from, asm_written};
 
 use crate::command_text::put_text;
 use crate::run_fault::RunFault;

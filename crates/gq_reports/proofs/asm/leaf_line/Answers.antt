@@ -1,5 +1,5 @@
 use Rattle.std.proofs.Common.{rules}
-use Rattle.gq_world.proofs.asm.leaf_line.Goals as goal
+use Rattle.gq_reports.proofs.asm.leaf_line.Goals as goal
 
 pub returns-clause-line : goal.returns-clause-line
 returns-clause-line c = search rules

@@ -1,7 +1,7 @@
 -- The line was made, and is written.
 use Rattle.std.proofs.Common.{Ok, ap, sym, ◌∙◌}
-use Rattle.gq_world.specs.Whole.{asm_from, asm_written}
-use Rattle.gq_world.proofs.asm.asm.Goals as goal
+use Rattle.gq_reports.specs.Whole.{asm_from, asm_written}
+use Rattle.gq_reports.proofs.asm.asm.Goals as goal
 
 pub returns : goal.returns
 returns g c =

@@ -4,7 +4,7 @@ use Rattle.std.specs.Prelude.{IsOkAnd}
 use Rattle.gq_model.specs.machine.Scenario.{Scenario}
 use Rattle.gq_model.specs.rules.Accept.{budget_lines}
 use Rattle.gq_load.specs.Load.{LoadRefusal}
-use Rattle.gq_world.specs.Whole.{with_scenario}
+use Rattle.gq_reports.specs.Whole.{with_scenario}
 
 -- the budgets of a scenario that was loaded
 pub written_lines : (r : Result Scenario LoadRefusal) (lines : List ℕ) → IsOkAnd r (λ s. lines ≡ budget_lines s) →

@@ -1,6 +1,6 @@
 // How a command ends early.
 ghost use Rattle.std.specs.Prelude.{◌≡◌, Some};
-ghost use Rattle.gq_world.specs.Command_outcomes.{run_fault_text};
+ghost use Rattle.gq_reports.specs.Command_outcomes.{run_fault_text};
 
 use gq_load::load_fault::{LoadError, LoadFault};
 use gq_model::fault::TurnFault;
@@ -26,7 +26,7 @@ pub enum RunFault<'a> {
 }
 
 impl<'a> From<AllocError> for RunFault<'a> {
-    ghost use Rattle.gq_world.specs.declared.run_fault.RunFault.TheVariants.{Memory};
+    ghost use Rattle.gq_reports.specs.declared.run_fault.RunFault.TheVariants.{Memory};
 
     ghost from_gives = { λ _ fault. fault ≡ Memory };
 
@@ -36,7 +36,7 @@ impl<'a> From<AllocError> for RunFault<'a> {
 }
 
 impl<'a> From<LoadError> for RunFault<'a> {
-    ghost use Rattle.gq_world.specs.Command_outcomes.{run_fault_of};
+    ghost use Rattle.gq_reports.specs.Command_outcomes.{run_fault_of};
 
     ghost from_gives = { λ error fault. fault ≡ run_fault_of error };
 

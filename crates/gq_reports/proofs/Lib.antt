@@ -1,0 +1,3 @@
+pub mod Hexadecimal_digits
+pub mod Printed_budget_lines
+pub mod Command_text_endings
