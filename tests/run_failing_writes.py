@@ -4,7 +4,9 @@
 Standard output is a full device, or a pipe whose reader closes it after some bytes. The program has to end with status 4. It prints `trade: file fault` and why
 for the full device, and nothing for the pipe, and what the reader has got is a prefix of what the run writes where all is written. The runs are those of the examples, and one of 200,000 lines,
 which is longer than a pipe holds; and so are tried the other commands, over each example, and those that read nothing, and `faults` over scenarios and turns
-that have one fault and many. Each command prints one short text at least, which leaves the program's buffer only at its end. The last line is 'N passed, M failed', and the exit status is 1 where a run failed.
+that have one fault and many. Each command prints one short text at least, which leaves the program's buffer only at its end.
+
+Where standard error is a full device, a refusal has the status that it has otherwise, and writes nothing to standard output. The last line is 'N passed, M failed', and the exit status is 1 where a run failed.
 """
 import os
 import pathlib
@@ -90,8 +92,20 @@ def to_closed_pipe(program, words, count):
     return got, (reported, ran.returncode)
 
 
+def unreported(program, words):
+    """What a command writes to standard output, and its status, where its line on standard error can't be written."""
+    with open("/dev/full", "wb") as full:
+        ran = subprocess.run([program, *words], stdout=subprocess.PIPE, stderr=full, timeout=SECONDS)
+    return ran.stdout, ran.returncode
+
+
 def results(program, room):
     """What was wanted of each run, and what came."""
+    hello, no_leaf, no_version = str(EXAMPLES / "hello.toml"), room / "no_leaf", room / "no_version"
+    no_leaf.write_text("init 1\n")
+    no_version.write_text('ram = "64K"\n')
+    for status, words in ((1, ["run", hello, str(no_leaf)]), (1, ["check", str(no_version)]), (1, ["rule", "V20"]), (2, ["walk"]), (4, ["check", "no such file"])):
+        yield f"{' '.join(words)}, with a full standard error", (b"", status), unreported(program, words)
     for scenario in sorted(EXAMPLES.glob("*.toml")):
         words = ["run", str(scenario), str(scenario.with_suffix(".turns"))]
         yield f"{scenario.name} to a full device", FULL, to_full_device(program, words)

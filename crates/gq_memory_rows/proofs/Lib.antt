@@ -1,4 +1,3 @@
 pub mod Leaves_in_turn
 pub mod Market_invariant
 pub mod Computable_plan_tests
-pub mod Serving_session_kept

@@ -1,3 +1,2 @@
 pub mod Markets
 pub mod Stays
-pub mod Serves

@@ -2,10 +2,6 @@
 #![tactic(auto)]
 
 #[cfg(test)]
-mod buffers_rows;
-#[cfg(test)]
-mod contents_rows;
-#[cfg(test)]
 mod dataspace_rows;
 #[cfg(test)]
 mod heap_rows;

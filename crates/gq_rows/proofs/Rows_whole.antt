@@ -4,7 +4,7 @@ use Rattle.std.specs.Prelude.{codes, Ok, Err}
 use Rattle.std.specs.Fmt.{digits}
 use Rattle.std.specs.Str.{is_utf8, chars}
 use Rattle.toml.proofs.OnLiterals.{toml_on_literals}
-use Rattle.gq_world.specs.Whole.{whole_of, run_written, check_written, asm_written}
+use Rattle.gq_reports.specs.Whole.{whole_of, run_written, check_written, asm_written}
 
 -- ONE LEAF
 

@@ -1,6 +1,5 @@
 // What a reader gives, a byte at a time or for ever.
-use gq_cli::input::{InputError, read_input};
-use gq_cli::status::Status;
+use gq_command::input::{InputError, read_input};
 use gq_model::limits::GREATEST_INPUT;
 use std::alloc::Global;
 use std::io;

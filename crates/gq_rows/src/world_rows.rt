@@ -1,11 +1,12 @@
 // A world in memory, turn by turn, and writers that fail.
+use gq_init::counted::Counted;
 use gq_model::phase::Phase;
+use gq_reports::RunFault;
+use gq_reports::asm::asm;
 use gq_scenario::node_numbers::NodeNo;
-use gq_world::asm::asm;
 use gq_world::event::Event;
 use gq_world::input_settings::InputFault;
 use gq_world::world::{Stop, World};
-use gq_world::{Counted, RunFault};
 use std::alloc::Global;
 use std::io;
 use std::io::{Cursor, ErrorKind, Write};
