@@ -1,13 +1,12 @@
 #!/usr/bin/env python3
 """tests/run_unproved.py PROGRAM: compares `./trade` where no program is built with PROGRAM, the proved one, by exit status and both streams.
 
-The cases of tests/cases and the examples that write at most 1 MiB are run by one build of `rt try`, as tools/unproved.py has it run the program; and then
-some calls of `./trade` itself, in a copy of the repository without a built program: by relative names, by names that lead up, from standard input, from a
-pipe, with help, with words that are none, and with more output than `rt try` keeps. It takes some ten minutes and is no part of ./check. The last line is
-'N passed, M failed', and the exit status is 1 where one failed.
+It works in a copy of the repository. The first call there compiles what `run`, `check` and `asm` need, the first of another command the whole program, and the
+others take what was kept. So some calls of `./trade` are tried: by relative names, by names that lead up, from standard input, from a pipe, with help, with words
+that are none, with much output, and to a full device; and all cases of tests/run_cases.py over the program that is kept. Where a source changes, the program is
+compiled anew. It takes some ten minutes and is no part of ./check. The last line is 'N passed, M failed', and the exit status is 1 where one failed.
 """
 import pathlib
-import re
 import subprocess
 import sys
 import tempfile
@@ -15,10 +14,8 @@ import tempfile
 TOP = pathlib.Path(__file__).resolve().parent.parent
 sys.path[:0] = [str(TOP / "tests"), str(TOP / "tools")]
 sys.dont_write_bytecode = True
-from run_cases import cases, words_of  # noqa: E402
-from unproved import NO_ANSWER, NOTE  # noqa: E402
+from unproved import NOTE, SMALL, WHOLE  # noqa: E402
 
-MOST_OUTPUT = 1 << 20
 MUCH = """version = 1
 ram = "64K"
 [[start]]
@@ -32,6 +29,7 @@ end
 end
 '''
 """
+ASK_KEPT = "import sys; sys.path.insert(0, 'tools'); from unproved import *; print(is_kept(Crates(), WHOLE))"
 
 
 def answer(words, given=b"", at=TOP):
@@ -40,65 +38,12 @@ def answer(words, given=b"", at=TOP):
     return ran.stdout, ran.stderr, ran.returncode
 
 
-def put_case(room, name, command, scenario, turns):
-    """Puts a case down as `rt try --cases` wants it. Gives the words for the program, and its standard input."""
-    files = [room / "files" / f"{name}{end}" for end in (".toml", ".turns")]
-    for file, text in zip(files, (scenario, turns)):
-        file.write_bytes(text)
-    words, given = command, b""
-    if command == "stored":
-        words, given = [], scenario + (b"%%\n" + turns if turns else b"")
-    elif isinstance(command, str):
-        words = words_of(command, files, turns)
-    (room / "cases" / name).write_bytes(given)
-    (room / "cases" / f"{name}.args").write_text("".join(f"{word}\n" for word in words))
-    return words, given
-
-
-def tried(room):
-    """For each case, what the program writes by `rt try`, and its status."""
-    ran = subprocess.run(["rt", "try", "--cases", str(room / "cases")], cwd=TOP / "crates" / "trade", stdin=subprocess.DEVNULL, capture_output=True, check=False)
-    parts = re.split(rb"^== (\S+)\n", ran.stdout, flags=re.MULTILINE)
-    printed = dict(zip(parts[1::2], parts[2::2]))
-    found, said = {}, b""
-    for line in ran.stderr.splitlines(keepends=True):
-        ended = re.match(rb"case=(\S+) run=ended status=(\d+) ", line)
-        if ended:
-            found[ended[1].decode()] = printed.get(ended[1], b""), said, int(ended[2])
-        said = b"" if line.startswith(b"case=") else said + line
-    return found
-
-
-def compare_cases(program, room):
-    """Compares all quick cases. Gives how many are the same, and the names of those that are not."""
-    wanted = {}
-    for folder in ("cases", "files"):
-        (room / folder).mkdir()
-    for name, command, scenario, turns, _ in cases():
-        # A word that is empty or has a line feed can't be put down.
-        if command == "unverified" or not isinstance(command, str):
-            continue
-        name = re.sub(r"\W", "-", name)
-        words, given = put_case(room, name, command, scenario, turns)
-        wanted[name] = answer([program, *words], given)
-        if len(wanted[name][0]) > MOST_OUTPUT:
-            del wanted[name]
-            (room / "cases" / name).unlink()
-            (room / "cases" / f"{name}.args").unlink()
-    found = tried(room)
-    different = [name for name in wanted if found.get(name) != wanted[name]]
-    for name in different:
-        print(f"{name}: {found.get(name)} and not {wanted[name]}")
-    return len(wanted) - len(different), different
-
-
-def compare_calls(program, copy, room):
-    """Compares calls of `./trade` of a copy without a built program."""
+def calls(room):
+    """Calls of `./trade`, with what they are given on standard input."""
     (room / "much.toml").write_text(MUCH)
     (room / "much.turns").write_text("much 50000\n")
     stored = (TOP / "examples" / "echo.toml").read_bytes() + b"%%\n" + (TOP / "examples" / "echo.turns").read_bytes()
-    piped = 'exec "$0" run <(cat examples/echo.toml) /dev/stdin < examples/echo.turns'
-    calls = [
+    return [
         (["run", "examples/echo.toml", "examples/echo.turns"], b""),
         (["run", "examples/../examples/hello.toml", str(TOP / "examples" / "hello.turns")], b""),
         (["asm", "examples/hello.toml", "hello"], b""),
@@ -110,33 +55,57 @@ def compare_calls(program, copy, room):
         (["run", "--help"], b""),
         (["walk"], b""),
         (["state", "--at", "5", "examples/echo.toml", "examples/echo.turns"], b""),
+        (["run", str(room / "much.toml"), str(room / "much.turns")], b""),
         ([], stored),
     ]
-    results = [(words, answer([str(copy / "trade"), *words], given), answer([program, *words], given)) for words, given in calls]
-    results.append((piped, answer(["bash", "-c", piped, str(copy / "trade")]), answer(["bash", "-c", piped, program])))
-    different = []
-    for words, (out, said, status), wanted in results:
-        if not said.startswith(NOTE.encode()) or (out, said.removeprefix(NOTE.encode()), status) != wanted:
-            print(f"./trade {words}: {(out, said, status)} and not {wanted}")
-            different.append(words)
-    out, said, status = answer([str(copy / "trade"), "run", str(room / "much.toml"), str(room / "much.turns")])
-    if out or status != NO_ANSWER or b"There is no unproved answer" not in said or b"./trade build" not in said:
-        print(f"much output: {(out[:100], said, status)}")
-        different.append("much output")
-    return len(results) + 1 - len(different), different
+
+
+def compared(program, copy, room):
+    """What was wanted of each call of a copy without a built program, and what came."""
+    note = NOTE.encode()
+    little = [(["check", "examples/hello.toml"], b""), *(call for call in calls(room) if call[0] and call[0][0] in ("run", "asm", "check") and "--help" not in call[0])]
+    little = [call for call in little if "examples/none.toml" not in call[0]]
+    for which, given_calls in ((SMALL, little), (WHOLE, [(["list", "examples/echo.toml", "srv"], b""), *calls(room)])):
+        for number, (words, given) in enumerate(given_calls):
+            out, said, status = answer([program, *words], given)
+            first = which.said.encode() if number == 0 else b""
+            yield f"./trade {' '.join(words)}, by {which.name}", (out, note + first + said, status), answer([str(copy / "trade"), *words], given)
+        full = '"$0" run examples/echo.toml examples/echo.turns > /dev/full'
+        _, said, status = answer(["bash", "-c", full, program])
+        yield f"a full device, by {which.name}", (b"", note + said, status), answer(["bash", "-c", full, str(copy / "trade")])
+    piped = 'exec "$0" run <(cat examples/echo.toml) /dev/stdin < examples/echo.turns'
+    out, said, status = answer(["bash", "-c", piped, program])
+    yield piped, (out, note + said, status), answer(["bash", "-c", piped, str(copy / "trade")])
+    yield "all cases", 0, cases_passed(copy)
+    source = copy / "crates" / WHOLE.name / "src" / "main.rt"
+    text = source.read_text(encoding="utf-8")
+    for what, changed, is_kept in (("another source", text + "// more\n", b"False\n"), ("the source as it was", text, b"True\n")):
+        source.write_text(changed, encoding="utf-8")
+        yield what, (is_kept, b"", 0), answer([sys.executable, "-B", "-c", ASK_KEPT], at=copy)
+    source.write_text("fn main( {}\n", encoding="utf-8")
+    out, said, status = answer([str(copy / "trade"), "--version"])
+    yield "a source that can't be compiled", (b"", 125, True, True), (out, status, b"There is no unproved answer: " in said, b"./trade build" in said)
+
+
+def cases_passed(copy):
+    """The status of the cases over the program that is kept in a copy."""
+    ran = subprocess.run([sys.executable, "-B", "tests/run_cases.py", str(copy / WHOLE.path.relative_to(TOP))], cwd=TOP, check=False)
+    return ran.returncode
 
 
 def main():
     if len(sys.argv) != 2:
         sys.exit(__doc__)
     program = str(pathlib.Path(sys.argv[1]).resolve())
-    with tempfile.TemporaryDirectory() as first, tempfile.TemporaryDirectory() as second, tempfile.TemporaryDirectory() as third:
-        passed, different = compare_cases(program, pathlib.Path(first))
+    passed = failed = 0
+    with tempfile.TemporaryDirectory() as copy, tempfile.TemporaryDirectory() as room:
         files = subprocess.run(["git", "ls-files", "--cached", "--others", "--exclude-standard", "-z"], cwd=TOP, capture_output=True, check=True).stdout
-        subprocess.run(["xargs", "-0", "cp", "--parents", "-t", third], cwd=TOP, input=files, check=True)
-        more, others = compare_calls(program, pathlib.Path(third), pathlib.Path(second))
-    failed = len(different) + len(others)
-    print(f"{passed + more} passed, {failed} failed")
+        subprocess.run(["xargs", "-0", "cp", "--parents", "-t", copy], cwd=TOP, input=files, check=True)
+        for what, wanted, got in compared(program, pathlib.Path(copy), pathlib.Path(room)):
+            passed, failed = passed + (wanted == got), failed + (wanted != got)
+            if wanted != got:
+                print(f"FAILED {what}\n  wanted {str(wanted)[:400]}\n  got    {str(got)[:400]}")
+    print(f"{passed} passed, {failed} failed")
     return 1 if failed else 0
 
 
