@@ -7,27 +7,36 @@ where the program was built; what the toolchain said of a crate is in crates/NAM
 """
 import concurrent.futures
 import os
+import re
 import sys
 import time
 
-from crates import Crates
+from crates import TOP, Crates
 from made_from import MADE, is_made_from, origins, put_down
 
 # Of so many crates that are left, each gets one job more.
 LAST = 10
-LINES_A_SECOND = 10
+LINES_A_SECOND = 8
+# A row of the table of docs/GATE.md: the crate, and the processor seconds of its proof.
+ROW = re.compile(r"^\| `(\w+)` \|(?: [^|]* \|){5} ([0-9,]+) \|", re.M)
 
 
-def seconds(name, crates):
-    """About how many processor seconds the proof of a crate takes, by the lines of its code: enough to know what is to be built first."""
-    return sum(path.read_bytes().count(b"\n") for path in (crates.folder(name) / "src").rglob("*.rt")) / LINES_A_SECOND
+def measured():
+    """The processor seconds of each crate's proof, as docs/GATE.md has them."""
+    return {name: int(number.replace(",", "")) for name, number in ROW.findall((TOP / "docs" / "GATE.md").read_text(encoding="utf-8"))}
+
+
+def seconds(name, crates, table):
+    """About how many processor seconds the proof of a crate takes: enough to know what is to be built first."""
+    lines = sum(path.read_bytes().count(b"\n") for path in (crates.folder(name) / "src").rglob("*.rt"))
+    return table.get(name, lines / LINES_A_SECOND)
 
 
 def heights(names, crates):
     """For each crate, how many seconds the longest way from it up to the program takes: what is to be built first."""
-    found = {}
+    found, table = {}, measured()
     for name in reversed(names):
-        found[name] = seconds(name, crates) + max((found[above] for above in found if name in crates.own(above)), default=0)
+        found[name] = seconds(name, crates, table) + max((found[above] for above in found if name in crates.own(above)), default=0)
     return found
 
 

@@ -1,5 +1,6 @@
 #!/usr/bin/env python3
-"""tools/measure_gate.py [COMMAND..]: runs ./check, or that command, and prints the processor seconds of each crate's proof, tests and edits.
+"""tools/measure_gate.py [COMMAND..]: runs ./check, or that command, and prints the processor seconds of each crate's proof, tests and edits, and the most memory
+that one of its checks took, in megabytes.
 
 It looks at the running checks several times a second, so what a check takes between the last look and its end is not counted. It ends with the
 status of what it ran. Where it is interrupted it ends what it ran, and prints what was taken so far.
@@ -39,6 +40,15 @@ def state_of(process):
         return "", "", 0.0
 
 
+def most_memory(process):
+    """The most memory that a process has taken so far, in megabytes."""
+    try:
+        with open(f"/proc/{process}/status", encoding="utf-8", errors="replace") as lines:
+            return next((int(line.split()[1]) // 1000 for line in lines if line.startswith("VmHWM:")), 0)
+    except OSError:
+        return 0
+
+
 def is_below(process, top):
     """Whether a process was started by another one, or by one that it started."""
     while process not in ("", "0", top):
@@ -60,8 +70,8 @@ def kind_of(process, words):
     return name, "tests" if "--test" in words else "proof"
 
 
-def look(top, taken, kinds):
-    """Notes how long each check has taken that runs below a process."""
+def look(top, taken, kinds, memory):
+    """Notes how long each check has taken that runs below a process, and how much memory those of each crate."""
     for process in filter(str.isdigit, os.listdir("/proc")):
         words = words_of(process)
         kind = kind_of(process, words) if words else None
@@ -69,6 +79,7 @@ def look(top, taken, kinds):
             _, start, seconds = state_of(process)
             kinds[process, start] = kind
             taken[process, start] = max(taken.get((process, start), 0.0), seconds)
+            memory[kind[0]] = max(memory.get(kind[0], 0), most_memory(process))
 
 
 def piece():
@@ -81,12 +92,12 @@ def piece():
 
 def main():
     ran = subprocess.Popen(sys.argv[1:] or ["./check"], cwd=TOP)
-    start, taken, kinds, pieces = time.monotonic(), {}, {}, []
+    start, taken, kinds, memory, pieces = time.monotonic(), {}, {}, {}, []
     try:
         while ran.poll() is None:
             if time.monotonic() - start >= 60 * len(pieces):
                 pieces.append(piece())
-            look(str(ran.pid), taken, kinds)
+            look(str(ran.pid), taken, kinds, memory)
             time.sleep(0.2)
     except KeyboardInterrupt:
         ran.terminate()
@@ -94,9 +105,9 @@ def main():
     together = {}
     for process, kind in kinds.items():
         together[kind] = together.get(kind, 0.0) + taken[process]
-    print(f"{'crate':20}{'proof':>8}{'tests':>8}{'edits':>8}")
+    print(f"{'crate':20}{'proof':>8}{'tests':>8}{'edits':>8}{'MB':>8}")
     for name in sorted({name for name, _ in together}):
-        print(f"{name:20}" + "".join(f"{together.get((name, kind), 0):8.0f}" for kind in ("proof", "tests", "edits")))
+        print(f"{name:20}" + "".join(f"{together.get((name, kind), 0):8.0f}" for kind in ("proof", "tests", "edits")) + f"{memory[name]:8}")
     print(f"together {sum(together.values()):.0f} processor seconds, in {time.monotonic() - start:.0f} seconds")
     if pieces:
         print(f"a piece of work took {min(pieces):.3f} to {max(pieces):.3f} processor seconds, {statistics.median(pieces):.3f} in the middle")

@@ -1,5 +1,13 @@
 #!/usr/bin/env python3
-"""tools/try_edits.py [--at FOLDER] [--jobs N] [--anew] [--times] [CRATE..]: tries the must-fail edits of all crates, or of these: the prover has to refuse each.
+"""tools/try_edits.py [--at FOLDER] [--jobs N] [--anew] [--sample] [--list] [--drop] [--times] [CRATE..]: tries must-fail edits: the prover has to refuse each.
+
+It tries the edits of all crates, or of these, that have no record over the sources as they are (tools/records.py): an edit shows how strong a contract is, and
+a contract that did not change is as strong as it was. It writes a record of each edit that was refused, and takes away that of one that was not.
+
+--sample also tries one in ten of the edits that have a record, and one in four where a contract or a definition of a crate below is another one. A checksum of
+the commit and of the edit's name chooses them. The sample ends after 20 minutes. --anew tries all edits. --list tries none, and prints what is wrong with which
+record. --drop takes away the records of edits that are gone, which fail otherwise. --times prints on standard error how many seconds each check took, and of
+which edits it was.
 
 The edits of a crate are tried together, in one copy of its sources and one check of the functions that they change. That serves as well as a check for each,
 as a function is proved from what the functions that it calls promise, and not from their bodies: an edit in one body can break no goal of another function.
@@ -9,18 +17,12 @@ What is not refused so is tried once more without those that were, as the goals 
 one function, one cycle of functions, or the same line go into different checks. An edit that is not within bodies (of a clause, a definition, a proof), and
 one that was not refused beside others, is tried alone, as the toolchain's own `rt must-fail` tries each.
 
-The libraries are read below FOLDER, a copy of the repository in which `rt ci` has passed (else the repository itself). It ends with 0 where each edit was
-refused.
-
-That an edit was refused is kept in the user's cache folder, by a checksum of all that its verdict depends on: the toolchain, these tools, the edit, and all
-sources of its crate and of the crates below it. While none of them changes, the edit is not tried again. --anew tries all. --times prints on standard error
-how many seconds each check took, and of which edits it was.
+The libraries are read below FOLDER, a copy of the repository in which `rt ci` has passed (else the repository itself). The last line counts the edits, those
+that were tried, and those that were refused. It ends with 0 where each edit that was tried was refused.
 """
 import argparse
 import concurrent.futures
 import dataclasses
-import hashlib
-import os
 import pathlib
 import re
 import shutil
@@ -29,11 +31,15 @@ import sys
 import tempfile
 import time
 
-from crates import PARTS, TOP, Crates
+from crates import PARTS, TOP, Crates, listed
 from edits import BadEdit, cycle_named, read_edit, replaced
+from processors import wanted_jobs
+from records import BadRecord, NoLibrary, Records, Sums, digest
 
-# Where it is kept which edits were refused.
-KEPT = pathlib.Path(os.environ.get("XDG_CACHE_HOME") or pathlib.Path.home() / ".cache") / "fozhattu" / "edits"
+# Of the edits with a record one in so many is tried all the same, and of those with other contracts below one in so many.
+ONE_IN, ONE_IN_CHANGED = 10, 4
+# How long the sample may take, in seconds.
+SAMPLE_SECONDS = 20 * 60
 # What is said of a text that can't be read, where one that is only false reads well.
 UNREADABLE = re.compile(r"is not in scope|has no field|is no name|operand is missing|expected the end|cannot continue")
 # What a proof file says where an edit took away a name, and so nothing of a contract.
@@ -44,46 +50,8 @@ NOT_STATED = "antt did not admit its contract or its `statement`"
 IS_FALSE = "allow values at which this goal is false"
 
 
-class Verdicts:
-    """Which edits were refused in earlier runs over the same sources."""
-
-    def __init__(self, crates, is_anew):
-        self.crates, self.is_anew, self.sums = crates, is_anew, {}
-
-    def sum_of(self, name):
-        """A checksum of all that the check of a crate reads: its sources, those of the crates below it, the toolchain and these tools."""
-        if name not in self.sums:
-            total = hashlib.sha256((self.crates.kit / "KIT-ID").read_bytes())
-            for tool in ("try_edits.py", "edits.py", "crates.py"):
-                total.update((TOP / "tools" / tool).read_bytes())
-            for crate in [*self.crates.below(name), name]:
-                total.update(repr((crate, self.crates.uses[crate])).encode())
-                for part in PARTS:
-                    for path in sorted((self.crates.folder(crate) / part).rglob("*")):
-                        if path.is_file():
-                            total.update(repr((str(path.relative_to(self.crates.at)), path.read_bytes())).encode())
-            self.sums[name] = total.hexdigest()
-        return self.sums[name]
-
-    def path(self, name, edit):
-        """Where it is kept that an edit of a crate was refused."""
-        return KEPT / hashlib.sha256(repr((self.sum_of(name), edit.name, edit.path.read_bytes())).encode()).hexdigest()
-
-    def refused(self, name, edit):
-        """What was said when an edit was refused, or nothing where that is not known."""
-        path = self.path(name, edit)
-        return path.read_text(encoding="utf-8") if not self.is_anew and path.is_file() else ""
-
-    def keep(self, name, edit, why):
-        """Keeps that an edit was refused. Where the cache can't be written it is tried again next time."""
-        path = self.path(name, edit)
-        try:
-            path.parent.mkdir(parents=True, exist_ok=True)
-            made = path.with_suffix(f".{os.getpid()}")
-            made.write_text(why, encoding="utf-8")
-            made.replace(path)
-        except OSError:
-            pass
+class OutOfTime(Exception):
+    """The time for the sample is over."""
 
 
 @dataclasses.dataclass
@@ -95,23 +63,39 @@ class CheckReport:
     refused: dict
 
 
-def check(crates, name, edits, kept, more=()):
-    """What a check says of a copy of a crate with some edits, over what the checks before it have kept in a folder; further words are given to it."""
-    # (tools/measure_gate.py knows the work by the folder's name)
-    with tempfile.TemporaryDirectory(prefix="rt-edits-") as room:
-        for part in PARTS:
-            if (crates.folder(name) / part).is_dir():
-                shutil.copytree(crates.folder(name) / part, pathlib.Path(room, part))
-        for edit in edits:
-            for file, old, new in edit.pairs:
-                path = pathlib.Path(room, file)
-                path.write_text(replaced(path.read_text(encoding="utf-8"), old, new), encoding="utf-8")
-        how = {"stdin": subprocess.DEVNULL, "stdout": subprocess.PIPE, "stderr": subprocess.STDOUT, "text": True, "errors": "replace"}
-        start = time.monotonic()
-        ran = subprocess.run(crates.check(name, ["--incremental", kept, *more]), cwd=room, check=False, **how)
-    if crates.times:
-        print(f"{time.monotonic() - start:.0f} s: {name}: {' '.join(edit.path.stem for edit in edits)}", file=sys.stderr, flush=True)
-    return read_report(name, ran.returncode, ran.stdout.rstrip("\n").split("\n"))
+@dataclasses.dataclass
+class Trial:
+    """How the edits of a crate are tried: the crates, the crate, the folder in which a check finds what those before it kept, and when there is no more time."""
+
+    crates: Crates
+    name: str
+    kept: str
+    until: float | None = None
+
+    def check(self, edits, more=()):
+        """What a check says of a copy of the crate with some edits; further words are given to it. A check that does not end in time has no answer."""
+        left = None if self.until is None else self.until - time.monotonic()
+        if left is not None and left <= 0:
+            raise OutOfTime
+        folder, start = self.crates.folder(self.name), time.monotonic()
+        # (tools/measure_gate.py knows the work by the folder's name)
+        with tempfile.TemporaryDirectory(prefix="rt-edits-") as room:
+            for part in PARTS:
+                if (folder / part).is_dir():
+                    shutil.copytree(folder / part, pathlib.Path(room, part))
+            for edit in edits:
+                for file, old, new in edit.pairs:
+                    path = pathlib.Path(room, file)
+                    path.write_text(replaced(path.read_text(encoding="utf-8"), old, new), encoding="utf-8")
+            how = {"stdin": subprocess.DEVNULL, "stdout": subprocess.PIPE, "stderr": subprocess.STDOUT, "text": True, "errors": "replace"}
+            command = self.crates.check(self.name, ["--incremental", self.kept, *more])
+            try:
+                ran = subprocess.run(command, cwd=room, check=False, timeout=left, **how)
+            except subprocess.TimeoutExpired:
+                raise OutOfTime from None
+        if self.crates.times:
+            print(f"{time.monotonic() - start:.0f} s: {self.name}: {' '.join(edit.path.stem for edit in edits)}", file=sys.stderr, flush=True)
+        return read_report(self.name, ran.returncode, ran.stdout.rstrip("\n").split("\n"))
 
 
 def read_report(name, status, lines):
@@ -200,30 +184,28 @@ def collide(one, other):
     return bool(cycles or texts or {path for path, _ in one.functions} & {path for path, _ in other.functions})
 
 
-def try_together(crates, name, edits, kept):
-    """Tries edits within bodies in as few checks as can be. Gives why each is refused; those that are not refused so are not among them."""
-    found = {}
+def try_together(trial, edits, found):
+    """Tries edits within bodies in as few checks as can be. Puts down why each is refused; those that are not refused so are not among them."""
     for group in parted(edits):
         left = group
         while left:
             try:
-                said = check(crates, name, left, kept, only_of(left))
+                said = trial.check(left, only_of(left))
             except BadEdit:
                 break
             refused = {edit.name: why for edit in left if (why := why_refused(edit, said))}
-            if not refused or not has_read(said, left) or len(left) > 1 and breaks_others(crates, name, left, said):
+            if not refused or not has_read(said, left) or len(left) > 1 and breaks_others(trial.crates, trial.name, left, said):
                 break
             found.update(refused)
             left = [edit for edit in left if edit.name not in refused]
-    return found
 
 
-def try_alone(crates, name, edit, kept):
+def try_alone(trial, edit):
     """Tries an edit by itself, on the functions that it changes and else on the whole crate. Gives whether it was refused, and what is to be said."""
     refused, why = False, ""
     if edit.functions:
-        refused, why = verdict(check(crates, name, [edit], kept, only_of([edit])), edit)
-    return (refused, why) if refused else verdict(check(crates, name, [edit], kept), edit)
+        refused, why = verdict(trial.check([edit], only_of([edit])), edit)
+    return (refused, why) if refused else verdict(trial.check([edit]), edit)
 
 
 def verdict(said, edit):
@@ -242,60 +224,162 @@ def only_of(edits):
     return [word for edit in edits for path, _ in sorted(edit.functions) for word in ("--only", path)]
 
 
-def try_crate(crates, name, verdicts):
-    """Tries the edits of a crate, but for those of which the verdict is known. Gives a line for each, and whether it was refused."""
-    edits, lines = [], []
+@dataclasses.dataclass
+class Plan:
+    """What is to be tried of a crate: its edits, their records, those that have to be tried with the reason for each, and those of the sample."""
+
+    name: str
+    edits: list
+    records: Records
+    owed: dict
+    sample: list
+    wrong: list
+
+
+def planned(crates, sums, name, given, commit):
+    """What is to be tried of a crate."""
+    plan = Plan(name, [], Records(name), {}, [], [])
     for path in sorted((TOP / "crates" / name / "must-fail").glob("*.edit")):
         try:
-            edits.append(read_edit(path, crates.folder(name)))
+            plan.edits.append(read_edit(path, crates.folder(name)))
         except (BadEdit, OSError, UnicodeError) as error:
-            lines.append((False, f"{name}/{path.name}: BAD EDIT: {error}"))
-    known = {edit.name: verdicts.refused(name, edit) for edit in edits}
-    lines += [(True, f"{edit}: {why}, as in an earlier run") for edit, why in known.items() if why]
-    edits = [edit for edit in edits if not known[edit.name]]
+            plan.wrong.append(f"{name}/{path.name}: BAD EDIT: {error}")
+    for edit in plan.edits:
+        own, below = plan.records.sums.get(edit.path.name, ("", ""))
+        if own != sums.own(name, edit) or given.anew:
+            plan.owed[edit.name] = "all are tried" if given.anew else f"its record is of other sources of {name}" if own else "it has no record"
+        elif commit and is_chosen(commit, edit, below != sums.below(name)):
+            plan.sample.append(edit)
+    for edit in plan.records.gone():
+        plan.records.drop(edit) if given.drop else plan.wrong.append(
+            f"{name}/{edit} has a record and is gone: `tools/try_edits.py --drop {name}` takes the record away"
+        )
+    return plan
+
+
+def is_chosen(commit, edit, has_changed_below):
+    """Whether an edit with a record belongs to the sample of a commit."""
+    number = int(digest([commit.encode(), edit.name.encode()]), 16)
+    return number % (ONE_IN_CHANGED if has_changed_below else ONE_IN) == 0
+
+
+def try_crate(crates, sums, plan, edits, until):
+    """Tries edits of a crate, and keeps records of what was refused. Gives for each that was tried whether it was refused, and a line."""
+    found, alone = {}, {}
     with tempfile.TemporaryDirectory(prefix="rt-edits-") as kept:
-        found = try_together(crates, name, [edit for edit in edits if edit.functions], kept)
-        for edit in edits:
-            if edit.name in found:
-                refused, why = True, f"refused at {found[edit.name][:160]}"
-            else:
-                refused, why = try_alone(crates, name, edit, kept)
-                why = f"{'refused, alone' if refused else 'NOT REFUSED'}: {why}"
-            if refused:
-                verdicts.keep(name, edit, why)
-            lines.append((refused, f"{edit.name}: {why}"))
+        trial = Trial(crates, plan.name, kept, until)
+        try:
+            try_together(trial, [edit for edit in edits if edit.functions], found)
+            for edit in edits:
+                if edit.name not in found:
+                    alone[edit.name] = try_alone(trial, edit)
+        except OutOfTime:
+            pass
+    lines = []
+    for edit in edits:
+        if edit.name in found:
+            refused, why = True, f"refused at {found[edit.name][:160]}"
+        elif edit.name in alone:
+            refused, why = alone[edit.name]
+            why = f"{'refused, alone' if refused else 'NOT REFUSED'}: {why}"
+        else:
+            continue
+        lines.append((refused, f"{edit.name}: {why}"))
+        if refused:
+            plan.records.keep(edit.path.name, sums.own(plan.name, edit), sums.below(plan.name))
+        else:
+            plan.records.drop(edit.path.name)
+    try:
+        plan.records.write()
+    except OSError as error:
+        print(f"no record was kept of the edits of {plan.name}: {error}", file=sys.stderr)
     return lines
 
 
-def weight(crates, name):
-    """How long the edits of a crate may take, beside those of others."""
-    edits = len(list((TOP / "crates" / name / "must-fail").glob("*.edit")))
-    return 10 * edits + len(crates.below(name)) if edits else 0
+def weight(crates, name, edits):
+    """How long some edits of a crate may take, beside those of others."""
+    return 10 * len(edits) + len(crates.below(name))
+
+
+def try_all(crates, sums, work, jobs, until=None):
+    """Tries the edits of several plans side by side, and prints a line for each. Gives whether each was refused."""
+    pool, verdicts = concurrent.futures.ThreadPoolExecutor(jobs), []
+    try:
+        for tried in concurrent.futures.as_completed([pool.submit(try_crate, crates, sums, plan, edits, until) for plan, edits in work if edits]):
+            for refused, line in tried.result():
+                print(f"must-fail {line}", flush=True)
+                verdicts.append(refused)
+    finally:
+        pool.shutdown(cancel_futures=True)
+    return verdicts
+
+
+def try_sample(crates, sums, plans, jobs, commit):
+    """Tries the edits of the sample, in an order that the commit decides, until the time for it is over. Gives whether each that was tried was refused."""
+    work = sorted(((plan, plan.sample) for plan in plans), key=lambda it: digest([commit.encode(), it[0].name.encode()]))
+    verdicts = try_all(crates, sums, work, jobs, time.monotonic() + SAMPLE_SECONDS)
+    chosen = sum(len(plan.sample) for plan in plans)
+    recorded = sum(len(plan.edits) - len(plan.owed) for plan in plans)
+    ended = "" if len(verdicts) == chosen else f" The {SAMPLE_SECONDS // 60} minutes for it were over before the others."
+    print(f"The sample of commit {commit[:12]} has {chosen} of the {recorded} edits with a record; {len(verdicts)} of them were tried.{ended}")
+    return verdicts
+
+
+def commit_at(top):
+    """The commit that the repository is at."""
+    ran = subprocess.run(["git", "rev-parse", "HEAD"], cwd=top, check=False, capture_output=True, text=True)
+    if ran.returncode:
+        raise SystemExit(f"no commit is there to choose a sample by: {ran.stderr.strip()}")
+    return ran.stdout.strip()
+
+
+def read_words():
+    """The words of the command line."""
+    parser = argparse.ArgumentParser(description=__doc__, formatter_class=argparse.RawDescriptionHelpFormatter)
+    parser.add_argument("--at", default=TOP, metavar="FOLDER")
+    parser.add_argument("--jobs", type=int, default=wanted_jobs(), metavar="N")
+    for option in ("--anew", "--sample", "--list", "--drop", "--times"):
+        parser.add_argument(option, action="store_true")
+    parser.add_argument("crates", nargs="*", metavar="CRATE")
+    given = parser.parse_args()
+    for name in given.crates:
+        if name not in listed(TOP):
+            parser.error(f"crates.txt lists no crate {name}")
+    return given
 
 
 def main():
-    parser = argparse.ArgumentParser(description=__doc__, formatter_class=argparse.RawDescriptionHelpFormatter)
-    parser.add_argument("--at", default=TOP, metavar="FOLDER")
-    parser.add_argument("--jobs", type=int, default=len(os.sched_getaffinity(0)), metavar="N")
-    parser.add_argument("--anew", action="store_true")
-    parser.add_argument("--times", action="store_true")
-    parser.add_argument("crates", nargs="*", metavar="CRATE")
-    given = parser.parse_args()
+    given = read_words()
     crates = Crates(given.at)
     crates.times = given.times
-    verdicts = Verdicts(crates, given.anew)
-    names = sorted(given.crates or crates.uses, key=lambda name: -weight(crates, name))
-    lines, pool = [], concurrent.futures.ThreadPoolExecutor(given.jobs)
+    sums, commit = Sums(crates), commit_at(TOP) if given.sample else ""
     try:
-        for tried in concurrent.futures.as_completed([pool.submit(try_crate, crates, name, verdicts) for name in names if weight(crates, name)]):
-            for refused, line in tried.result():
-                print(f"must-fail {line}", flush=True)
-                lines.append((refused, line))
-    finally:
-        pool.shutdown(cancel_futures=True)
-    failed = [line for refused, line in lines if not refused]
-    print(f"{len(lines) - len(failed)} edits refused, {len(failed)} not")
-    return 1 if failed or not lines else 0
+        plans = [planned(crates, sums, name, given, commit) for name in given.crates or crates.uses]
+        if not given.list:
+            for plan in plans:
+                _ = sums.below(plan.name) if plan.owed or plan.sample else ""
+    except (BadRecord, NoLibrary) as error:
+        raise SystemExit(str(error)) from None
+    for plan in plans:
+        for line in plan.wrong:
+            print(line)
+        for edit, why in plan.owed.items():
+            if not given.anew:
+                print(f"{edit} has to be tried: {why}. `tools/try_edits.py {plan.name}` tries it and writes its record", flush=True)
+    edits, wrong = sum(len(plan.edits) for plan in plans), sum(len(plan.wrong) for plan in plans)
+    if given.list:
+        print(f"{edits} edits, {sum(len(plan.owed) for plan in plans)} of them without a record, {wrong} mistakes")
+        return 1 if wrong else 0
+    for plan in plans:
+        if given.drop:
+            plan.records.write()
+    owed = [(plan, [edit for edit in plan.edits if edit.name in plan.owed]) for plan in plans]
+    verdicts = try_all(crates, sums, sorted(owed, key=lambda it: -weight(crates, it[0].name, it[1])), given.jobs)
+    if given.sample:
+        verdicts += try_sample(crates, sums, plans, given.jobs, commit)
+    refused = sum(verdicts)
+    print(f"{edits} edits, {len(verdicts)} tried, {refused} refused, {len(verdicts) - refused} not refused, {wrong} mistakes")
+    return 1 if refused < len(verdicts) or wrong or not edits else 0
 
 
 if __name__ == "__main__":

@@ -1,0 +1,54 @@
+"""How many checks run side by side: as many as there are processors, and as fit into nine tenths of the memory.
+
+Run by itself it prints that number. `RT_JOBS`, which `rt ci` also reads, decides where somebody has set it.
+"""
+import os
+import pathlib
+
+# What the largest checks of the repository take together where so many run side by side, in bytes (docs/GATE.md, "Memory").
+TOGETHER = (7_000_000_000, 13_000_000_000, 17_000_000_000, 20_000_000_000)
+GROUP = pathlib.Path("/sys/fs/cgroup")
+
+
+def number_in(path):
+    """The first number of a file, or nothing where there is none."""
+    try:
+        word = path.read_text(encoding="utf-8").split()[0]
+    except (OSError, IndexError):
+        return None
+    return int(word) if word.isdigit() else None
+
+
+def processors():
+    """The processors that this process may run on, or fewer by the quota of its control group."""
+    found, quota = len(os.sched_getaffinity(0)), number_in(GROUP / "cpu.max")
+    if quota:
+        period = int((GROUP / "cpu.max").read_text(encoding="utf-8").split()[1])
+        found = min(found, max(quota // period, 1))
+    return found
+
+
+def free_memory():
+    """The bytes of memory that are free, within the limit of the control group."""
+    lines = pathlib.Path("/proc/meminfo").read_text(encoding="utf-8").split("\n")
+    free = 1024 * next(int(line.split()[1]) for line in lines if line.startswith("MemAvailable:"))
+    limit, used = number_in(GROUP / "memory.max"), number_in(GROUP / "memory.current")
+    return free if limit is None or used is None else min(free, limit - used)
+
+
+def jobs(count=None, memory=None):
+    """How many checks run side by side on so many processors with so much memory."""
+    count, memory = count or processors(), free_memory() if memory is None else memory
+    most = TOGETHER[-1] - TOGETHER[-2]
+    together = [*TOGETHER, *(TOGETHER[-1] + most * more for more in range(1, max(count - len(TOGETHER), 0) + 1))]
+    return max(1, sum(1 for needed in together[:count] if needed <= 0.9 * memory))
+
+
+def wanted_jobs():
+    """How many checks run side by side: what RT_JOBS sets, or else `jobs`."""
+    given = os.environ.get("RT_JOBS", "")
+    return int(given) if given.isdigit() and int(given) else jobs()
+
+
+if __name__ == "__main__":
+    print(wanted_jobs())
