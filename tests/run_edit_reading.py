@@ -71,7 +71,7 @@ class Reading(unittest.TestCase):
 
     def test_functions(self):
         self.assertEqual(self.edit(("self.size / 2", "self.size")).functions, {("shapes::Box::half", "")})
-        self.assertEqual(self.edit(("Box { size: ball.size }", "Box { size: 0 }")).functions, {("shapes::BoxFromBall::from", "")})
+        self.assertEqual(self.edit(("Box { size: ball.size }", "Box { size: 0 }")).functions, {("methods::BoxFromBall::from", "")})
         self.assertEqual(self.edit(("n == 0", "n == 1"), ("n > 0", "n > 1")).functions, {("methods::even", "turns"), ("methods::odd", "turns")})
         self.assertEqual(self.edit(("is_even n }", "is_odd n }")).functions, set())
         self.assertEqual(self.edit(("is_even n }", "is_odd n }"), front="function: methods::even\n").functions, {("methods::even", "")})

@@ -99,9 +99,10 @@ def function_at(sources, file, text, at):
 
 
 def path_of(sources, file, kind):
-    """The path below the crate of what stands in a file, of a type or of a module: methods go by the module that declares their type."""
-    if not kind:
-        return modules(file)
+    """The path below the crate of what stands in a file, of a type or of a module: a type's own methods go by the module that declares it, and those of a trait
+    by the module that they stand in."""
+    if not kind or kind[1]:
+        return [*modules(file), "".join(kind)] if kind else modules(file)
     declared = re.compile(rf"^(?:pub(?:\([^)]*\))? )?(?:struct|enum|union) {kind[0]}\b", re.M)
     found = next((path for path in sorted((sources / "src").rglob("*.rt")) if declared.search(path.read_text(encoding="utf-8"))), None)
     return [*modules(str(found.relative_to(sources)) if found else file), "".join(kind)]

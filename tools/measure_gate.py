@@ -2,7 +2,7 @@
 """tools/measure_gate.py [COMMAND..]: runs ./check, or that command, and prints the processor seconds of each crate's proof, tests and edits, and the most memory
 that one of its checks took, in megabytes.
 
-It looks at the running checks several times a second, so what a check takes between the last look and its end is not counted. It ends with the
+It looks at the running checks twice a second, so what a check takes between the last look and its end is not counted. It ends with the
 status of what it ran. Where it is interrupted it ends what it ran, and prints what was taken so far.
 
 How long the same check takes changes with what others do on the machine, by a factor of two and more. So once a minute it does a small piece of work that
@@ -10,6 +10,7 @@ is always the same, and prints at the end what that took, as a hint of how fast 
 """
 import array
 import os
+import signal
 import statistics
 import subprocess
 import sys
@@ -90,7 +91,13 @@ def piece():
     return time.process_time() - start
 
 
+def interrupt(_signal, _frame):
+    """Ends the run as the keyboard does."""
+    raise KeyboardInterrupt
+
+
 def main():
+    signal.signal(signal.SIGTERM, interrupt)
     ran = subprocess.Popen(sys.argv[1:] or ["./check"], cwd=TOP)
     start, taken, kinds, memory, pieces = time.monotonic(), {}, {}, {}, []
     try:
@@ -98,7 +105,7 @@ def main():
             if time.monotonic() - start >= 60 * len(pieces):
                 pieces.append(piece())
             look(str(ran.pid), taken, kinds, memory)
-            time.sleep(0.2)
+            time.sleep(0.5)
     except KeyboardInterrupt:
         ran.terminate()
         ran.wait()

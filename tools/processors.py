@@ -5,8 +5,8 @@ Run by itself it prints that number. `RT_JOBS`, which `rt ci` also reads, decide
 import os
 import pathlib
 
-# What the largest checks of the repository take together where so many run side by side, in bytes (docs/GATE.md, "Memory").
-TOGETHER = (7_000_000_000, 13_000_000_000, 17_000_000_000, 20_000_000_000)
+# What the largest checks of the repository take, in bytes, the greatest first (docs/GATE.md); each of the others takes no more than the last of these.
+LARGEST = (7_000_000_000, 5_000_000_000, 4_000_000_000, 4_000_000_000)
 GROUP = pathlib.Path("/sys/fs/cgroup")
 
 
@@ -36,12 +36,15 @@ def free_memory():
     return free if limit is None or used is None else min(free, limit - used)
 
 
+def together(count):
+    """The bytes that so many checks take together, if they are the largest."""
+    return sum(LARGEST[:count]) + LARGEST[-1] * max(count - len(LARGEST), 0)
+
+
 def jobs(count=None, memory=None):
     """How many checks run side by side on so many processors with so much memory."""
     count, memory = count or processors(), free_memory() if memory is None else memory
-    most = TOGETHER[-1] - TOGETHER[-2]
-    together = [*TOGETHER, *(TOGETHER[-1] + most * more for more in range(1, max(count - len(TOGETHER), 0) + 1))]
-    return max(1, sum(1 for needed in together[:count] if needed <= 0.9 * memory))
+    return max([1, *(number for number in range(1, count + 1) if together(number) <= 0.9 * memory)])
 
 
 def wanted_jobs():
