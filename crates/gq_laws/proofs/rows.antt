@@ -6,3 +6,5 @@ mod Reached_world_rows
 mod Needed_rule_rows
 mod Statement_law_rows
 mod Sound_scenario_rows
+mod Long_runs
+mod Reply_rows
