@@ -6,7 +6,7 @@ import os
 import pathlib
 
 # What the largest checks of the repository take, in bytes, the greatest first (docs/GATE.md); each of the others takes no more than the last of these.
-LARGEST = (6_500_000_000, 3_700_000_000, 3_200_000_000, 3_000_000_000)
+LARGEST = (6_500_000_000, 4_600_000_000, 3_700_000_000, 3_200_000_000)
 GROUP = pathlib.Path("/sys/fs/cgroup")
 
 
