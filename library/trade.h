@@ -1,7 +1,8 @@
 /* trade.h: systems of components, for programs in C11 and C++. docs/LIBRARY.md explains it.
 
    Rules for the caller, beyond the types. Pointers are not null, point to memory of the stated size, and do not overlap. A text may have length 0, and so may
-   a buffer. One thread at a time uses a world. malloc, realloc and free come from one allocator. Only trade_load, trade_fault and trade_drop call them. */
+   a buffer. A world stays on the thread that loaded it. Call no function in a signal handler, nor in the child of a fork of a process with threads. malloc,
+   realloc and free come from one allocator. Only trade_load, trade_fault and trade_drop call them. */
 #ifndef TRADE_H
 #define TRADE_H
 

@@ -12,7 +12,8 @@
             if turn.taken == 0:
                 break
 
-Leaves and nodes are numbers, from 0 in preorder. One thread at a time may use a world. TRADE_LIBRARY in the environment names another library file.
+Leaves and nodes are numbers, from 0 in preorder. A world stays on the thread that loaded it: a call on another thread raises RuntimeError. End a world by
+`close` or a `with` statement. TRADE_LIBRARY in the environment names another library file.
 """
 from __future__ import annotations
 
@@ -20,8 +21,10 @@ import ctypes
 import enum
 import os
 import pathlib
+import threading
+import warnings
 from dataclasses import dataclass
-from typing import Optional, Union
+from typing import Any, Callable, Optional, Union
 
 __all__ = ["Account", "Budget", "Event", "InputError", "Phase", "Refused", "Turn", "Turns", "World", "fault_of"]
 
@@ -181,18 +184,28 @@ def fault_of(scenario: Union[str, bytes]) -> Optional[str]:
         room = written.value
 
 
-class World:
-    """A system of components between two turns. Make one by `World.load`, and end it by `drop` or a `with` statement."""
+class _Here(threading.local):
+    """A mark of the thread that reads it, which no other thread has, nor a later one."""
 
     def __init__(self) -> None:
-        self._held = _World(None)
+        self.mark = object()
+
+
+_here = _Here()
+
+
+class World:
+    """A system of components between two turns. Make one by `World.load`, and end it by `close` or a `with` statement, on the same thread."""
+
+    def __init__(self) -> None:
+        self._held, self._thread, self._process = _World(None), _here.mark, os.getpid()
         self._line, self._written, self._taken = ctypes.create_string_buffer(_LINE), ctypes.c_size_t(), ctypes.c_uint32()
 
     @classmethod
     def load(cls, scenario: Union[str, bytes]) -> World:
         """Loads a scenario, a text in TOML. Refused, with the fault's line, if it is not accepted; MemoryError if memory runs out."""
         text, world = _bytes(scenario), cls()
-        status = _calls().trade_load(text, len(text), ctypes.byref(world._held))
+        status = _calls().trade_load(text, len(text), world._at())
         if status == _LOADED:
             return world
         if status == _REFUSED:
@@ -203,37 +216,47 @@ class World:
         return self
 
     def __exit__(self, *_: object) -> None:
-        self.drop()
+        self.close()
 
-    def __del__(self) -> None:
-        if getattr(self, "_held", None) is not None and self._held.at and _library is not None:
-            self.drop()
+    def __del__(self, _warn: Callable[..., None] = warnings.warn) -> None:
+        # Python may run this on any thread, and in the child of a fork. A world is freed on its own thread of its own process alone.
+        held = getattr(self, "_held", None)
+        if held is not None and held.at:
+            if self._thread is _here.mark and self._process == os.getpid():
+                self.close()
+            _warn(f"unclosed world {self!r}", ResourceWarning, source=self)
 
-    def drop(self) -> None:
-        """Frees all that the world has. Afterwards it has no nodes and no leaves."""
-        _calls().trade_drop(ctypes.byref(self._held))
+    def close(self) -> None:
+        """Frees all that the world has. Afterwards it has no nodes and no leaves. To close it again does nothing."""
+        _calls().trade_drop(self._at())
+
+    def _at(self) -> Any:
+        """The world as C takes it. RuntimeError on another thread than the one that loaded it."""
+        if self._thread is not _here.mark:
+            raise RuntimeError("a world stays on the thread that loaded it, and this is another thread")
+        return ctypes.byref(self._held)
 
     @property
     def nodes(self) -> int:
         """The number of nodes, the root among them."""
-        return _calls().trade_nodes(ctypes.byref(self._held))
+        return _calls().trade_nodes(self._at())
 
     @property
     def leaves(self) -> int:
         """The number of leaves."""
-        return _calls().trade_leaves(ctypes.byref(self._held))
+        return _calls().trade_leaves(self._at())
 
     def leaf(self, name: Union[str, bytes]) -> int:
         """The number of the leaf of a name. KeyError if there is none."""
         text = _bytes(name)
-        leaf = _calls().trade_leaf(ctypes.byref(self._held), text, len(text))
+        leaf = _calls().trade_leaf(self._at(), text, len(text))
         if leaf == _NONE:
             raise KeyError(name)
         return leaf
 
     def node(self, leaf: int) -> int:
         """The node of a leaf. IndexError if there is no such leaf."""
-        node = _calls().trade_node(ctypes.byref(self._held), _number(leaf, "leaf"))
+        node = _calls().trade_node(self._at(), _number(leaf, "leaf"))
         if node == _NONE:
             raise IndexError(f"no leaf {leaf}")
         return node
@@ -243,7 +266,7 @@ class World:
         room = _TEXT
         while True:
             label = ctypes.create_string_buffer(room)
-            if not _calls().trade_label(ctypes.byref(self._held), _number(node, "node"), label, room, ctypes.byref(self._written)):
+            if not _calls().trade_label(self._at(), _number(node, "node"), label, room, ctypes.byref(self._written)):
                 raise IndexError(f"no node {node}")
             if self._written.value <= room:
                 return label.raw[: self._written.value].decode()
@@ -252,7 +275,7 @@ class World:
     def account(self, node: int) -> Account:
         """The account of a node. IndexError if there is no such node."""
         read = _Account()
-        if not _calls().trade_read_account(ctypes.byref(self._held), _number(node, "node"), ctypes.byref(read)):
+        if not _calls().trade_read_account(self._at(), _number(node, "node"), ctypes.byref(read)):
             raise IndexError(f"no node {node}")
         phase = None if read.phase == _NONE else Phase(read.phase)
         return Account(read.quota, read.used, read.caps, read.taken, read.steps, read.budget, phase)
@@ -260,7 +283,7 @@ class World:
     def budget(self, leaf: int) -> Budget:
         """The verified bounds of a leaf. IndexError if there is no such leaf."""
         read = _Budget()
-        if not _calls().trade_read_budget(ctypes.byref(self._held), _number(leaf, "leaf"), ctypes.byref(read)):
+        if not _calls().trade_read_budget(self._at(), _number(leaf, "leaf"), ctypes.byref(read)):
             raise IndexError(f"no leaf {leaf}")
         return Budget(read.own, read.own_caps, read.steps)
 
@@ -270,7 +293,7 @@ class World:
             raise InputError(f"leaf {leaf} has no input {input}")
         if not 0 <= number <= _NONE:
             raise InputError(f"{number} is not within the values of input {input} of leaf {leaf}")
-        status = _calls().trade_set_input(ctypes.byref(self._held), leaf, input, number)
+        status = _calls().trade_set_input(self._at(), leaf, input, number)
         if status == _NO_INPUT:
             raise InputError(f"leaf {leaf} has no input {input}")
         if status == _TOO_LARGE:
@@ -278,7 +301,7 @@ class World:
 
     def turn(self, leaf: int) -> Turn:
         """One turn of a leaf. IndexError if there is no such leaf."""
-        event = _calls().trade_turn(ctypes.byref(self._held), _number(leaf, "leaf"), self._line, _LINE, ctypes.byref(self._written))
+        event = _calls().trade_turn(self._at(), _number(leaf, "leaf"), self._line, _LINE, ctypes.byref(self._written))
         if event == _NONE:
             raise IndexError(f"no leaf {leaf}")
         return Turn(Event(event), self._said(event))
@@ -287,7 +310,7 @@ class World:
         """Turns of a leaf, at most so many: until one gives a line or finishes, or the leaf can't take one. IndexError if there is no such leaf."""
         if not 0 <= most <= _NONE:
             raise ValueError(f"no number of turns: {most}")
-        held, taken, written = ctypes.byref(self._held), ctypes.byref(self._taken), ctypes.byref(self._written)
+        held, taken, written = self._at(), ctypes.byref(self._taken), ctypes.byref(self._written)
         event = _calls().trade_turns(held, _number(leaf, "leaf"), most, taken, self._line, _LINE, written)
         if event == _NONE:
             raise IndexError(f"no leaf {leaf}")

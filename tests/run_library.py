@@ -7,7 +7,7 @@
 - No case calls the allocator between load and drop, and none leaves a block. Where the n-th call is refused, for each n, the status is 3 and no block is left.
 - tests/misuse_library.c calls with numbers that are out of range, small buffers and empty handles; under the sanitizers, too.
 - library/example/ is built by its Makefile and given good and bad measurements.
-- library/trade.py gives what the calls give, where libtrade.so is there.
+- library/trade.py gives what the calls give, where libtrade.so is there. A world that nobody closes is reported, and none is used or freed on another thread.
 
 The last line is 'N passed, M failed', and the exit status is 1 where one failed.
 """
@@ -18,6 +18,8 @@ import shutil
 import subprocess
 import sys
 import tempfile
+import threading
+import warnings
 
 TOP = pathlib.Path(__file__).resolve().parent.parent
 sys.path[:0] = [str(TOP / "tests"), str(TOP / "library")]
@@ -188,7 +190,7 @@ def refusal_of(call):
     """The exception that a call raises, with its text."""
     try:
         call()
-    except (TypeError, ValueError, LookupError) as error:
+    except (TypeError, ValueError, LookupError, RuntimeError) as error:
         return type(error).__name__, str(error)
     return None
 
@@ -217,7 +219,7 @@ def try_python(tally):
         tally.expect("python: no such node", ("IndexError", "no node 3"), refusal_of(lambda: world.account(3)))
         tally.expect("python: no such name", ("KeyError", "'who'"), refusal_of(lambda: world.leaf("who")))
         tally.expect("python: no input", ("InputError", "leaf 0 has no input 0"), refusal_of(lambda: world.set_input(srv, 0, 1)))
-    tally.expect("python: dropped", (0, 0), (world.nodes, world.leaves))
+    tally.expect("python: closed", (0, 0), (world.nodes, world.leaves))
     tally.expect("python: refused", ("Refused", "S3 BadValue ram"), refusal_of(lambda: trade.World.load(SHORT)))
     tally.expect("python: faults", ("S3 BadValue ram", None), (trade.fault_of(SHORT), trade.fault_of(text)))
     tally.expect("python: a number for a text", ("TypeError", "no text: 3"), refusal_of(lambda: trade.World.load(3)))
@@ -237,6 +239,57 @@ def try_python(tally):
         tally.expect("python: inputs", ["80", "0", "100"], powers)
         fault = "1001 is not within the values of input 0 of leaf 0"
         tally.expect("python: a large input", ("InputError", fault), refusal_of(lambda: world.set_input(sensor, 0, 1001)))
+
+
+def left_by(makes):
+    """What is freed, and what warnings there are, where the last name of a world that this makes is gone."""
+    import trade  # noqa: PLC0415
+
+    library, freed = trade._calls(), []
+    drop = library.trade_drop
+    library.trade_drop = lambda world: (freed.append(world), drop(world))
+    try:
+        with warnings.catch_warnings(record=True) as given:
+            warnings.simplefilter("always")
+            worlds = [makes()]
+            worlds.clear()
+            return len(freed), [(it.category.__name__, str(it.message).partition(" <")[0]) for it in given]
+    finally:
+        library.trade_drop = drop
+
+
+def on_a_thread(call):
+    """What a call returns on another thread."""
+    results = []
+    thread = threading.Thread(target=lambda: results.append(call()))
+    thread.start()
+    thread.join()
+    return results.pop()
+
+
+def try_python_ends(tally):
+    """How a world of library/trade.py ends, and that it stays on the thread that loaded it."""
+    import trade  # noqa: PLC0415
+
+    text, unclosed = (EXAMPLES / "echo.toml").read_bytes(), ("ResourceWarning", "unclosed world")
+
+    def closed():
+        world = trade.World.load(text)
+        world.close()
+        return world
+
+    tally.expect("python: a world that was closed", (1, []), left_by(closed))
+    tally.expect("python: a world that nobody closed", (1, [unclosed]), left_by(lambda: trade.World.load(text)))
+    tally.expect("python: one of another thread", (0, [unclosed]), left_by(lambda: on_a_thread(lambda: trade.World.load(text))))
+    tally.expect("python: one that holds nothing", (0, []), left_by(trade.World))
+    stays = "RuntimeError", "a world stays on the thread that loaded it, and this is another thread"
+    with trade.World.load(text) as world:
+        world.turns(0, 100)
+        calls = (lambda: world.nodes, lambda: world.turn(0), lambda: world.turns(0, 1), lambda: world.account(0), world.close)
+        tally.expect("python: calls on another thread", [stays] * len(calls), [on_a_thread(lambda: refusal_of(call)) for call in calls])
+        tally.expect("python: the world after them", 3, world.nodes)
+    world.close()
+    tally.expect("python: closed twice", 0, world.nodes)
 
 
 def main():
@@ -260,6 +313,7 @@ def main():
         try_example(room, tally)
     if (LIBRARY / "libtrade.so").is_file():
         try_python(tally)
+        try_python_ends(tally)
     else:
         print("library/libtrade.so is not there, so library/trade.py was not tried")
     print(f"{tally.passed} passed, {tally.failed} failed")

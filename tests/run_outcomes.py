@@ -17,7 +17,7 @@ TOP = pathlib.Path(__file__).resolve().parent.parent
 SECONDS = 120
 SEEDS = [str(seed) for seed in range(6)]
 HEAD = re.compile(r"^outcome (\d+) after (\d+) turns\n", re.MULTILINE)
-LAST = re.compile(r"(?:^|(?<=\n))(?:(\d+) outcomes|# cut after 10000000 turns, (\d+) outcomes so far)\n\Z")
+LAST = re.compile(r"(?:^|(?<=\n))(?:(\d+) outcomes?|# cut after 10000000 turns, (\d+) outcomes so far)\n\Z")
 # More turns than a list may have are not run again. Where a search takes long, few of its outcomes are looked at, as each is a search anew.
 MOST_TURNS, LONG, MOST_OUTCOMES, FEW_OUTCOMES = 1_000_000, 0.25, 40, 2
 ACCOUNT, CUT = "account ", "# cut after "
@@ -58,6 +58,12 @@ def outcome_of(run, quiet):
     return said + "".join(lines[first:])
 
 
+def counted(listed):
+    """How many turns a list of turns has; its lines have numbers of at most seven digits."""
+    counts = [line.split(" ")[1] for line in listed.splitlines() if not line.startswith("#")]
+    return sum(map(int, counts)) if all(len(count) <= 7 for count in counts) else None
+
+
 def quiet_leaves(scenario):
     """The labels of the leaves that provide nothing, in preorder."""
     def walk(nodes, label):
@@ -79,7 +85,7 @@ def faults(program, scenario, found, is_cut, most, room):
         yield "two outcomes are the same"
     for number, (turns, text) in enumerate(found[:most], 1):
         listed = output(program, "outcomes", "--turns", number, scenario)
-        if listed is None or sum(int(line.split(" ")[1]) for line in listed.splitlines()) != turns:
+        if listed is None or counted(listed) != turns or listed.startswith(f"# {turns} turns, more than a list may have\n") != (turns > MOST_TURNS):
             yield f"the turns of outcome {number}"
         elif turns <= MOST_TURNS:
             path = room / "turns"

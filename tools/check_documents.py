@@ -5,13 +5,16 @@
 - docs/PROOFS.md names functions and types that their crates have, and each law that stands on a function without a body.
 - README.md, docs/SCENARIOS.md and docs/PROOFS.md have each command of the program, and no document or comment names another one.
 - docs/ARCHITECTURE.md has a row for each crate, and the heads of crates name modules that they have.
+- A name in backquotes in a document is of something that there is, and of the crate that the document names (tools/document_names.py).
 """
+import functools
 import re
 import sys
 
 sys.dont_write_bytecode = True
 from crates import listed  # noqa: E402
-from definitions import CRATES, TOP, clauses, file_of, mentioned_by  # noqa: E402
+from definitions import CRATES, TOP, mentioned_by  # noqa: E402
+from document_names import false_names  # noqa: E402
 
 # The public functions whose contracts TRUSTED.md is about: of a file those named, or all of them.
 TRUSTED = {
@@ -92,6 +95,7 @@ def check_trusted():
 LAWS = {"progress_laws", "apart_laws", "separation_laws"}
 
 
+@functools.cache
 def named(crate):
     """All names that a crate declares, and its modules."""
     found = set()
@@ -133,12 +137,12 @@ def check_commands():
         if not re.search(rf"^\|.*`{name}(_of)?`", text_of("docs/PROOFS.md"), re.MULTILINE):
             yield f"the index of docs/PROOFS.md does not have the command {name}"
     known = {*names, *NO_COMMANDS, "build", "help", "library"}
-    for path in [TOP / "README.md", *sorted((TOP / "docs").glob("*.md")), *sources()]:
-        for line in path.read_text(encoding="utf-8").split("\n"):
-            if path.suffix == ".md" or "//" in line:
-                for word in re.findall(r"`(?:\./)?trade ([a-z]+)", line):
-                    if word not in known:
-                        yield f"{path.relative_to(TOP)} names the command {word}, which there is not"
+    for path in [*documents(), *sources()]:
+        text = path.read_text(encoding="utf-8")
+        comments = text if path.suffix == ".md" else "\n".join(re.findall("//.*", text))
+        for word in re.findall(r"`(?:\./)?trade ([a-z]+)", comments):
+            if word not in known:
+                yield f"{path.relative_to(TOP)} names the command {word}, which there is not"
 
 
 def check_architecture():
@@ -154,8 +158,18 @@ def check_architecture():
             yield f"the head of {crate} names the module {name}, which it does not have"
 
 
+def documents():
+    """The documents of the repository."""
+    return [TOP / "README.md", *sorted((TOP / "docs").glob("*.md"))]
+
+
+def check_names():
+    for path in [*documents(), TOP / "viewer/README.md"]:
+        yield from (f"{path.relative_to(TOP)} names {name}, which there is not" for name in false_names(path.read_text(encoding="utf-8")))
+
+
 def main():
-    differences = [it for check in (check_trusted, check_proofs, check_commands, check_architecture) for it in check()]
+    differences = [it for check in (check_trusted, check_proofs, check_commands, check_architecture, check_names) for it in check()]
     print("\n".join(differences) if differences else "The documents list what there is.")
     return 1 if differences else 0
 

@@ -79,17 +79,22 @@ def resolved(module, name):
     return (module, file["owners"][name]) if name in file["owners"] else None
 
 
+@functools.cache
+def next_to(module, name):
+    """The definitions that one mentions."""
+    file = file_of(module)
+    names = file["blocks"].keys() | file["owners"].keys()
+    return [known for other in mentioned(file["blocks"][name], (module, names), file["imports"]) if (known := resolved(*other))]
+
+
 def closure(roots):
     """All definitions that these mention in turn, with themselves."""
     found, left = set(), [it for root in roots if (it := resolved(*root))]
     while left:
-        module, name = it = left.pop()
-        if it in found:
-            continue
-        found.add(it)
-        file = file_of(module)
-        names = file["blocks"].keys() | file["owners"].keys()
-        left += [known for other in mentioned(file["blocks"][name], (module, names), file["imports"]) if (known := resolved(*other))]
+        it = left.pop()
+        if it not in found:
+            found.add(it)
+            left += next_to(*it)
     return found
 
 

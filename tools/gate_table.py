@@ -1,8 +1,9 @@
 #!/usr/bin/env python3
-"""tools/gate_table.py [MEASURED..]: writes the table of crates of docs/GATE.md anew.
+"""tools/gate_table.py [--anew] [MEASURED..]: writes the table of crates of docs/GATE.md anew.
 
 It counts the lines of each crate and its edits. The seconds and the memory are those that tools/measure_gate.py printed into the files MEASURED; what these do not
-have stays as it is. A crate whose proof, tests or edits were measured by several files has the last figure.
+have stays as it is. A crate whose proof, tests or edits were measured by several files has the last figure. The seconds of edits are taken with --anew alone:
+of runs that tried all.
 """
 import pathlib
 import re
@@ -79,8 +80,11 @@ def table_of(old, new):
 def main(words):
     page = PAGE.read_text(encoding="utf-8")
     begin, end = page.index("| Crate |"), page.index("\n", page.index("| together |")) + 1
-    texts = [pathlib.Path(word).read_text(encoding="utf-8", errors="replace") for word in words]
-    PAGE.write_text(page[:begin] + table_of(old_rows(page[begin:end]), measured(texts)) + page[end:], encoding="utf-8")
+    texts = [pathlib.Path(word).read_text(encoding="utf-8", errors="replace") for word in words if word != "--anew"]
+    found = measured(texts)
+    if "--anew" not in words:
+        found = {name: [proof, tests, 0, most] for name, (proof, tests, _, most) in found.items()}
+    PAGE.write_text(page[:begin] + table_of(old_rows(page[begin:end]), found) + page[end:], encoding="utf-8")
     return 0
 
 

@@ -15,9 +15,10 @@ use Rattle.gq_views.specs.declared.margin.Margin.TheVariants.{Plain, Numbered}
 use Rattle.gq_views.specs.Views_written.{list_written, tree_written, graph_written}
 use Rattle.gq_traces.specs.Rest_runs.{WritesToRest}
 use Rattle.gq_traces.specs.Traces_written.{peaks_written, state_written, trace_written, turns_written}
+use Rattle.gq_outcomes.specs.Laws.{WritesTurnsTo}
 use Rattle.gq_outcomes.specs.Written.{outcomes_asked}
 use Rattle.gq_races.specs.Races.{IsOrderFree, IsRaceFree}
-use Rattle.gq_races.specs.Races_written.{WroteNothing, races_written}
+use Rattle.gq_races.specs.Races_written.{MeansWithout, WroteNothing, races_written}
 use Rattle.gq_sizes.specs.Judged_scenario.{judged_without}
 use Rattle.gq_sizes.specs.Size_written.{size_written}
 use Rattle.gq_fit.specs.Fitted.{IsFitted, IsFittedWhole, IsReason, IsReasonWhole, WritesPart, WritesSome}
@@ -196,12 +197,15 @@ IsRefusedBy (Of_fit fitting scenario) line = IsUnfit fitting scenario (judged_wi
 IsRefusedBy (Of_faults path scenario turns) line = faults_written scenario (option_map (λ t. t.1) turns) ≡ Err line
 IsRefusedBy (Of_nothing written) line = written ≡ Err line
 
--- what a command promises beside its text: a run upholds every promise; turns lead to rest; where `races` wrote nothing there is no race, and no order
+-- what a command promises beside its text: a run upholds every promise; turns lead to rest; where `races` wrote nothing there is no race, and no order, and
+-- where it wrote no line of a race none, and none of orders; the turns of an outcome lead to it
 abbrev pub IsUpheldBy : Asked → (before after : Option (List ℕ)) → Type 0
 IsUpheldBy (Of_both Run scenario turns) before after = WritesPromised scenario turns before after
 IsUpheldBy (Of_scenario (Turns seed) scenario) before after = WritesToRest seed scenario before after
 IsUpheldBy (Of_scenario Races scenario) before after =
     (WroteNothing before after → IsOkAnd (loaded scenario) IsRaceFree) × (WroteNothing before after → IsOkAnd (loaded scenario) IsOrderFree)
+    × MeansWithout (codes "race ") IsRaceFree scenario before after × MeansWithout (codes "order ") IsOrderFree scenario before after
+IsUpheldBy (Of_scenario (Outcomes (Some n)) scenario) before after = WritesTurnsTo n scenario before after
 IsUpheldBy _ before after = Unit {0}
 
 -- all that is wrong was reported: with the scenario, or else with the turns

@@ -2,3 +2,8 @@ mod Text_value_changes
 mod Lines_without_feed
 mod Made_again
 mod Fitted_text_written
+mod Giving_lines
+mod Programs_compared
+mod Same_texts
+mod Coded_leaves
+mod Place_rows

@@ -1,9 +1,11 @@
-// Texts that differ in values alone.
-ghost use Rattle.std.specs.Prelude.{◌≡◌, ◌-◌, ◌==◌, ◌&&◌, IfOk, OnOk, length, slice_index};
-ghost use Rattle.gq_fit.specs.Value_edits.{DiffersInValues, EndsAs, is_spelled, is_spelled_byte, is_value, is_value_byte};
+// Texts that differ in the values of quantities alone, or in what statements give as well.
+ghost use Rattle.std.specs.Prelude.{◌≡◌, ◌&&◌, IfOk, OnOk};
+ghost use Rattle.gq_fit.specs.Places.{lexer_in};
+ghost use Rattle.gq_fit.specs.Value_edits.{DiffersInValues, EndsAs, is_list, is_spelled, is_spelled_byte, is_value, is_value_byte};
 ghost use Rattle.gq_model.specs.machine.Lists.{all_of};
 
-use crate::fit_fault::{MakeError, NoFit};
+use crate::fit_fault::{MakeError, Misfit};
+use crate::lexer::Lexer;
 use std::alloc::{AllocError, Global};
 
 /// A value of a text, from one offset up to another, and what is to stand in its place.
@@ -56,62 +58,77 @@ fn is_spelled(bytes: &[u8]) -> bool
     true
 }
 
-/// Whether bytes begin and end as a list.
-fn is_list(bytes: &[u8]) -> bool
-    ensures { result ≡ (slice_index bytes.now 0 == 91 && slice_index bytes.now (length bytes.now - 1) == 93) }
+/// Whether bytes are a list, from its bracket up to the one that closes it.
+fn is_list(alloc: Global, bytes: &[u8]) -> Result<bool, AllocError>
+    ensures { IfOk result (λ is. is ≡ is_list bytes.now) }
 {
-    !bytes.is_empty() && bytes[0] == b'[' && bytes[bytes.len() - 1] == b']'
+    match bytes {
+        [b'[', rest @ ..] => Lexer::new(alloc).closes(rest),
+        _ => Ok(false),
+    }
 }
 
 /// Whether bytes can be a value: a list, a number or a short text.
-fn is_value(bytes: &[u8]) -> bool
-    ensures { result ≡ is_value bytes.now }
+fn is_value(alloc: Global, bytes: &[u8]) -> Result<bool, AllocError>
+    ensures { IfOk result (λ is. is ≡ is_value bytes.now) }
 {
-    is_list(bytes) || is_scalar(bytes)
+    Ok(is_list(alloc, bytes)? || is_scalar(bytes))
 }
 
 /// Whether quantities that are written anew can stand in the place of a value.
-fn is_change(old: &[u8], new: &[u8]) -> bool
-    ensures { result ≡ (is_value old.now && is_spelled new.now) }
+fn is_change(alloc: Global, old: &[u8], new: &[u8]) -> Result<bool, AllocError>
+    ensures { IfOk result (λ is. is ≡ (is_value old.now && is_spelled new.now)) }
 {
-    is_value(old) && is_spelled(new)
+    Ok(is_value(alloc, old)? && is_spelled(new))
 }
 
-/// Puts what is left of a text, from an offset on, at the end of another, with these edits, of which each begins after the one before.
+/// Puts what is left of a text, from an offset on, at the end of another, with these edits, of which each begins after the one before. A lexer has passed what
+/// stands before.
 fn push_edited(
+    alloc: Global,
     made: &mut Vec<u8>,
+    lexer: &mut Lexer,
+    with_gifts: bool,
     rest: &[u8],
     offset: usize,
     edits: &[Edit],
 ) -> Result<(), MakeError>
-    ensures { OnOk result (EndsAs rest.now made.old.items made.new.items) }
+    ensures { OnOk result (EndsAs with_gifts (lexer_in lexer.old.mode lexer.old.line.items) rest.now made.old.items made.new.items) }
 {
     let [edit, others @ ..] = edits else {
         made.extend_from_slice(rest)?;
         return Ok(());
     };
     if edit.at < offset || edit.end < edit.at || edit.end - offset > rest.len() {
-        return Err(MakeError::NoFit(NoFit::Differs));
+        return Err(MakeError::Misfit(Misfit::Differs));
     }
     let (kept, value) = rest.split_at(edit.at - offset);
     let (value, left) = value.split_at(edit.end - edit.at);
     let new = edit.new.as_slice();
-    if !is_change(value, new) {
-        return Err(MakeError::NoFit(NoFit::Differs));
+    lexer.pass(kept)?;
+    if !lexer.is_at_place(with_gifts) || !is_change(alloc, value, new)? {
+        return Err(MakeError::Misfit(Misfit::Differs));
     }
+    lexer.pass(value)?;
     made.extend_from_slice(kept)?;
     made.extend_from_slice(new)?;
-    push_edited(made, left, edit.end, others)
+    push_edited(alloc, made, lexer, with_gifts, left, edit.end, others)
 }
 
 /// A text with these edits, of which each begins after the one before. What stands between them stays byte for byte.
 ///
-/// Fails with `Differs` where one begins before the end of another or ends after the text, or where something else than a value is to be replaced, or is to
-/// replace it.
-pub(crate) fn edited(alloc: Global, text: &[u8], edits: &[Edit]) -> Result<Vec<u8>, MakeError>
-    ensures { IfOk result (λ made. DiffersInValues text.now made.items) }
+/// Fails with `Differs` where one begins before the end of another or ends after the text, where it stands in no place of a quantity (nor of what a statement
+/// gives, if that is fitted), or where something else than a value is to be replaced, or is to replace it.
+pub(crate) fn edited(
+    alloc: Global,
+    with_gifts: bool,
+    text: &[u8],
+    edits: &[Edit],
+) -> Result<Vec<u8>, MakeError>
+    ensures { IfOk result (λ made. DiffersInValues with_gifts text.now made.items) }
 {
     let mut made = Vec::new(alloc);
-    push_edited(&mut made, text, 0, edits)?;
+    let mut lexer = Lexer::new(alloc);
+    push_edited(alloc, &mut made, &mut lexer, with_gifts, text, 0, edits)?;
     Ok(made)
 }

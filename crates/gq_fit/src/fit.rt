@@ -25,12 +25,13 @@ fn put_made<W: Write>(out: &mut Counted<W>, text: &[u8]) -> Result<(), FitFault>
 /// Writes the text of a scenario with its least quantities in place of its own.
 ///
 /// All else stays byte for byte, and so does a quantity that stays. A new one is a whole number where the old one was, else a text with the greatest of the
-/// suffixes `G`, `M` and `K` that divides it. A list is written anew if a number of it changes.
+/// suffixes `G`, `M` and `K` that divides it. A list is written anew if a number of it changes. A text that fits already is written as it is.
 ///
 /// What is written is accepted, and `size` prints each of its numbers as its least.
 ///
 /// - A scenario that breaks a rule which quantities do not decide is refused, as by `size`.
-/// - It has no fit if an `open` gives less than a session needs, or a least quantity is none that its key takes or stands in no key of the text.
+/// - It has no fit if an `open` gives less than a session needs, or a least quantity is none that its key takes or its key is not written. Of such a quantity
+///   the contract says only that the text does not fit as it is.
 ///
 /// Nothing is written after a refusal or an allocation failure. After a failed write a prefix of the text is written.
 pub fn fit<W: Write>(alloc: Global, scenario: &[u8], out: &mut Counted<W>) -> Result<(), FitFault>
@@ -45,11 +46,13 @@ pub fn fit<W: Write>(alloc: Global, scenario: &[u8], out: &mut Counted<W>) -> Re
 /// What each `open` and `upgrade` gives becomes the least need or upgrade of its interface, and quantities are the least ones with these programs. All else
 /// stays as `fit` leaves it.
 ///
-/// What is written is accepted, `size` prints each of its numbers as its least, and no statement gives more or less than its interface asks.
+/// What is written is accepted, `size` prints each of its numbers as its least, and no statement gives more or less than its interface asks. Up to each level
+/// an interface asks just the bytes that sessions of that level need. A text that fits already is written as it is.
 ///
 /// - A scenario that breaks a rule which quantities do not decide is refused, as by `size`.
-/// - It has no fit if sessions hold one another without end, or a program is given as code.
-/// - It has no fit if a least quantity is none that its key takes, or stands in no key of the text.
+/// - It has no fit if a program is given as code, which is looked for first, or if sessions hold one another without end.
+/// - It has no fit if a least quantity is none that its key takes, or its key is not written. Of such a quantity the contract says only that the text does not
+///   fit as it is.
 ///
 /// Nothing is written after a refusal or an allocation failure. After a failed write a prefix of the text is written.
 pub fn fit_donations<W: Write>(

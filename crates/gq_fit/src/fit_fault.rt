@@ -1,6 +1,6 @@
 // Why no fitted scenario is written.
 ghost use Rattle.std.specs.Prelude.{◌≡◌, Some};
-ghost use Rattle.gq_fit.specs.Fit_words.{fit_fault_text, no_fit_text, short_text};
+ghost use Rattle.gq_fit.specs.Fit_words.{fit_fault_text, misfit_text, no_fit_text, short_text};
 
 use gq_load::load_fault::{LoadError, LoadFault};
 use gq_model::program::Name;
@@ -9,9 +9,9 @@ use std::alloc::{AllocError, AllocFailed};
 use std::error::Error;
 use std::fmt::{self, Debug, Display, Formatter, Write};
 
-/// Why a scenario has no least quantities that can stand in its text.
+/// Why the least quantities of a scenario can't stand in its text.
 #[derive(Drop)]
-pub enum NoFit {
+pub enum Misfit {
     /// A key that is not written has to be, for what bears this name.
     NoPlace {
         key: Key,
@@ -23,21 +23,28 @@ pub enum NoFit {
         name: Name,
         least: Option<u64>,
     },
-    /// Sessions of this interface hold one another without end, so that no donation is enough.
-    Endless(Name),
-    /// The program of this leaf is given as code.
-    Code(Name),
     /// What was made is refused.
     Refused(LoadFault),
     /// What was made is no scenario with the least quantities.
     Differs,
 }
 
+/// Why a scenario has no fit.
+#[derive(Drop)]
+pub enum NoFit {
+    /// Sessions of this interface hold one another without end, so that no donation is enough.
+    Endless(Name),
+    /// The program of this leaf is given as code.
+    Code(Name),
+    /// Its least quantities can't stand in its text.
+    Misfit(Misfit),
+}
+
 /// Why no text is made of a scenario's.
 #[derive(Drop)]
 pub enum MakeError {
-    /// It has no fit.
-    NoFit(NoFit),
+    /// The least quantities can't stand in it.
+    Misfit(Misfit),
     /// The host has no memory left.
     Memory,
 }
@@ -62,13 +69,13 @@ impl<T: Drop> From<AllocFailed<T>> for MakeError {
     }
 }
 
-impl From<NoFit> for MakeError {
+impl From<Misfit> for MakeError {
     ghost use Rattle.gq_fit.specs.declared.fit_fault.MakeError.TheVariants as errors;
 
-    ghost from_gives = { λ reason error. error ≡ errors.NoFit reason };
+    ghost from_gives = { λ reason error. error ≡ errors.Misfit reason };
 
-    fn from(reason: NoFit) -> MakeError {
-        MakeError::NoFit(reason)
+    fn from(reason: Misfit) -> MakeError {
+        MakeError::Misfit(reason)
     }
 }
 
@@ -117,7 +124,7 @@ impl From<MakeError> for FitFault {
 
     fn from(error: MakeError) -> FitFault {
         match error {
-            MakeError::NoFit(reason) => FitFault::NoFit(reason),
+            MakeError::Misfit(reason) => FitFault::NoFit(NoFit::Misfit(reason)),
             MakeError::Memory => FitFault::Memory,
         }
     }
@@ -133,26 +140,36 @@ fn without_feed(lines: &[u8]) -> &str
     }
 }
 
+impl Display for Misfit {
+    ghost output = { λ reason. Some (misfit_text reason) };
+
+    fn fmt<W: Write>(&self, f: &mut Formatter<W>) -> fmt::Result {
+        match self {
+            Misfit::NoPlace { key, name } => write!(f, "no place for {key} of {}", name.as_str()),
+            Misfit::TooLarge {
+                key,
+                name,
+                least: Some(least),
+            } => write!(f, "too large {key} of {} least {least}", name.as_str()),
+            Misfit::TooLarge {
+                key,
+                name,
+                least: None,
+            } => write!(f, "too large {key} of {} least none", name.as_str()),
+            Misfit::Refused(fault) => write!(f, "the fitted text is refused: {fault}"),
+            Misfit::Differs => f.write_str("the fitted text has other quantities"),
+        }
+    }
+}
+
 impl Display for NoFit {
     ghost output = { λ reason. Some (no_fit_text reason) };
 
     fn fmt<W: Write>(&self, f: &mut Formatter<W>) -> fmt::Result {
         match self {
-            NoFit::NoPlace { key, name } => write!(f, "no place for {key} of {}", name.as_str()),
-            NoFit::TooLarge {
-                key,
-                name,
-                least: Some(least),
-            } => write!(f, "too large {key} of {} least {least}", name.as_str()),
-            NoFit::TooLarge {
-                key,
-                name,
-                least: None,
-            } => write!(f, "too large {key} of {} least none", name.as_str()),
             NoFit::Endless(name) => write!(f, "none for {}", name.as_str()),
             NoFit::Code(leaf) => write!(f, "code of {}", leaf.as_str()),
-            NoFit::Refused(fault) => write!(f, "the fitted text is refused: {fault}"),
-            NoFit::Differs => f.write_str("the fitted text has other quantities"),
+            NoFit::Misfit(reason) => write!(f, "{reason}"),
         }
     }
 }
@@ -171,6 +188,12 @@ impl Display for FitFault {
     }
 }
 
+impl Debug for Misfit {
+    fn fmt<W: Write>(&self, f: &mut Formatter<W>) -> fmt::Result {
+        Display::fmt(self, f)
+    }
+}
+
 impl Debug for NoFit {
     fn fmt<W: Write>(&self, f: &mut Formatter<W>) -> fmt::Result {
         Display::fmt(self, f)
@@ -182,6 +205,8 @@ impl Debug for FitFault {
         Display::fmt(self, f)
     }
 }
+
+impl Error for Misfit {}
 
 impl Error for NoFit {}
 

@@ -1,7 +1,7 @@
 // What changes in the programs of a scenario's text.
 // No contract but that nothing is out of range: what is made of it is read again (`made`). Tests show it.
 use crate::edits::Edit;
-use crate::fit_fault::{MakeError, NoFit};
+use crate::fit_fault::MakeError;
 use crate::program_edits::push_program;
 use crate::ways::with_step;
 use gq_scenario::key::Key;
@@ -73,14 +73,12 @@ impl<'t> Programs<'t> {
                 let text = self.text.as_bytes();
                 push_program(self.alloc, &mut self.edits, text, at, sections)
             }
-            Source::Code(_) => Err(MakeError::NoFit(NoFit::Code(leaf.name().copied()))),
+            Source::Code(_) => Ok(()),
         }
     }
 }
 
-/// What changes in the programs of the text of a scenario so that their statements give this.
-///
-/// Fails with the first leaf whose program is given as code.
+/// What changes in the programs of the text of a scenario so that their statements give this. Programs given as code stay.
 pub(crate) fn program_edits(
     alloc: Global,
     text: &str,

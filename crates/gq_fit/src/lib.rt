@@ -12,8 +12,9 @@
 //! ```
 //!
 //! Both commands collect what changes: quantities (`quantity_edits`, by the places of `extent` and the words of `quantity_text`), and what programs give
-//! (`giving`, `program_edits`, by the places of `string_letters`). They make the new text of it (`edits`) and read that before they write it (`made`, `given`).
-//! The contract rests on this reading alone: `specs/Fitted`.
+//! (`giving`, `program_edits`, by the places of `string_letters`; `ways` lead to both). They make the new text of it (`edits`), by a lexer that knows where
+//! values may change (`lexer`), and read that before they write it (`made`, `given`). With donations they compare the new scenario with the old one
+//! (`refitted`, by `same_shape` and `same_programs`). The contract rests on the lexer and on this reading: `specs/Fitted`.
 #![tactic(auto)]
 
 mod edits;
@@ -22,9 +23,13 @@ pub mod fit;
 pub mod fit_fault;
 mod given;
 mod giving;
+mod lexer;
 mod made;
 mod program_edits;
 mod quantity_edits;
 mod quantity_text;
+mod refitted;
+mod same_programs;
+mod same_shape;
 mod string_letters;
 mod ways;

@@ -1,7 +1,7 @@
 // What changes in the programs of a text so that their statements give just what sessions need.
 // No contract but that nothing is out of range: what is made of it is read again (`made`). Tests show it.
 use crate::edits::Edit;
-use crate::fit_fault::{MakeError, NoFit};
+use crate::fit_fault::{MakeError, Misfit};
 use crate::string_letters::{Letter, Letters};
 use gq_program::Section;
 use gq_sizes::donations::SectionDonations;
@@ -193,7 +193,7 @@ impl<'d> Giver<'d> {
     /// What changes in a line with a statement that gives this number.
     fn give(&mut self, row: &Row, word: Word) -> Result<Option<Edit>, MakeError> {
         let [first, left @ ..] = self.left else {
-            return Err(MakeError::NoFit(NoFit::Differs));
+            return Err(MakeError::Misfit(Misfit::Differs));
         };
         self.left = left;
         let number = (*first).min(GREATEST_GIVEN);

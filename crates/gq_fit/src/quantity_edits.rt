@@ -2,7 +2,7 @@
 // No contract but that nothing is out of range: what is made of it is read again (`made`). Tests show it.
 use crate::edits::Edit;
 use crate::extent::{Value, value_of};
-use crate::fit_fault::{MakeError, NoFit};
+use crate::fit_fault::{MakeError, Misfit};
 use crate::quantity_text::push_quantity;
 use crate::ways::with_step;
 use gq_model::program::Name;
@@ -32,10 +32,10 @@ struct QuantityKey<'a> {
 
 impl<'a> QuantityKey<'a> {
     /// The least number, if it is one that the key takes.
-    fn taken(&self, least: Option<u64>) -> Result<u64, NoFit> {
+    fn taken(&self, least: Option<u64>) -> Result<u64, Misfit> {
         match least {
             Some(number) if number <= self.greatest => Ok(number),
-            _ => Err(NoFit::TooLarge {
+            _ => Err(Misfit::TooLarge {
                 key: self.key,
                 name: self.name.copied(),
                 least,
@@ -43,8 +43,8 @@ impl<'a> QuantityKey<'a> {
         }
     }
 
-    fn is_missing(&self) -> NoFit {
-        NoFit::NoPlace {
+    fn is_missing(&self) -> Misfit {
+        Misfit::NoPlace {
             key: self.key,
             name: self.name.copied(),
         }
@@ -101,10 +101,10 @@ impl<'t> Collector<'t> {
         }
         let way = with_step(self.alloc, way, Step::Key(place.key.word()))?;
         let Some((at, value)) = self.value(way.as_slice())? else {
-            return Err(MakeError::NoFit(place.is_missing()));
+            return Err(MakeError::Misfit(place.is_missing()));
         };
         let Some(form) = value.forms.first() else {
-            return Err(MakeError::NoFit(NoFit::Differs));
+            return Err(MakeError::Misfit(Misfit::Differs));
         };
         let mut new = Vec::new(self.alloc);
         push_quantity(&mut new, *form, number)?;
@@ -124,7 +124,7 @@ impl<'t> Collector<'t> {
         }
         let way = with_step(self.alloc, way, Step::Key(place.key.word()))?;
         let Some((at, value)) = self.value(way.as_slice())? else {
-            return Err(MakeError::NoFit(place.is_missing()));
+            return Err(MakeError::Misfit(place.is_missing()));
         };
         let new = self.spelled_list(&value, numbers)?;
         self.replace(at, &value, new)?;

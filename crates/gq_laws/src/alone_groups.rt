@@ -7,8 +7,8 @@ ghost use Rattle.gq_laws.specs.Sound_scenarios.{IsSound};
 ghost use Rattle.gq_laws.specs.Separation.{IsApart};
 ghost use Rattle.gq_laws.specs.Group_alone.{own_turns, RunsAlone, SeeTheSame};
 
-/// What a group of leaves sees of the others if it is apart: nothing. A group is apart if no leaf opens a service across its edge, and none starts after one
-/// across it.
+/// What a group of leaves sees of the others if it is apart: nothing. A group is apart if no route leads from a leaf to a server across the group's edge,
+/// whether the service is opened or not, and no leaf starts after one across it.
 ///
 /// `alone`: of a scenario that is as the readers give them and is accepted, take any run, and the run over the turns and settings of the leaves inside alone.
 /// Both have the same lines of the leaves inside, in their order. Both have the same account of each of them: its quota, what it has used and taken, its steps

@@ -8,8 +8,8 @@ ghost use Rattle.gq_laws.specs.Reached_worlds.{IsReached};
 ghost use Rattle.gq_laws.specs.Separation.{IsApart, IsUntouched, SameRequests, SameAccounts, TurnsTouchNothing};
 ghost use Rattle.gq_model.specs.machine.Run.{Acts};
 
-/// What leaves outside a group do to the leaves inside, where the group is apart: no leaf opens a service across the group's edge, and none
-/// starts after one across it. This holds in every world that any scenario comes to, accepted or not.
+/// What leaves outside a group do to the leaves inside, where the group is apart: no route leads from a leaf to a server across the group's edge, whether the
+/// service is opened or not, and no leaf starts after one across it. This holds in every world that any scenario comes to, accepted or not.
 ///
 /// `untouched`: a step of a leaf outside leaves each leaf inside as it stands, and each session from or to a leaf inside with all that
 /// is in it, at its number.

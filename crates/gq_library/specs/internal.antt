@@ -1,1 +1,2 @@
+pub mod Owned_world
 pub mod Turns_left

@@ -4,7 +4,7 @@ ghost use Rattle.gq_load.specs.Load.{loaded, fault_text};
 ghost use Rattle.gq_library.specs.Loads.{Holds, IsRefused, Starts};
 ghost use Rattle.gq_library.specs.Texts.{IsPut};
 
-use crate::held::WorldHandle;
+use crate::held::{OwnedWorld, WorldHandle};
 use crate::refusal_line::{put_fault, status_of};
 use crate::result_codes::{LOADED, MEMORY, REFUSED};
 use gq_reports::RunFault;
@@ -33,7 +33,7 @@ pub extern "C" fn trade_load(alloc: Global, text: &[u8], world: &mut WorldHandle
                 MEMORY
             }
             Ok(boxed) => {
-                *world = WorldHandle::of(boxed);
+                world.put(alloc, OwnedWorld::of(boxed));
                 LOADED
             }
         },
@@ -81,8 +81,5 @@ pub extern "C" fn trade_fault(
 pub extern "C" fn trade_drop(alloc: Global, world: &mut WorldHandle)
     ensures { world.new.world ≡ None }
 {
-    match replace(world, WorldHandle::none()).into_box(alloc) {
-        None => {}
-        Some(boxed) => Box::into_inner(boxed).end(),
-    }
+    replace(world, WorldHandle::none()).free(alloc);
 }

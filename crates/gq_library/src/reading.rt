@@ -15,7 +15,6 @@ use crate::held::WorldHandle;
 use crate::lookup::{leaf_named, node_of, put_label};
 use crate::result_codes::NONE;
 use std::alloc::Global;
-use std::mem::replace;
 
 /// The number of nodes, the root among them; 0 if the handle is empty.
 #[unsafe(no_mangle)]
@@ -24,11 +23,11 @@ pub extern "C" fn trade_nodes(alloc: Global, world: &mut WorldHandle) -> u32
     ensures empty { world.old.world ≡ None → result ≡ 0 }
     ensures same { world.new.world ≡ world.old.world }
 {
-    match replace(world, WorldHandle::none()).into_box(alloc) {
+    match world.take(alloc) {
         None => 0,
-        Some(boxed) => {
-            let nodes = boxed.nodes() as u32;
-            *world = WorldHandle::of(boxed);
+        Some(owned) => {
+            let nodes = owned.world().nodes() as u32;
+            world.put(alloc, owned);
             nodes
         }
     }
@@ -41,11 +40,11 @@ pub extern "C" fn trade_leaves(alloc: Global, world: &mut WorldHandle) -> u32
     ensures empty { world.old.world ≡ None → result ≡ 0 }
     ensures same { world.new.world ≡ world.old.world }
 {
-    match replace(world, WorldHandle::none()).into_box(alloc) {
+    match world.take(alloc) {
         None => 0,
-        Some(boxed) => {
-            let leaves = boxed.table().leaf_count() as u32;
-            *world = WorldHandle::of(boxed);
+        Some(owned) => {
+            let leaves = owned.world().table().leaf_count() as u32;
+            world.put(alloc, owned);
             leaves
         }
     }
@@ -58,11 +57,11 @@ pub extern "C" fn trade_leaf(alloc: Global, world: &mut WorldHandle, name: &[u8]
     ensures empty { world.old.world ≡ None → result ≡ NONE }
     ensures same { world.new.world ≡ world.old.world }
 {
-    match replace(world, WorldHandle::none()).into_box(alloc) {
+    match world.take(alloc) {
         None => NONE,
-        Some(boxed) => {
-            let leaf = leaf_named(&boxed, name);
-            *world = WorldHandle::of(boxed);
+        Some(owned) => {
+            let leaf = leaf_named(owned.world(), name);
+            world.put(alloc, owned);
             leaf
         }
     }
@@ -76,11 +75,11 @@ pub extern "C" fn trade_node(alloc: Global, world: &mut WorldHandle, leaf: u32) 
     ensures empty { world.old.world ≡ None → result ≡ NONE }
     ensures same { world.new.world ≡ world.old.world }
 {
-    match replace(world, WorldHandle::none()).into_box(alloc) {
+    match world.take(alloc) {
         None => NONE,
-        Some(boxed) => {
-            let node = node_of(&boxed, leaf);
-            *world = WorldHandle::of(boxed);
+        Some(owned) => {
+            let node = node_of(owned.world(), leaf);
+            world.put(alloc, owned);
             node
         }
     }
@@ -104,11 +103,11 @@ pub extern "C" fn trade_label(
     ensures stays { result ≡ false → label.new ≡ label.old }
     ensures written { result ≡ false → written.new ≡ written.old }
 {
-    match replace(world, WorldHandle::none()).into_box(alloc) {
+    match world.take(alloc) {
         None => false,
-        Some(boxed) => {
-            let there = put_label(&boxed, node, label, written);
-            *world = WorldHandle::of(boxed);
+        Some(owned) => {
+            let there = put_label(owned.world(), node, label, written);
+            world.put(alloc, owned);
             there
         }
     }
@@ -128,11 +127,11 @@ pub extern "C" fn trade_read_account(
     ensures same { world.new.world ≡ world.old.world }
     ensures stays { result ≡ false → account.new ≡ account.old }
 {
-    match replace(world, WorldHandle::none()).into_box(alloc) {
+    match world.take(alloc) {
         None => false,
-        Some(boxed) => {
-            let there = read_account(&boxed, node, account);
-            *world = WorldHandle::of(boxed);
+        Some(owned) => {
+            let there = read_account(owned.world(), node, account);
+            world.put(alloc, owned);
             there
         }
     }
@@ -152,11 +151,11 @@ pub extern "C" fn trade_read_budget(
     ensures same { world.new.world ≡ world.old.world }
     ensures stays { result ≡ false → budget.new ≡ budget.old }
 {
-    match replace(world, WorldHandle::none()).into_box(alloc) {
+    match world.take(alloc) {
         None => false,
-        Some(boxed) => {
-            let there = read_bounds(&boxed, leaf, budget);
-            *world = WorldHandle::of(boxed);
+        Some(owned) => {
+            let there = read_bounds(owned.world(), leaf, budget);
+            world.put(alloc, owned);
             there
         }
     }

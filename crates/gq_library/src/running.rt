@@ -11,7 +11,6 @@ use crate::result_codes::{NO_INPUT, NONE, SET};
 use crate::turn::turn;
 use crate::turn_burst::turns;
 use std::alloc::Global;
-use std::mem::replace;
 
 /// Gives an input of a leaf another value, from here on. It is no turn. A leaf that has exited keeps its inputs, which are 0.
 ///
@@ -30,12 +29,11 @@ pub extern "C" fn trade_set_input(
     ensures unchanged { (result ≡ SET → ⊥) → world.new.world ≡ world.old.world }
     ensures empty { world.old.world ≡ None → result ≡ NO_INPUT }
 {
-    match replace(world, WorldHandle::none()).into_box(alloc) {
+    match world.take(alloc) {
         None => NO_INPUT,
-        Some(boxed) => {
-            let mut boxed = boxed;
-            let set = set_input(&mut boxed, leaf, input, number);
-            *world = WorldHandle::of(boxed);
+        Some(mut owned) => {
+            let set = set_input(owned.world_mut(), leaf, input, number);
+            world.put(alloc, owned);
             set
         }
     }
@@ -61,12 +59,11 @@ pub extern "C" fn trade_turn(
     ensures line { result ≡ NONE → line.new ≡ line.old }
     ensures written { result ≡ NONE → written.new ≡ written.old }
 {
-    match replace(world, WorldHandle::none()).into_box(alloc) {
+    match world.take(alloc) {
         None => NONE,
-        Some(boxed) => {
-            let mut boxed = boxed;
-            let event = turn(&mut boxed, leaf, line, written);
-            *world = WorldHandle::of(boxed);
+        Some(mut owned) => {
+            let event = turn(owned.world_mut(), leaf, line, written);
+            world.put(alloc, owned);
             event
         }
     }
@@ -96,15 +93,14 @@ pub extern "C" fn trade_turns(
     ensures line { result ≡ NONE → line.new ≡ line.old }
     ensures written { result ≡ NONE → written.new ≡ written.old }
 {
-    match replace(world, WorldHandle::none()).into_box(alloc) {
+    match world.take(alloc) {
         None => {
             *taken = 0;
             NONE
         }
-        Some(boxed) => {
-            let mut boxed = boxed;
-            let event = turns(&mut boxed, leaf, most, taken, line, written);
-            *world = WorldHandle::of(boxed);
+        Some(mut owned) => {
+            let event = turns(owned.world_mut(), leaf, most, taken, line, written);
+            world.put(alloc, owned);
             event
         }
     }

@@ -22,6 +22,10 @@ pub mod Search_worlds
 pub mod Outcome_endings
 -- worlds that are settled
 pub mod Settling
+-- lists of turns are read back, and lead to their outcomes
+pub mod Turns_read_back
+pub mod Leaf_names
+pub mod Outcome_lists
 -- texts of outcomes
 pub mod Text_lines
 -- turns in rows

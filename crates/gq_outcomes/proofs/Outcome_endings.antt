@@ -14,14 +14,15 @@ use Rattle.gq_reports.specs.Whole.{Written, refused_with, with_scenario}
 use Rattle.gq_reports.specs.declared.run_fault.RunFault.{RunFault}
 use Rattle.gq_reports.specs.declared.run_fault.RunFault.TheVariants.{Load, NoComponent, NoOutcome, Turns, Memory, Write}
 use Rattle.gq_outcomes.specs.Outcomes.{Outcome, Search, outcomes}
-use Rattle.gq_outcomes.specs.Text.{count_text, nth_outcome, outcomes_text_from, rows_text, search_text}
+use Rattle.gq_outcomes.specs.Text.{count_text, many_lines, nth_outcome, outcomes_text_from, row_line, rows_of, search_text}
 use Rattle.gq_outcomes.specs.Written.{outcome_turns_written, outcomes_written, turns_of_outcome}
 use Rattle.gq_outcomes.specs.declared.search.Found.{Found}
 use Rattle.gq_outcomes.specs.declared.search.Search.{Search as KeptSearch}
 use Rattle.gq_outcomes.specs.internal.Found_outcomes.{outcome_seen}
 use Rattle.gq_outcomes.specs.internal.Search_states.{Finds}
-use Rattle.gq_outcomes.specs.internal.Turn_rows.{rows_from}
-use Rattle.gq_outcomes.proofs.Turn_rows.{rows_are}
+use Rattle.gq_outcomes.specs.internal.Turn_rows.{past_of}
+use Rattle.gq_outcomes.proofs.Turn_rows.{past_count}
+use Rattle.gq_views.specs.Listing.{joined}
 
 -- REFUSALS
 
@@ -105,10 +106,11 @@ module _ (s : Scenario) (c : KeptSearch) (t : Search) (h : Finds c t) (n : ℕ) 
       )))
 
   pub turns_are : (f : Found) (text : List ℕ) → 0 < n → n - 1 < length c.found.items → f ≡ get_or c.found.items (n - 1) f
-      → text ≡ rows_text (components s) (rows_from f.past.items) → turns_of_outcome s n (nth_outcome n t.found) ≡ Ok text
+      → text ≡ joined (many_lines (length f.past.items) ++ map (row_line (components s)) (rows_of (past_of f.past.items)))
+      → turns_of_outcome s n (nth_outcome n t.found) ≡ Ok text
   turns_are f text some less there is =
       ap (turns_of_outcome s n) (same_number ∙ some_number (map outcome_seen c.found.items) n some ∙ one_there outcome_seen c.found.items (n - 1) f less there)
-      ∙ ap (λ rows. Ok (rows_text (components s) rows)) (rows_are f.past.items) ∙ ap Ok (sym is)
+      ∙ ap (λ k. Ok (joined (many_lines k ++ map (row_line (components s)) (rows_of (past_of f.past.items))))) (past_count f.past.items) ∙ ap Ok (sym is)
 
 -- what is written of the turns of an outcome
 pub turns_written : (scenario : List ℕ) (s : Scenario) (n : ℕ) → loaded scenario ≡ Ok s

@@ -1,5 +1,5 @@
 -- The outcomes of small scenarios, by computation.
-use Rattle.std.proofs.Common.{◌≡◌, ℕ, true, false, List, [], ◌∷◌, ◌++◌, codes, length, option_map, None, Some, refl}
+use Rattle.std.proofs.Common.{◌≡◌, ℕ, true, false, List, [], ◌∷◌, ◌++◌, codes, length, option_map, None, Some, Ok, refl}
 use Rattle.std.specs.Fmt.{digits}
 use Rattle.gq_model.specs.declared.act.Act.TheVariants.{Turns}
 use Rattle.gq_model.specs.declared.program.Instruction.{Instruction}
@@ -12,13 +12,15 @@ use Rattle.gq_model.specs.machine.Program.{Done}
 use Rattle.gq_model.specs.machine.Run.{run}
 use Rattle.gq_model.specs.machine.Scenario.{Scenario, Interface, LeafNode, components, system}
 use Rattle.gq_model.specs.machine.World.{World}
+use Rattle.gq_model.specs.texts.Turns.{turned}
 use Rattle.gq_model.proofs.Sample_scenarios.{all_do, leaf, leaves, served, server, main_of, echo_of, chain}
 use Rattle.gq_model.proofs.Statement_word_rows.{push}
 use Rattle.gq_races.proofs.Race_rows.{together, apart, two, relayed_once, relayed_twice, behind_two}
 use Rattle.gq_outcomes.specs.Choices.{racy_servers}
+use Rattle.gq_outcomes.specs.Laws.{turns_alone}
 use Rattle.gq_outcomes.specs.Outcomes.{most_turns, outcomes, search_of}
 use Rattle.gq_outcomes.specs.Same.{ordered, same_world}
-use Rattle.gq_outcomes.specs.Text.{nth_outcome, search_text, turns_text}
+use Rattle.gq_outcomes.specs.Text.{many_lines, nth_outcome, onto_row, search_text, turns_text}
 
 -- RACY SERVERS
 
@@ -44,13 +46,13 @@ racy_behind_two = refl
 
 echo_outcomes : search_text (outcomes (echo_of 8192))
     ≡ (codes "outcome 1 after 15 turns\n[init -> cli] 42\naccount init quota 61440\naccount init -> srv quota 4096 used 0 steps 9/9 serving\n"
-    ++ codes "account init -> cli quota 0 used 0 steps 6/6 exited\n1 outcomes\n")
+    ++ codes "account init -> cli quota 0 used 0 steps 6/6 exited\n1 outcome\n")
 unfolding digits outcomes most_turns
 echo_outcomes = refl
 
 chain_outcomes : search_text (outcomes chain)
     ≡ (codes "outcome 1 after 22 turns\n[init -> cli] 42\naccount init quota 53248\naccount init -> srv quota 12288 used 4096 steps 7/7 serving\n"
-    ++ codes "account init -> mid quota 0 used 0 steps 9/9 serving\naccount init -> cli quota 0 used 0 steps 6/6 exited\n1 outcomes\n")
+    ++ codes "account init -> mid quota 0 used 0 steps 9/9 serving\naccount init -> cli quota 0 used 0 steps 6/6 exited\n1 outcome\n")
 unfolding digits outcomes most_turns
 chain_outcomes = refl
 
@@ -100,6 +102,31 @@ no_third = refl
 none_before : nth_outcome 0 (outcomes taking_turns).found ≡ None
 unfolding digits outcomes most_turns
 none_before = refl
+
+-- the text of the second one is read back
+second_list : option_map (λ o. turned taking_turns (turns_text (components taking_turns) o)) (nth_outcome 2 (outcomes taking_turns).found)
+    ≡ Some (Ok (turns_alone ((2, 2) ∷ (0, 1) ∷ (2, 2) ∷ (0, 1) ∷ (1, 1) ∷ (2, 2) ∷ (1, 2) ∷ (2, 4) ∷ (1, 2) ∷ (0, 1) ∷ (2, 4) ∷ (0, 2) ∷ (2, 2) ∷ (0, 1)
+    ∷ (1, 1) ∷ (2, 4) ∷ (1, 3) ∷ (2, 4) ∷ (1, 2) ∷ (2, 2) ∷ (1, 1) ∷ [])))
+unfolding digits outcomes most_turns
+second_list = refl
+
+-- a row of eight digits is parted
+row_full : onto_row 2 ((2, 9999998) ∷ (0, 1) ∷ []) ≡ (2, 9999999) ∷ (0, 1) ∷ []
+row_full = refl
+
+row_parted : onto_row 2 ((2, 9999999) ∷ (0, 1) ∷ []) ≡ (2, 1) ∷ (2, 9999999) ∷ (0, 1) ∷ []
+row_parted = refl
+
+-- more turns than a list may have, of which a reader of lists knows nothing
+as_many : many_lines 1000000 ≡ []
+as_many = refl
+
+too_many : many_lines 1000001 ≡ codes "# 1000001 turns, more than a list may have" ∷ []
+unfolding digits
+too_many = refl
+
+no_turns_there : turned taking_turns (codes "# 1000001 turns, more than a list may have\nk1 3\n") ≡ Ok ((1, Turns 3) ∷ [])
+no_turns_there = refl
 
 -- CUT
 

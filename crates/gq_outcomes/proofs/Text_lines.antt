@@ -4,13 +4,11 @@ use Rattle.std.proofs.Common.{refl, ap, sym, subst, ◌∙◌, append_assoc, app
 use Rattle.std.specs.Prelude.{slice_get, if◌then◌else◌, Result, Ok, Err, OnOk}
 use Rattle.std.specs.Result.{is_ok}
 use Rattle.gq_model.specs.machine.Accounts.{Account, account_line, account_lines}
-use Rattle.gq_model.specs.machine.Scenario.{Component, Scenario, components}
+use Rattle.gq_model.specs.machine.Scenario.{Scenario, components}
 use Rattle.gq_resolve.specs.NodeTables.{LeafRow, leaf_rows}
 use Rattle.gq_resolve.proofs.Node_table_rows.{row_at}
 use Rattle.gq_outcomes.specs.Outcomes.{Outcome, lines_of}
-use Rattle.gq_outcomes.specs.Text.{name_at, outcome_text, outcomes_text_from, row_line, rows_text}
-use Rattle.gq_outcomes.specs.internal.Turn_rows.{rows_from, same_count}
-use Rattle.gq_outcomes.proofs.Turn_rows.{row_here}
+use Rattle.gq_outcomes.specs.Text.{name_at, outcome_text, outcomes_text_from}
 
 -- what is put at the end stands before what is left
 grown : (old new first rest : List ℕ) → new ≡ old ++ first → new ++ rest ≡ old ++ (first ++ rest)
@@ -22,7 +20,7 @@ none_left [] (suc k) l = refl
 none_left (x ∷ xs) zero l = absurd (omega (arith, l))
 none_left (x ∷ xs) (suc k) l = none_left xs k (omega (arith, l))
 
-one_left : {A : Type 0} (xs : List A) (k : ℕ) (x : A) → k < length xs → x ≡ get_or xs k x → drop k xs ≡ x ∷ drop (k + 1) xs
+pub one_left : {A : Type 0} (xs : List A) (k : ℕ) (x : A) → k < length xs → x ≡ get_or xs k x → drop k xs ≡ x ∷ drop (k + 1) xs
 one_left [] k x l e = absurd (omega (arith, l))
 one_left (y ∷ xs) zero x l e = ap (λ z. z ∷ xs) (sym e)
 one_left (y ∷ xs) (suc k) x l e =
@@ -96,16 +94,3 @@ outcomes_more f xs k x old new l e pushed =
 pub outcomes_all : {A : Type 0} (f : A → Outcome) (xs : List A) (k n : ℕ) (old : List ℕ) → length xs ≤ k
     → old ++ outcomes_text_from n (map f (drop k xs)) ≡ old
 outcomes_all f xs k n old l = ap (λ t. old ++ outcomes_text_from n (map f t)) (none_left xs k l) ∙ append-nil old
-
--- ROWS
-
-pub rows_more : (cs : List Component) (turns : List ℕ) (k x : ℕ) (old new : List ℕ) → k < length turns → x ≡ get_or turns k x
-    → (let r : ℕ × ℕ = (x, same_count x (drop k turns)) in new ≡ old ++ row_line cs r)
-    → new ++ rows_text cs (rows_from (drop (k + same_count x (drop k turns)) turns)) ≡ old ++ rows_text cs (rows_from (drop k turns))
-rows_more cs turns k x old new l e pushed =
-    let r : ℕ × ℕ = (x, same_count x (drop k turns)) in
-    grown old new (row_line cs r) (rows_text cs (rows_from (drop (k + same_count x (drop k turns)) turns))) pushed
-    ∙ ap (λ t. old ++ rows_text cs t) (sym (row_here turns k x l e))
-
-pub rows_all : (cs : List Component) (turns : List ℕ) (k : ℕ) (old : List ℕ) → length turns ≤ k → old ++ rows_text cs (rows_from (drop k turns)) ≡ old
-rows_all cs turns k old l = ap (λ t. old ++ rows_text cs (rows_from t)) (none_left turns k l) ∙ append-nil old

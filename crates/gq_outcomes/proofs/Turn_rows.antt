@@ -1,27 +1,20 @@
 -- Turns in their order, row by row.
-use Rattle.std.proofs.Common.{◌≡◌, ℕ, zero, suc, ◌+◌, ◌<◌, ◌≤◌, ◌==◌, inl, inr, true, false, List, [], ◌∷◌, ◌++◌, length, drop, get_or, refl, ap, sym, ◌∙◌}
-use Rattle.std.proofs.Common.{arith}
-use Rattle.std.specs.Prelude.{if◌then◌else◌}
-use Rattle.std.proofs.lemmas.Bool.Decides.{eqb_tells}
-use Rattle.gq_outcomes.specs.Text.{onto_row, rows_before, rows_of}
-use Rattle.gq_outcomes.specs.internal.Turn_rows.{past_before, past_of, rows_from, same_count}
-
--- rows with turns before them
-abbrev rows_onto : List ℕ → List (ℕ × ℕ) → List (ℕ × ℕ)
-rows_onto [] rows = rows
-rows_onto (x ∷ turns) rows = onto_row x (rows_onto turns rows)
-
-before_is : (turns past : List ℕ) (rows : List (ℕ × ℕ)) → rows_before (past_before turns past) rows ≡ rows_before past (rows_onto turns rows)
-before_is [] past rows = refl
-before_is (x ∷ turns) past rows = before_is turns (x ∷ past) rows
-
-onto_is : (turns : List ℕ) → rows_onto turns [] ≡ rows_from turns
-onto_is [] = refl
-onto_is (x ∷ turns) = ap (onto_row x) (onto_is turns)
+use Rattle.std.proofs.Common.{◌≡◌, ◌∙◌, ◌<◌, ◌≤◌, inl, inr, ℕ, zero, suc, ◌+◌, ◌==◌, drop, get_or, Bool, true, false, List, []}
+use Rattle.std.proofs.Common.{◌∷◌, ◌++◌, length, map, refl, ap, sym, arith, append_assoc}
+use Rattle.std.specs.Prelude.{◌&&◌, nat_lt, if◌then◌else◌, reverse}
+use Rattle.std.proofs.lemmas.Bool.Decides.{eqb_tells, nat_tests}
+use Rattle.std.proofs.lemmas.List.{map-append}
+use Rattle.gq_model.specs.machine.Scenario.{Component}
+use Rattle.gq_views.specs.Listing.{joined}
+use Rattle.gq_outcomes.specs.Text.{greatest_row, onto_row, row_line, rows_back}
+use Rattle.gq_outcomes.specs.internal.Turn_rows.{past_before, past_of, rows_onto}
+use Rattle.gq_outcomes.proofs.Text_lines.{none_left}
+use Rattle.gq_outcomes.proofs.Turns_read_back.{reverse_first}
 
 -- the rows of the definition
-pub rows_are : (turns : List ℕ) → rows_of (past_of turns) ≡ rows_from turns
-rows_are turns = before_is turns [] [] ∙ onto_is turns
+pub rows_are : (turns past : List ℕ) → rows_back (past_before turns past) ≡ rows_onto turns (rows_back past)
+rows_are [] past = refl
+rows_are (x ∷ turns) past = rows_are turns (x ∷ past)
 
 before_count : (turns past : List ℕ) → length (past_before turns past) ≡ length turns + length past
 before_count [] past = omega arith
@@ -35,58 +28,61 @@ pub past_more : (turns past : List ℕ) (x : ℕ) → past_before (turns ++ x �
 past_more [] past x = refl
 past_more (y ∷ turns) past x = past_more turns (y ∷ past) x
 
--- ONE ROW
+-- LINES
 
-itself : (n : ℕ) → (n == n) ≡ true
-itself n = elim (eqb_tells n n) [ inl t ↦ t.0 | inr t ↦ absurd (t.1 refl) ]
+pub joined_both : (a b : List (List ℕ)) → joined (a ++ b) ≡ joined a ++ joined b
+joined_both [] b = refl
+joined_both (l ∷ a) b = ap (λ t. l ++ 10 ∷ t) (joined_both a b) ∙ sym (append_assoc l (10 ∷ joined a) (joined b))
 
-counts_one : (x : ℕ) (turns : List ℕ) → same_count x (x ∷ turns) ≡ suc (same_count x turns)
-counts_one x turns = ap (λ b. if b then suc (same_count x turns) else 0) (itself x)
+module _ (cs : List Component) where
+  -- the lines of rows, of which the last comes first
+  abbrev pub lines_back : List (ℕ × ℕ) → List ℕ
+  lines_back rows = joined (map (row_line cs) (reverse rows))
 
--- a turn before a row of its leaf, or before another row
-first_row : (x : ℕ) (turns : List ℕ) → rows_from (x ∷ turns) ≡ (x, suc (same_count x turns)) ∷ rows_from (drop (same_count x turns) turns)
-first_row x [] = refl
-first_row x (y ∷ turns) = elim (eqb_tells y x) [
-  | inl t ↦ (let n = suc (same_count x turns) in
-      ap (onto_row x) (first_row y turns)
-      ∙ ap (λ z. onto_row x ((z, suc (same_count z turns)) ∷ rows_from (drop (same_count z turns) turns))) t.1
-      ∙ ap (λ b. if b then (x, suc n) ∷ rows_from (drop (same_count x turns) turns) else (x, 1) ∷ (x, n) ∷ rows_from (drop (same_count x turns) turns)) (itself
-      x)
-      ∙ ap (λ k. (x, suc k) ∷ rows_from (drop k (y ∷ turns))) (sym (ap (λ b. if b then n else 0) t.0)))
-  | inr t ↦ (let n = suc (same_count y turns) in
-      ap (onto_row x) (first_row y turns)
-      ∙ ap (λ b. if b then (x, suc n) ∷ rows_from (drop (same_count y turns) turns) else (x, 1) ∷ (y, n) ∷ rows_from (drop (same_count y turns) turns)) t.0
-      ∙ ap (λ r. (x, 1) ∷ r) (sym (first_row y turns))
-      ∙ ap (λ k. (x, suc k) ∷ rows_from (drop k (y ∷ turns))) (sym (ap (λ b. if b then suc (same_count x turns) else 0) t.0)))
-]
+  -- one row more
+  pub row_put : (old t new : List ℕ) (r : ℕ × ℕ) (done : List (ℕ × ℕ)) → t ≡ old ++ lines_back done → new ≡ t ++ joined (row_line cs r ∷ [])
+      → new ≡ old ++ lines_back (r ∷ done)
+  row_put old t new r done so put =
+      put ∙ ap (λ t. t ++ joined (row_line cs r ∷ [])) so ∙ append_assoc old (lines_back done) (joined (row_line cs r ∷ []))
+      ∙ ap (λ l. old ++ l) (sym (ap (λ l. joined (map (row_line cs) l)) (reverse_first r done)
+      ∙ ap joined (map-append (row_line cs) (reverse done) (r ∷ [])) ∙ joined_both (map (row_line cs) (reverse done)) (row_line cs r ∷ [])))
 
--- the row at a place
-pub row_here : (turns : List ℕ) (i x : ℕ) → i < length turns → x ≡ get_or turns i x
-    → rows_from (drop i turns) ≡ (x, same_count x (drop i turns)) ∷ rows_from (drop (i + same_count x (drop i turns)) turns)
-row_here [] i x l e = absurd (omega (arith, l))
-row_here (y ∷ turns) zero x l e =
-    let on : same_count x (y ∷ turns) ≡ 0 + same_count x (y ∷ turns) = omega arith in
-    ap (λ z. rows_from (z ∷ turns)) (sym e) ∙ first_row x turns
-    ∙ ap (λ k. (x, k) ∷ rows_from (drop k (x ∷ turns))) (sym (counts_one x turns))
-    ∙ ap (λ z. (x, same_count x (z ∷ turns)) ∷ rows_from (drop (same_count x (z ∷ turns)) (z ∷ turns))) e
-    ∙ ap (λ k. (x, same_count x (y ∷ turns)) ∷ rows_from (drop k (y ∷ turns))) on
-row_here (y ∷ turns) (suc i) x l e =
-    let on : suc (i + same_count x (drop i turns)) ≡ suc i + same_count x (drop i turns) = omega arith in
-    row_here turns i x (omega (arith, l)) e ∙ ap (λ k. (x, same_count x (drop i turns)) ∷ rows_from (drop k (y ∷ turns))) on
+-- A TURN MORE
 
-pub row_some : (turns : List ℕ) (i x : ℕ) → i < length turns → x ≡ get_or turns i x → 0 < same_count x (drop i turns)
-row_some [] i x l e = absurd (omega (arith, l))
-row_some (y ∷ turns) zero x l e =
-    let h = ap (λ z. same_count x (z ∷ turns)) (sym e) ∙ counts_one x turns in omega (arith, h)
-row_some (y ∷ turns) (suc i) x l e = row_some turns i x (omega (arith, l)) e
+equal_true : (y x : ℕ) → y ≡ x → (y == x) ≡ true
+equal_true y x e = elim (eqb_tells y x) [ inl t ↦ t.0 | inr t ↦ absurd (t.1 e) ]
 
-pub row_within : (x : ℕ) (turns : List ℕ) → same_count x turns ≤ length turns
-row_within x [] = omega arith
-row_within x (y ∷ turns) = by (y == x) (row_within x turns)
-  where
-    by : (b : _) → same_count x turns ≤ length turns → (if b then suc (same_count x turns) else 0) ≤ suc (length turns)
-    by true h = omega (arith, h)
-    by false h = omega arith
+other_false : (y x : ℕ) → (y ≡ x → ⊥) → (y == x) ≡ false
+other_false y x ne = elim (eqb_tells y x) [ inl t ↦ absurd (ne t.1) | inr t ↦ t.0 ]
+
+less_true : (n m : ℕ) → n < m → nat_lt n m ≡ true
+less_true n m less = grind (arith, nat_tests)
+
+full_false : (n m : ℕ) → m ≤ n → nat_lt n m ≡ false
+full_false n m full = grind (arith, nat_tests)
+
+module _ (x y n : ℕ) (done : List (ℕ × ℕ)) where
+  abbrev put : Bool → List (ℕ × ℕ)
+  put b = if b then (x, suc n) ∷ done else (x, 1) ∷ (y, n) ∷ done
+
+  -- of the leaf of the last row, which is not full
+  pub grows : y ≡ x → n < greatest_row → onto_row x ((y, n) ∷ done) ≡ (y, n + 1) ∷ done
+  grows e few =
+      let next : suc n ≡ n + 1 = omega arith in
+      ap (λ b. put (b && nat_lt n greatest_row)) (equal_true y x e) ∙ ap put (less_true n greatest_row few)
+      ∙ ap (λ z. (z, suc n) ∷ done) (sym e) ∙ ap (λ m. (y, m) ∷ done) next
+
+  -- of another leaf
+  pub begins_other : (y ≡ x → ⊥) → onto_row x ((y, n) ∷ done) ≡ (x, 1) ∷ (y, n) ∷ done
+  begins_other ne = ap (λ b. put (b && nat_lt n greatest_row)) (other_false y x ne)
+
+  -- behind a full row
+  pub begins_full : y ≡ x → greatest_row ≤ n → onto_row x ((y, n) ∷ done) ≡ (x, 1) ∷ (y, n) ∷ done
+  begins_full e full = ap (λ b. put (b && nat_lt n greatest_row)) (equal_true y x e) ∙ ap put (full_false n greatest_row full)
+
+-- at the end no turns are left
+pub rows_end : (turns : List ℕ) (k : ℕ) (rows : List (ℕ × ℕ)) → length turns ≤ k → rows ≡ rows_onto (drop k turns) rows
+rows_end turns k rows over = ap (λ t. rows_onto t rows) (sym (none_left turns k over))
 
 pub turn_same : (turns : List ℕ) (k d : ℕ) → k < length turns → get_or turns k d ≡ get_or turns k (get_or turns k d)
 turn_same [] k d l = absurd (omega (arith, l))

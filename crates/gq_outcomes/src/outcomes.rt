@@ -1,11 +1,14 @@
 // The outcomes of an accepted scenario.
-ghost use Rattle.std.specs.Prelude.{◌≡◌, Ok, IfOk, IfErr, length};
+ghost use Rattle.std.specs.Prelude.{◌≡◌, Ok, IfOk, IfErr, OnOk, length};
 ghost use Rattle.gq_model.specs.machine.Scenario.{components};
+ghost use Rattle.gq_init.specs.Writer_failures.{written_to};
+ghost use Rattle.gq_outcomes.specs.Laws.{WritesTurnsTo};
 ghost use Rattle.gq_outcomes.specs.Text.{nth_outcome};
 ghost use Rattle.gq_outcomes.specs.Written.{outcome_turns_written, outcomes_written, turns_of_outcome};
 ghost use Rattle.gq_outcomes.specs.internal.Search_states.{Finds, IsSearch};
 ghost use Rattle.gq_reports.specs.Command_outcomes.{IsBefore, IsFaultOf, WritesAs};
 
+use crate::laws::turn_list_laws;
 use crate::search::{Search, search_all};
 use crate::text::{search_text, turns_text};
 use crate::walk::Walk;
@@ -74,7 +77,7 @@ fn turns_to(alloc: Global, scenario: &[u8], number: u32) -> Result<Vec<u8>, RunF
 /// - the lines of leaves that provide nothing, leaves in preorder;
 /// - the account lines.
 ///
-/// The last line is the number of outcomes. If more than 10,000,000 turns would be needed, it is a comment that says so.
+/// The last line is the number of outcomes, `1 outcome` if there is one. If more than 10,000,000 turns would be needed, it is a comment that says so.
 ///
 /// If the scenario is refused, as `check` refuses it, or host memory is, nothing is written. After a failed write a prefix of the text was written.
 pub fn outcomes<W: Write>(
@@ -90,6 +93,12 @@ pub fn outcomes<W: Write>(
 
 /// Writes the turns with which an outcome was found, with a line for each unbroken row of turns of one leaf. The first outcome has the number 1.
 ///
+/// - A row of more than 9,999,999 turns is parted, since a line of a list of turns has a number of at most seven digits.
+/// - If there are more than 1,000,000 turns, the first line is a comment that says so: a list may have no more.
+///
+/// Else the text is read back as a list of turns, and a run over them ends as the outcome says (`leads`). A list has at most 16 MiB; the text of more than
+/// 883,011 turns may be longer, and is not read then.
+///
 /// If there is no outcome of this number, the call fails with `NoOutcome`. Else it fails as `outcomes` does.
 pub fn outcome_turns<W: Write>(
     alloc: Global,
@@ -98,7 +107,9 @@ pub fn outcome_turns<W: Write>(
     out: &mut Counted<W>,
 ) -> Result<(), RunFault<'static>>
     ensures writes { WritesAs W.contents (outcome_turns_written number scenario.now) out.old out.new result }
+    ensures leads { OnOk result (WritesTurnsTo number scenario.now (written_to W.contents out.old) (written_to W.contents out.new)) }
 {
+    turn_list_laws();
     let text = turns_to(alloc, scenario, number)?;
     put_text(out, text.as_slice())
 }

@@ -1,24 +1,29 @@
 // The outcomes of a scenario as text.
-ghost use Rattle.std.specs.Prelude.{◌≡◌, ◌<◌, ◌≤◌, ◌++◌, true, false, Some, All, IfOk, OnOk, length, map, slice_get};
+ghost use Rattle.std.specs.Prelude.{◌≡◌, ◌<◌, ◌++◌, ◌∷◌, [], true, false, Some, All, IfOk, OnOk, length, map, slice_get};
 ghost use Rattle.gq_model.specs.machine.Accounts.{Account, account_line};
 ghost use Rattle.gq_model.specs.machine.Scenario.{components};
 ghost use Rattle.gq_resolve.specs.NodeTables.{node_rows};
 ghost use Rattle.gq_world.specs.Account_lines.{accounts_text, all_accounts};
 ghost use Rattle.gq_outcomes.specs.Outcomes.{lines_of};
 ghost use Rattle.gq_outcomes.specs.Text as spec;
-ghost use Rattle.gq_outcomes.specs.Text.{count_text, outcomes_text_from, rows_text};
+ghost use Rattle.gq_outcomes.specs.Text.{count_text, counted_word, many_lines, outcomes_text_from, row_line, rows_of};
 ghost use Rattle.gq_outcomes.specs.internal.Found_outcomes.{outcome_seen};
-ghost use Rattle.gq_outcomes.specs.internal.Turn_rows.{rows_from, same_count};
+ghost use Rattle.gq_outcomes.specs.internal.Turn_rows.{past_of};
+ghost use Rattle.gq_views.specs.Listing.{joined};
 
 use crate::search::{Found, MOST_TURNS, Search};
 use gq_init::NodeTable;
 use gq_init::account_line::account_line;
 use gq_init::line::Line;
+use gq_model::limits::GREATEST_TURNS;
 use gq_scenario::node_numbers::NodeNo;
 use gq_scenario::scenario::LeafNo;
 use gq_views::view_words::push_number;
 use gq_world::world::World;
 use std::alloc::{AllocError, Global};
+
+// The most turns of a line of a list of turns, whose number has at most seven digits.
+const GREATEST_ROW: u32 = 9_999_999;
 
 // The line of the account of a node.
 fn account_of(world: &World, node: NodeNo) -> Line
@@ -78,12 +83,23 @@ fn push_outcome(text: &mut Vec<u8>, number: usize, found: &Found) -> Result<(), 
     text.extend_from_slice(found.text.as_slice())
 }
 
+// The word behind a number of outcomes.
+fn counted_word(count: usize) -> &'static [u8]
+    ensures { result.now ≡ counted_word count }
+{
+    if count == 1 {
+        b" outcome\n"
+    } else {
+        b" outcomes\n"
+    }
+}
+
 // Puts how many there are.
 fn push_all_counted(text: &mut Vec<u8>, count: usize) -> Result<(), AllocError>
     ensures { OnOk result (text.new.items ≡ text.old.items ++ count_text false count) }
 {
     push_number(text, count as u64)?;
-    text.extend_from_slice(b" outcomes\n")
+    text.extend_from_slice(counted_word(count))
 }
 
 // Puts how many were found before more turns were wanted.
@@ -130,53 +146,78 @@ pub(crate) fn search_text(alloc: Global, search: &Search) -> Result<Vec<u8>, All
     Ok(text)
 }
 
-// How many turns from the first of these on are of this leaf.
-fn row_length(turns: &[u8], leaf: u8) -> usize
-    ensures count { result ≡ same_count leaf turns.now }
-    ensures few { result ≤ length turns.now }
-{
-    let mut count = 0;
-    for turn in turns {
-        if *turn != leaf {
-            return count;
-        }
-        count += 1;
-    }
-    count
-}
-
 // Puts a line of turns of a leaf.
-fn push_row(
-    text: &mut Vec<u8>,
-    table: &NodeTable,
-    leaf: LeafNo,
-    count: usize,
-) -> Result<(), AllocError>
+fn push_row(text: &mut Vec<u8>, table: &NodeTable, leaf: u8, count: u32) -> Result<(), AllocError>
     requires { leaf < length (components table.now) }
-    ensures { OnOk result (text.new.items ≡ text.old.items ++ spec.row_line (components table.now) (leaf, count)) }
+    ensures { OnOk result (text.new.items ≡ text.old.items ++ joined (row_line (components table.now) (leaf, count) ∷ [])) }
 {
-    text.extend_from_slice(table.name(leaf).as_bytes())?;
+    text.extend_from_slice(table.name(LeafNo::new(u32::from(leaf))).as_bytes())?;
     text.extend_from_slice(b" ")?;
-    push_number(text, count as u64)?;
+    push_number(text, u64::from(count))?;
     text.extend_from_slice(b"\n")
 }
 
-/// Turns, with a line for each unbroken row of turns of one leaf.
+// Puts the lines of turns, of which the first is of this leaf and the others are these.
+fn push_rows_from(
+    text: &mut Vec<u8>,
+    table: &NodeTable,
+    first: u8,
+    rest: &[u8],
+) -> Result<(), AllocError>
+    requires first { first < length (components table.now) }
+    requires rest { All (λ x. x < length (components table.now)) rest.now }
+    ensures { OnOk result (text.new.items ≡ text.old.items
+        ++ joined (map (row_line (components table.now)) (rows_of (past_of (first ∷ rest.now))))) }
+{
+    let mut leaf = first;
+    let mut count = 1;
+    for turn in rest {
+        if leaf == *turn && count < GREATEST_ROW {
+            count += 1;
+        } else {
+            push_row(text, table, leaf, count)?;
+            leaf = *turn;
+            count = 1;
+        }
+    }
+    push_row(text, table, leaf, count)
+}
+
+// Puts the lines of these turns.
+fn push_rows(text: &mut Vec<u8>, table: &NodeTable, turns: &[u8]) -> Result<(), AllocError>
+    requires { All (λ x. x < length (components table.now)) turns.now }
+    ensures { OnOk result (text.new.items ≡ text.old.items ++ joined (map (row_line (components table.now)) (rows_of (past_of turns.now)))) }
+{
+    if turns.is_empty() {
+        return Ok(());
+    }
+    push_rows_from(text, table, turns[0], &turns[1..])
+}
+
+// Puts the comment that there are more turns than a list may have, if there are.
+fn push_many(text: &mut Vec<u8>, count: usize) -> Result<(), AllocError>
+    ensures { OnOk result (text.new.items ≡ text.old.items ++ joined (many_lines count)) }
+{
+    if count <= GREATEST_TURNS as usize {
+        return Ok(());
+    }
+    text.extend_from_slice(b"# ")?;
+    push_number(text, count as u64)?;
+    text.extend_from_slice(b" turns, more than a list may have\n")
+}
+
+/// Turns, with a line for each unbroken row of turns of one leaf. A row of more than 9,999,999 turns has several lines. If there are more turns than a list of
+/// turns may have, the first line is a comment that says so.
 pub(crate) fn turns_text(
     alloc: Global,
     table: &NodeTable,
     turns: &[u8],
 ) -> Result<Vec<u8>, AllocError>
     requires { All (λ x. x < length (components table.now)) turns.now }
-    ensures { IfOk result (λ t. t.items ≡ rows_text (components table.now) (rows_from turns.now)) }
+    ensures { IfOk result (λ t. t.items ≡ joined (many_lines (length turns.now) ++ map (row_line (components table.now)) (rows_of (past_of turns.now)))) }
 {
     let mut text = Vec::new(alloc);
-    let mut place = 0;
-    while place < turns.len() {
-        let leaf = turns[place];
-        let count = row_length(&turns[place..], leaf);
-        push_row(&mut text, table, LeafNo::new(u32::from(leaf)), count)?;
-        place += count;
-    }
+    push_many(&mut text, turns.len())?;
+    push_rows(&mut text, table, turns)?;
     Ok(text)
 }

@@ -12,11 +12,14 @@ use Rattle.gq_model.specs.declared.program.Width.TheVariants.{Byte, Word}
 use Rattle.gq_tariff.specs.declared.amount.Resource.TheVariants.{Ram}
 use Rattle.gq_model.specs.machine.Amounts.{amount}
 use Rattle.gq_model.specs.machine.Program.{Statements, Done, Do, If, Loop}
+use Rattle.gq_model.specs.machine.Lists.{any_of}
 use Rattle.gq_model.specs.machine.Scenario.{Scenario, Interface, LeafNode, system}
 use Rattle.gq_model.specs.rules.Accept.{refusal}
+use Rattle.gq_model.specs.texts.Letters.{fed_lines}
 use Rattle.gq_model.proofs.Sample_scenarios.{all_do, leaf, server, leaves, served, main_of}
 use Rattle.gq_races.specs.Races.{Stated, changes_own, found_in, is_owner, is_shared, orders, races}
 use Rattle.gq_races.specs.Race_text.{races_text}
+use Rattle.gq_races.specs.Races_written.{HasNoLine, begins}
 use Rattle.gq_model.proofs.Statement_word_rows.{drop, combine, push, input}
 
 abbrev tally : Interface
@@ -258,3 +261,21 @@ counted_inside : found_in changes_own 1 (Loop 2 (If (Do drop (Do (Give (Own 3)) 
     (Do (Call (Own 1)) Done))
     ≡ (4, Give (Own 3)) ∷ (5, Store Word (Own 0)) ∷ (7, Call (Own 1)) ∷ []
 counted_inside = refl
+
+-- LINES
+
+-- a line that has the word elsewhere does not begin with it
+no_race_line : HasNoLine (codes "race ") (codes "shared init -> race race\n  opened by race in main at 1\norder race in call 0 at 1 out\n")
+no_race_line = refl
+
+no_race_apart : HasNoLine (codes "race ") (races_text (two apart))
+unfolding digits
+no_race_apart = refl
+
+race_line_together : any_of (begins (codes "race ")) (fed_lines (races_text (two together))) ≡ true
+unfolding digits
+race_line_together = refl
+
+no_order_together : HasNoLine (codes "order ") (races_text (two together))
+unfolding digits
+no_order_together = refl

@@ -1,105 +1,232 @@
--- Where nothing was written nothing was reported, and where nothing is reported there is no race.
-use Rattle.std.proofs.Common.{◌≡◌, ◌∙◌, ℕ, suc, ◌+◌, Bool, true, false, cond, List, [], ◌∷◌, ◌++◌, map, Option, Some, Result, Ok, Err, ap, sym, refl, subst}
+-- Where no line of the text is that of a race there is no race, and where none is that of an order there is no order.
+use Rattle.std.proofs.Common.{◌≡◌, ◌∙◌, ℕ, suc, ◌+◌, ◌==◌, Bool, true, false, ◌&&◌, ◌||◌, cond, List, [], ◌∷◌, ◌++◌, map, codes, Option, Some, Result, Ok, Err}
+use Rattle.std.proofs.Common.{ap, sym, refl, subst, append_assoc, append-nil}
 use Rattle.std.specs.Prelude.{IsOkAnd}
 use Rattle.std.specs.Io.KnownBytes.{Appends}
-use Rattle.std.proofs.lemmas.Bool.{or_parts}
+use Rattle.std.proofs.lemmas.Bool.{true≢false}
 use Rattle.gq_model.specs.declared.program.Instruction.{Instruction}
+use Rattle.gq_model.specs.declared.program.Instruction.TheVariants.{Say, Out}
 use Rattle.gq_model.specs.declared.program.Section.{Section}
+use Rattle.gq_model.specs.machine.Lists.{any_of}
 use Rattle.gq_model.specs.machine.Program.{Statements, Done, Do, If, Loop, size}
 use Rattle.gq_model.specs.machine.Scenario.{Component, Scenario, System, system}
+use Rattle.gq_model.specs.texts.Letters.{fed_lines, onto_first}
 use Rattle.gq_load.specs.Load.{LoadRefusal}
-use Rattle.gq_races.specs.Races.{Stated, IsOrderFree, IsRaceFree, each_stated, for_several, found_in, is_order, is_race, is_shared, openers, stated_from}
-use Rattle.gq_races.specs.Races.{stated_in, stated_of}
-use Rattle.gq_races.specs.Race_text.{effect_text, has_effect, heading, leaf_lines, lines_from, races_text, sharing_lines}
-use Rattle.gq_races.specs.Races_written.{WroteNothing}
-use Rattle.gq_races.proofs.Race_line_text.{joined_append}
-use Rattle.gq_views.specs.Listing.{joined}
+use Rattle.gq_races.specs.Races.{Stated, IsOrderFree, IsRaceFree, each_stated, for_several, found_in, is_order, is_race, is_shared, openers}
+use Rattle.gq_races.specs.Races.{stated_from, stated_in, stated_of, writes_line}
+use Rattle.gq_races.specs.Race_text.{effect_text, has_effect, heading, leaf_lines, lines_from, place_text, races_text, sharing_lines, word_of}
+use Rattle.gq_races.specs.Races_written.{HasNoLine, WroteNothing, Wrote, begins}
+use Rattle.gq_views.specs.Listing.{instruction_text, joined}
 
-parts : {A : Type 0} (a b : List A) → a ++ b ≡ [] → (a ≡ []) × (b ≡ [])
-parts [] b e = (refl, e)
-parts (x ∷ a) b e = absurd cc
+-- LINES OF A TEXT
 
-none_of : {A : Type 0} (a b : List A) → a ≡ [] → b ≡ [] → a ++ b ≡ []
-none_of a b e f = ap (λ a. a ++ b) e ∙ f
+-- one of these but the first passes the test
+abbrev any_later : (List ℕ → Bool) → List (List ℕ) → Bool
+any_later test [] = false
+any_later test (piece ∷ pieces) = any_of test pieces
 
-not_there : {A : Type 0} (b : Bool) (a : A) → cond b (a ∷ []) [] ≡ [] → b ≡ false
-not_there false a e = refl
-not_there true a e = absurd cc
+or_true : (b : Bool) → (b || true) ≡ true
+or_true true = refl
+or_true false = refl
 
--- where no line is written, no leaf has a race or an order
-module _ (test : Bool → Instruction → Bool) (less : (several : Bool) (i : Instruction) → has_effect several i ≡ false → test several i ≡ false) where
-  found_less : (several : Bool) (n : ℕ) (b : Statements) → found_in (has_effect several) n b ≡ [] → found_in (test several) n b ≡ []
-  found_less several n Done e = refl
-  found_less several n (Do i rest) e =
-      let one = parts (cond (has_effect several i) ((n, i) ∷ []) []) (found_in (has_effect several) (suc n) rest) e in
-      none_of (cond (test several i) ((n, i) ∷ []) []) (found_in (test several) (suc n) rest)
-      (ap (λ b. cond b ((n, i) ∷ []) []) (less several i (not_there (has_effect several i) (n, i) one.0))) (found_less several (suc n) rest one.1)
-  found_less several n (If arm other rest) e =
-      let all = parts (found_in (has_effect several) (suc n) arm ++ found_in (has_effect several) (suc n + size arm) other) _ e in
-      let arms = parts (found_in (has_effect several) (suc n) arm) _ all.0 in
-      none_of (found_in (test several) (suc n) arm ++ found_in (test several) (suc n + size arm) other) _
-      (none_of (found_in (test several) (suc n) arm) _ (found_less several (suc n) arm arms.0) (found_less several (suc n + size arm) other arms.1))
-      (found_less several (suc n + size arm + size other) rest all.1)
-  found_less several n (Loop count body rest) e =
-      let all = parts (found_in (has_effect several) (suc n) body) _ e in
-      none_of (found_in (test several) (suc n) body) _ (found_less several (suc n) body all.0) (found_less several (suc n + size body) rest all.1)
+later_any : (test : List ℕ → Bool) (pieces : List (List ℕ)) → any_later test pieces ≡ true → any_of test pieces ≡ true
+later_any test [] e = absurd (true≢false (sym e))
+later_any test (piece ∷ pieces) e = ap (λ b. test piece || b) e ∙ or_true (test piece)
 
-  module _ (shared : Bool) (leaf : List ℕ) where
-    stated_less : (sections : List (Section × Statements)) → stated_in (λ section. has_effect (for_several shared section)) leaf sections ≡ []
-        → stated_in (λ section. test (for_several shared section)) leaf sections ≡ []
-    stated_less [] e = refl
-    stated_less (p ∷ rest) e =
-        let several = for_several shared p.0 in
-        let all = parts (each_stated leaf p.0 (found_in (has_effect several) 1 p.1)) _ e in
-        none_of (each_stated leaf p.0 (found_in (test several) 1 p.1)) _
-        (ap (each_stated leaf p.0) (found_less several 1 p.1 (none (found_in (has_effect several) 1 p.1) all.0))) (stated_less rest all.1)
-      where
-        none : (found : List (ℕ × Instruction)) → each_stated leaf p.0 found ≡ [] → found ≡ []
-        none [] e = refl
-        none (c ∷ found) e = absurd cc
+later_onto : (test : List ℕ → Bool) (c : ℕ) (b : Bool) (pieces : List (List ℕ)) → any_later test pieces ≡ true
+    → any_later test (cond b ([] ∷ pieces) (onto_first c pieces)) ≡ true
+later_onto test c true pieces e = later_any test pieces e
+later_onto test c false [] e = absurd (true≢false (sym e))
+later_onto test c false (piece ∷ pieces) e = e
 
-  lines_less : (system : System) (x : ℕ) (cs : List Component) → joined (lines_from system x cs) ≡ [] → stated_from test system x cs ≡ []
-  lines_less system x [] e = refl
-  lines_less system x (c ∷ cs) e =
-      let shared = is_shared system x in
-      let here = leaf_lines system x c in
-      let all = parts (joined here) (joined (lines_from system (suc x) cs)) (sym (joined_append here (lines_from system (suc x) cs)) ∙ e) in
-      none_of (stated_of test shared c) _
-      (stated_less shared c.label c.node.program.sections (none (sharing_lines shared c (openers system x)) (stated_of has_effect shared c) all.0))
-      (lines_less system (suc x) cs all.1)
+-- a line of what follows a line feed is one of the text
+later_line : (test : List ℕ → Bool) (line rest : List ℕ) → any_of test (fed_lines rest) ≡ true → any_later test (fed_lines (line ++ 10 ∷ rest)) ≡ true
+later_line test [] rest e = e
+later_line test (c ∷ line) rest e = later_onto test c (c == 10) (fed_lines (line ++ 10 ∷ rest)) (later_line test line rest e)
+
+not_true : (b : Bool) → (b ≡ true → ⊥) → b ≡ false
+not_true true h = absurd (h refl)
+not_true false h = refl
+
+-- no line begins with the word
+module _ (word : List ℕ) (first : (rest : List ℕ) → any_of (begins word) (fed_lines (word ++ rest)) ≡ true) where
+  -- none of these is the word with something behind it
+  abbrev NoneBegin : List (List ℕ) → Type 0
+  NoneBegin [] = Unit {0}
+  NoneBegin (line ∷ lines) = ((rest : List ℕ) → line ≡ word ++ rest → ⊥) × NoneBegin lines
+
+  none_begin : (lines : List (List ℕ)) → HasNoLine word (joined lines) → NoneBegin lines
+  none_begin [] h = tt
+  none_begin (line ∷ lines) h = (
+    λ rest e. true≢false (sym (first (rest ++ 10 ∷ joined lines))
+        ∙ ap (λ l. any_of (begins word) (fed_lines l)) (sym (ap (λ l. l ++ 10 ∷ joined lines) e ∙ append_assoc word rest (10 ∷ joined lines))) ∙ h),
+    none_begin lines (not_true (any_of (begins word) (fed_lines (joined lines))) (λ e. true≢false (sym (later_any (begins word)
+        (fed_lines (line ++ 10 ∷ joined lines)) (later_line (begins word) line (joined lines) e)) ∙ h))),
+  )
+
+  both_none : (a b : List (List ℕ)) → NoneBegin (a ++ b) → NoneBegin a × NoneBegin b
+  both_none [] b h = (tt, h)
+  both_none (line ∷ a) b h = let more = both_none a b h.1 in ((h.0, more.0), more.1)
+
+  heading_none : (lines : List (List ℕ)) (found : List Stated) → NoneBegin (heading lines found) → NoneBegin (map effect_text found)
+  heading_none lines [] h = tt
+  heading_none lines (r ∷ found) h = (both_none lines (map effect_text (r ∷ found)) h).1
+
+  -- STATEMENTS
+
+  -- the line of none of these begins with the word
+  abbrev Spared : List (ℕ × Instruction) → Type 0
+  Spared [] = Unit {0}
+  Spared (c ∷ found) = (word_of c.1 ≡ word → ⊥) × Spared found
+
+  abbrev Unnamed : List Stated → Type 0
+  Unnamed [] = Unit {0}
+  Unnamed (r ∷ found) = (word_of r.statement ≡ word → ⊥) × Unnamed found
+
+  unnamed : (found : List Stated) → NoneBegin (map effect_text found) → Unnamed found
+  unnamed [] h = tt
+  unnamed (r ∷ found) h = (λ e. h.0 (place_text r ++ codes " " ++ instruction_text r.statement) (begun r e), unnamed found h.1)
     where
-      some_line : (a b : List ℕ) → a ++ 10 ∷ b ≡ [] → ⊥
-      some_line [] b e = cc
-      some_line (x ∷ a) b e = cc
+      begun : (r : Stated) → word_of r.statement ≡ word → effect_text r ≡ word ++ (place_text r ++ codes " " ++ instruction_text r.statement)
+      begun r e =
+          ap (λ l. l ++ place_text r ++ codes " " ++ instruction_text r.statement) e
+          ∙ ap (λ l. l ++ instruction_text r.statement) (append_assoc word (place_text r) (codes " "))
+          ∙ append_assoc word (place_text r ++ codes " ") (instruction_text r.statement)
 
-      none : (lines : List (List ℕ)) (found : List Stated) → joined (heading lines found) ≡ [] → found ≡ []
-      none lines [] e = refl
-      none [] (r ∷ found) e = absurd (some_line (effect_text r) (joined (map effect_text found)) e)
-      none (l ∷ lines) (r ∷ found) e = absurd (some_line l (joined (lines ++ map effect_text (r ∷ found))) e)
+  spared_both : (a b : List (ℕ × Instruction)) → Spared (a ++ b) → Spared a × Spared b
+  spared_both [] b h = (tt, h)
+  spared_both (c ∷ a) b h = let more = spared_both a b h.1 in ((h.0, more.0), more.1)
 
-not_race : (several : Bool) (i : Instruction) → has_effect several i ≡ false → is_race several i ≡ false
-not_race several i e = (or_parts (is_race several i) (is_order several i) e).0
+  unnamed_both : (a b : List Stated) → Unnamed (a ++ b) → Unnamed a × Unnamed b
+  unnamed_both [] b h = (tt, h)
+  unnamed_both (r ∷ a) b h = let more = unnamed_both a b h.1 in ((h.0, more.0), more.1)
 
-not_order : (several : Bool) (i : Instruction) → has_effect several i ≡ false → is_order several i ≡ false
-not_order several i e = (or_parts (is_race several i) (is_order several i) e).1
+  spared : (leaf : List ℕ) (section : Section) (found : List (ℕ × Instruction)) → Unnamed (each_stated leaf section found) → Spared found
+  spared leaf section [] h = tt
+  spared leaf section (c ∷ found) h = (h.0, spared leaf section found h.1)
 
-nothing_more : (t more : List ℕ) → t ≡ t ++ more → more ≡ []
-nothing_more [] more e = sym e
-nothing_more (x ∷ t) more e = nothing_more t more cc
+  -- each statement of a kind has a line that begins with the word
+  module _ (test : Bool → Instruction → Bool)
+      (meant : (several : Bool) (i : Instruction) → test several i ≡ true → (has_effect several i ≡ true) × (word_of i ≡ word)) where
+    found_none : (several : Bool) (n : ℕ) (b : Statements) → Spared (found_in (has_effect several) n b) → found_in (test several) n b ≡ []
+    found_none several n Done h = refl
+    found_none several n (Do i rest) h =
+        let one = spared_both (cond (has_effect several i) ((n, i) ∷ []) []) (found_in (has_effect several) (suc n) rest) h in
+        ap (λ b. cond b ((n, i) ∷ []) [] ++ found_in (test several) (suc n) rest) (not_true (test several i) (λ e. by (meant several i e) one.0))
+        ∙ found_none several (suc n) rest one.1
+      where
+        by : (has_effect several i ≡ true) × (word_of i ≡ word) → Spared (cond (has_effect several i) ((n, i) ∷ []) []) → ⊥
+        by m s = (subst (λ b. Spared (cond b ((n, i) ∷ []) [])) m.0 s).0 m.1
+    found_none several n (If arm other rest) h =
+        let all = spared_both (found_in (has_effect several) (suc n) arm ++ found_in (has_effect several) (suc n + size arm) other) _ h in
+        let arms = spared_both (found_in (has_effect several) (suc n) arm) _ all.0 in
+        λ e. (found_none several (suc n) arm arms.0 e ++ found_none several (suc n + size arm) other arms.1 e)
+        ++ found_none several (suc n + size arm + size other) rest all.1 e
+    found_none several n (Loop count body rest) h =
+        let all = spared_both (found_in (has_effect several) (suc n) body) _ h in
+        λ e. found_none several (suc n) body all.0 e ++ found_none several (suc n + size body) rest all.1 e
 
-nothing_appended : (old new : Option (List ℕ)) (text : List ℕ) → Appends old new text → WroteNothing old new → text ≡ []
-nothing_appended old new text h n = by (subst (λ o. Appends o new text) n.1 h)
+    stated_none : (shared : Bool) (leaf : List ℕ) (sections : List (Section × Statements))
+        → Unnamed (stated_in (λ section. has_effect (for_several shared section)) leaf sections)
+        → stated_in (λ section. test (for_several shared section)) leaf sections ≡ []
+    stated_none shared leaf [] h = refl
+    stated_none shared leaf (p ∷ rest) h =
+        let several = for_several shared p.0 in
+        let all = unnamed_both (each_stated leaf p.0 (found_in (has_effect several) 1 p.1)) _ h in
+        λ e. each_stated leaf p.0 (found_none several 1 p.1 (spared leaf p.0 (found_in (has_effect several) 1 p.1) all.0) e)
+        ++ stated_none shared leaf rest all.1 e
+
+    lines_none : (system : System) (x : ℕ) (cs : List Component) → NoneBegin (lines_from system x cs) → stated_from test system x cs ≡ []
+    lines_none system x [] h = refl
+    lines_none system x (c ∷ cs) h =
+        let shared = is_shared system x in
+        let all = both_none (leaf_lines system x c) (lines_from system (suc x) cs) h in
+        let here = heading_none (sharing_lines shared c (openers system x)) (stated_of has_effect shared c) all.0 in
+        λ e. stated_none shared c.label c.node.program.sections (unnamed (stated_of has_effect shared c) here) e ++ lines_none system (suc x) cs all.1 e
+
+    -- of the text of a scenario
+    text_none : (s : Scenario) → HasNoLine word (races_text s) → stated_from test (system s) 0 (system s).components ≡ []
+    text_none s h = lines_none (system s) 0 (system s).components (none_begin (lines_from (system s) 0 (system s).components) h)
+
+-- RACES AND ORDERS
+
+race_first : (rest : List ℕ) → any_of (begins (codes "race ")) (fed_lines (codes "race " ++ rest)) ≡ true
+race_first rest = by (fed_lines rest)
   where
-    by : Appends (Some n.0) new text → text ≡ []
-    by g = nothing_more n.0 text (subst (λ o. Appends (Some n.0) o text) n.2 g)
+    by : (pieces : List (List ℕ))
+        → any_of (begins (codes "race ")) (onto_first 114 (onto_first 97 (onto_first 99 (onto_first 101 (onto_first 32 pieces))))) ≡ true
+    by [] = refl
+    by (piece ∷ pieces) = refl
 
--- of a scenario that was loaded
-pub free_printed : (r : Result Scenario LoadRefusal) (text : List ℕ) (old new : Option (List ℕ)) → IsOkAnd r (λ s. text ≡ races_text s) → Appends old new text
-    → WroteNothing old new → IsOkAnd r IsRaceFree
-free_printed (Ok s) text old new h put n = lines_less is_race not_race (system s) 0 (system s).components (sym h ∙ nothing_appended old new text put n)
-free_printed (Err fault) text old new h put n = absurd h
+order_first : (rest : List ℕ) → any_of (begins (codes "order ")) (fed_lines (codes "order " ++ rest)) ≡ true
+order_first rest = by (fed_lines rest)
+  where
+    by : (pieces : List (List ℕ))
+        → any_of (begins (codes "order ")) (onto_first 111 (onto_first 114 (onto_first 100 (onto_first 101 (onto_first 114 (onto_first 32 pieces)))))) ≡ true
+    by [] = refl
+    by (piece ∷ pieces) = refl
 
-pub quiet_printed : (r : Result Scenario LoadRefusal) (text : List ℕ) (old new : Option (List ℕ)) → IsOkAnd r (λ s. text ≡ races_text s) → Appends old new text
-    → WroteNothing old new → IsOkAnd r IsOrderFree
-quiet_printed (Ok s) text old new h put n = lines_less is_order not_order (system s) 0 (system s).components (sym h ∙ nothing_appended old new text put n)
-quiet_printed (Err fault) text old new h put n = absurd h
+-- a race writes no line, as it runs
+race_silent : (several : Bool) (i : Instruction) → is_race several i ≡ true → writes_line i ≡ false
+race_silent several (Say text) e = absurd (none several e)
+  where
+    none : (several : Bool) → (several && false || false) ≡ true → ⊥
+    none true e = true≢false (sym e)
+    none false e = true≢false (sym e)
+race_silent several Out e = absurd (none several e)
+  where
+    none : (several : Bool) → (several && false || false) ≡ true → ⊥
+    none true e = true≢false (sym e)
+    none false e = true≢false (sym e)
+race_silent several _ e = refl
+
+race_meant : (several : Bool) (i : Instruction) → is_race several i ≡ true → (has_effect several i ≡ true) × (word_of i ≡ codes "race ")
+race_meant several i e = (ap (λ b. b || is_order several i) e, ap (λ b. cond b (codes "order ") (codes "race ")) (race_silent several i e))
+
+order_meant : (several : Bool) (i : Instruction) → is_order several i ≡ true → (has_effect several i ≡ true) × (word_of i ≡ codes "order ")
+order_meant several i e =
+    (ap (λ b. is_race several i || b) e ∙ or_true (is_race several i), ap (λ b. cond b (codes "order ") (codes "race ")) (second several (writes_line i) e))
+  where
+    second : (a b : Bool) → (a && b) ≡ true → b ≡ true
+    second true b e = e
+    second false b e = absurd (true≢false (sym e))
+
+-- WHAT WAS WRITTEN
+
+same_more : (t a b : List ℕ) → t ++ a ≡ t ++ b → a ≡ b
+same_more [] a b e = e
+same_more (x ∷ t) a b e = same_more t a b cc
+
+same_text : (old new : Option (List ℕ)) (text given : List ℕ) → Appends old new text → Wrote given old new → text ≡ given
+same_text old new text given h w = by (subst (λ o. Appends o new text) w.1 h)
+  where
+    by : Appends (Some w.0) new text → text ≡ given
+    by g = sym (same_more w.0 given text (subst (λ o. Appends (Some w.0) o text) w.2 g))
+
+-- the text that was written is that of a scenario that was loaded
+module _ (r : Result Scenario LoadRefusal) (text : List ℕ) (old new : Option (List ℕ)) (put : Appends old new text) where
+  pub raceless : IsOkAnd r (λ s. text ≡ races_text s) → (given : List ℕ) → Wrote given old new → HasNoLine (codes "race ") given → IsOkAnd r IsRaceFree
+  raceless h given w none = by r h
+    where
+      by : (r : Result Scenario LoadRefusal) → IsOkAnd r (λ s. text ≡ races_text s) → IsOkAnd r IsRaceFree
+      by (Ok s) h =
+          text_none (codes "race ") race_first is_race race_meant s (subst (HasNoLine (codes "race ")) (sym (same_text old new text given put w) ∙ h) none)
+      by (Err fault) h = absurd h
+
+  pub orderless : IsOkAnd r (λ s. text ≡ races_text s) → (given : List ℕ) → Wrote given old new → HasNoLine (codes "order ") given → IsOkAnd r IsOrderFree
+  orderless h given w none = by r h
+    where
+      by : (r : Result Scenario LoadRefusal) → IsOkAnd r (λ s. text ≡ races_text s) → IsOkAnd r IsOrderFree
+      by (Ok s) h =
+          text_none (codes "order ") order_first is_order order_meant s (subst (HasNoLine (codes "order ")) (sym (same_text old new text given put w) ∙ h) none)
+      by (Err fault) h = absurd h
+
+  nothing : WroteNothing old new → Wrote [] old new
+  nothing n = (n.0, n.1, n.2 ∙ ap Some (sym (append-nil n.0)))
+
+  -- an empty text has no line
+  pub free_printed : IsOkAnd r (λ s. text ≡ races_text s) → WroteNothing old new → IsOkAnd r IsRaceFree
+  free_printed h n = raceless h [] (nothing n) refl
+
+  pub quiet_printed : IsOkAnd r (λ s. text ≡ races_text s) → WroteNothing old new → IsOkAnd r IsOrderFree
+  quiet_printed h n = orderless h [] (nothing n) refl

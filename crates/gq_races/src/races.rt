@@ -1,12 +1,12 @@
 // The statements by which the outcome of an accepted scenario could depend on the turns.
-ghost use Rattle.std.specs.Prelude.{◌≡◌, ◌≤◌, ◌++◌, ◌∷◌, [], List, IfOk, IfErr, IsOkAnd, OnOk, length, map};
+ghost use Rattle.std.specs.Prelude.{◌≡◌, ◌≤◌, ◌++◌, ◌∷◌, [], List, IfOk, IfErr, IsOkAnd, OnOk, codes, length, map};
 ghost use Rattle.gq_model.specs.machine.Scenario as model;
 ghost use Rattle.gq_init.specs.Writer_failures.{written_to};
 ghost use Rattle.gq_load.specs.Load_faults.{Refuses};
 ghost use Rattle.gq_load.specs.Load.{loaded};
 ghost use Rattle.gq_races.specs.Races.{AreSharedOf, IsOrderFree, IsRaceFree, Stated, stated_of};
 ghost use Rattle.gq_races.specs.Race_text.{effect_text, has_effect, heading, races_text, shared_text, sharing_lines};
-ghost use Rattle.gq_races.specs.Races_written.{races_written, WroteNothing};
+ghost use Rattle.gq_races.specs.Races_written.{MeansWithout, races_written, WroteNothing};
 ghost use Rattle.gq_races.specs.internal.Openers.{opened_among};
 ghost use Rattle.gq_races.specs.internal.Owners.{AreShared};
 ghost use Rattle.gq_views.specs.Listing.{joined};
@@ -229,7 +229,8 @@ fn loaded_text(alloc: Global, scenario: &[u8]) -> Result<Vec<u8>, LoadError>
 ///
 /// The lines `race` and `order` of a leaf go in the order of the sections and the text.
 ///
-/// If nothing was written, there is no race (`free`), so no leaf has an `in`; and there is no order (`quiet`).
+/// If no line that was written begins with `race `, there is no race (`raceless`), so no leaf has an `in`. If none begins with `order `, there is no order
+/// (`orderless`). If nothing was written, there is neither (`free`, `quiet`).
 ///
 /// If the scenario is refused, as `check` refuses it, or host memory is, nothing is written. After a failed write a prefix of the text was written.
 pub fn races<W: Write>(
@@ -238,6 +239,8 @@ pub fn races<W: Write>(
     out: &mut Counted<W>,
 ) -> Result<(), RunFault<'static>>
     ensures writes { WritesAs W.contents (races_written scenario.now) out.old out.new result }
+    ensures raceless { OnOk result (MeansWithout (codes "race ") IsRaceFree scenario.now (written_to W.contents out.old) (written_to W.contents out.new)) }
+    ensures orderless { OnOk result (MeansWithout (codes "order ") IsOrderFree scenario.now (written_to W.contents out.old) (written_to W.contents out.new)) }
     ensures free { OnOk result (WroteNothing (written_to W.contents out.old) (written_to W.contents out.new) → IsOkAnd (loaded scenario.now) IsRaceFree) }
     ensures quiet { OnOk result (WroteNothing (written_to W.contents out.old) (written_to W.contents out.new) → IsOkAnd (loaded scenario.now) IsOrderFree) }
 {

@@ -7,7 +7,7 @@ use Rattle.std.proofs.lemmas.Bool.{and_parts}
 use Rattle.std.proofs.lemmas.Bool.Decides.{nat_tests}
 use Rattle.gq_model.specs.declared.program.Section.{Section}
 use Rattle.gq_model.specs.declared.program.Section.TheVariants.{Main, Opening, Upgrading, Calling, Closing}
-use Rattle.gq_model.specs.machine.Amounts.{Caps}
+use Rattle.gq_model.specs.machine.Amounts.{Resource, Caps}
 use Rattle.gq_model.specs.machine.Lists.{all_of, greatest}
 use Rattle.gq_model.specs.machine.Program.{Statements, text_eq}
 use Rattle.gq_model.specs.machine.Scenario.{Interface, Interfaces, Component, System, interface_in}
@@ -39,21 +39,22 @@ greatest_same f g P same (x ∷ rest) e =
     let here = same x both.0 in
     let more = greatest_same f g P same rest both.1 in omega (arith, here, more)
 
-leaf_low : (f : Given) (v : Subject) (i : Interface) (l : ℕ) → all_of (λ (p : Section × Statements). nat_le (level_of p.0) 3) v.program.sections ≡ true →
-    leaf_needed f Caps v i (min l 3) ≡ leaf_needed f Caps v i l
-leaf_low f v i l low =
-    greatest_same (λ (p : Section × Statements). if is_up_to (min l 3) p.0 then greatest (session_cost f Caps i) (section_points v p.0) else 0)
-    (λ (p : Section × Statements). if is_up_to l p.0 then greatest (session_cost f Caps i) (section_points v p.0) else 0)
+leaf_low : (f : Given) (r : Resource) (v : Subject) (i : Interface) (l : ℕ) →
+    all_of (λ (p : Section × Statements). nat_le (level_of p.0) 3) v.program.sections ≡ true →
+    leaf_needed f r v i (min l 3) ≡ leaf_needed f r v i l
+leaf_low f r v i l low =
+    greatest_same (λ (p : Section × Statements). if is_up_to (min l 3) p.0 then greatest (session_cost f r i) (section_points v p.0) else 0)
+    (λ (p : Section × Statements). if is_up_to l p.0 then greatest (session_cost f r i) (section_points v p.0) else 0)
     (λ p. nat_le (level_of p.0) 3)
-    (λ p e. ap (λ b. if b then greatest (session_cost f Caps i) (section_points v p.0) else 0) (as_low l p.0 e)) v.program.sections low
+    (λ p e. ap (λ b. if b then greatest (session_cost f r i) (section_points v p.0) else 0) (as_low l p.0 e)) v.program.sections low
 
-needed_low : (f : Given) (all : System) (service : List ℕ) (i : Interface) (l : ℕ) (cs : List Component) → AreLow (map (subject all) cs) →
-    greatest (λ (c : Component). if is_named service c.node.provides then leaf_needed f Caps (subject all c) i (min l 3) else 0) cs
-    ≡ greatest (λ (c : Component). if is_named service c.node.provides then leaf_needed f Caps (subject all c) i l else 0) cs
-needed_low f all service i l [] low = refl
-needed_low f all service i l (c ∷ rest) low =
-    let here = ap (λ n. if is_named service c.node.provides then n else 0) (leaf_low f (subject all c) i l low.0) in
-    let more = needed_low f all service i l rest low.1 in omega (arith, here, more)
+pub needed_low : (f : Given) (r : Resource) (all : System) (service : List ℕ) (i : Interface) (l : ℕ) (cs : List Component) → AreLow (map (subject all) cs) →
+    greatest (λ (c : Component). if is_named service c.node.provides then leaf_needed f r (subject all c) i (min l 3) else 0) cs
+    ≡ greatest (λ (c : Component). if is_named service c.node.provides then leaf_needed f r (subject all c) i l else 0) cs
+needed_low f r all service i l [] low = refl
+needed_low f r all service i l (c ∷ rest) low =
+    let here = ap (λ n. if is_named service c.node.provides then n else 0) (leaf_low f r (subject all c) i l low.0) in
+    let more = needed_low f r all service i l rest low.1 in omega (arith, here, more)
 
 sum_low : (n : ℕ) (all : System) (service : List ℕ) (l : ℕ) → AreLow (map (subject all) all.components) →
     caps_sum n all service (min l 3) ≡ caps_sum n all service l
@@ -63,7 +64,7 @@ sum_low (suc n) all service l low = by (interface_in service all.interfaces)
     by : (o : Option Interface) → sum_in (λ i. needed (caps_sum n all) Caps all service i (min l 3)) o
         ≡ sum_in (λ i. needed (caps_sum n all) Caps all service i l) o
     by None = refl
-    by (Some i) = needed_low (caps_sum n all) all service i l all.components low
+    by (Some i) = needed_low (caps_sum n all) Caps all service i l all.components low
 
 -- WHAT A TABLE GIVES
 

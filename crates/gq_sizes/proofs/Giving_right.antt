@@ -1,12 +1,14 @@
 -- Whether all that is shown, all sections and all leaves pass a test.
-use Rattle.std.proofs.Common.{◌≡◌, ◌∙◌, ℕ, ◌+◌, ◌<◌, ◌≤◌, ◌&&◌, Bool, true, false, List, [], ◌∷◌, length, get_or, drop, map, ap, sym, refl}
+use Rattle.std.proofs.Common.{◌≡◌, ◌∙◌, ℕ, ◌+◌, ◌<◌, ◌≤◌, ◌&&◌, Bool, true, false, List, [], ◌∷◌, length, get_or, drop, map, ap, ap₂, sym, refl}
 use Rattle.std.proofs.Math.Bool.{and-true, and_assoc}
+use Rattle.std.proofs.lemmas.Bool.{and_parts}
 use Rattle.gq_model.specs.machine.Lists.{all_of}
-use Rattle.gq_model.specs.machine.Scenario.{Component, Interfaces, System}
+use Rattle.gq_model.specs.machine.Scenario.{Component, Interfaces, Scenario, System, system}
 use Rattle.gq_model.specs.rules.Use.{subject}
+use Rattle.gq_scenario.specs.Without_quantities.{unsized}
 use Rattle.gq_verify.specs.Visits.{Sight, after_all}
 use Rattle.gq_verify.proofs.List_remainders.{next_left, none_left}
-use Rattle.gq_sizes.specs.Gives.{leaf_gives_right}
+use Rattle.gq_sizes.specs.Gives.{AskJust, GivesLeast, leaf_gives_right}
 
 -- a test of all that is shown, one after the other
 pub all_shown : (f : Sight → Bool) (b : Bool) (seen : List Sight) → after_all (λ right e. right && f e) b seen ≡ (b && all_of f seen)
@@ -34,3 +36,17 @@ pub all_subjects : (ifs : Interfaces) (all : System) (cs : List Component)
     → all_of (leaf_gives_right ifs) (map (subject all) cs) ≡ all_of (λ (c : Component). leaf_gives_right ifs (subject all c)) cs
 all_subjects ifs all [] = refl
 all_subjects ifs all (c ∷ rest) = ap (λ b. leaf_gives_right ifs (subject all c) && b) (all_subjects ifs all rest)
+
+-- one test is whether the statements of a scenario give what its interfaces ask, the other whether these ask what sessions need
+pub record AreDecided (s : Scenario) (gives asks : Bool) : Type 0 where
+  pub statements : gives
+      ≡ all_of (λ (c : Component). leaf_gives_right s.interfaces (subject (system (unsized s)) c)) (system (unsized s)).components
+  pub just : asks ≡ true → AskJust (system (unsized s)) s.interfaces
+  pub only : AskJust (system (unsized s)) s.interfaces → asks ≡ true
+
+module _ (s : Scenario) (gives asks : Bool) (are : AreDecided s gives asks) where
+  pub decided_true : (gives && asks) ≡ true → GivesLeast s
+  decided_true e = let both = and_parts gives asks e in record { statements = sym are.statements ∙ both.0; just = are.just both.1 }
+
+  pub decided_only : GivesLeast s → (gives && asks) ≡ true
+  decided_only h = ap₂ (λ a b. a && b) (are.statements ∙ h.statements) (are.only h.just)

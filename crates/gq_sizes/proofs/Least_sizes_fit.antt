@@ -131,7 +131,7 @@ module _ (version : ℕ) (all : System) (gs : List Gift) where
       by true e2 further = ap (λ k. Some (unbounded k)) (some_same e2)
       by false e2 further = further e2
 
-  caps_rises : (service : List ℕ) (n l : ℕ) → caps_sum n all service l ≤ caps_sum n all service (suc l)
+  pub caps_rises : (service : List ℕ) (n l : ℕ) → caps_sum n all service l ≤ caps_sum n all service (suc l)
   caps_rises service zero l = omega arith
   caps_rises service (suc n) l = by (interface_in service all.interfaces)
     where

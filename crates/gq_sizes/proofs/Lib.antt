@@ -54,3 +54,7 @@ mod Compared_text_equality
 mod Nodes_apart
 mod Giving_right
 mod Upgrades_apart
+mod Just_asked_levels
+mod First_endless_search
+mod Least_number_rows
+mod Donated_lists

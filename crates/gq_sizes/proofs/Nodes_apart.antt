@@ -1,8 +1,8 @@
--- Lists of nodes that are taken apart at their first, and nodes with the least quanta that are put together.
-use Rattle.std.proofs.Common.{◌≡◌, ◌∙◌, ℕ, suc, ◌+◌, ◌-◌, ◌≤◌, List, [], ◌∷◌, length, get_or, drop, take, ap, sym, arith}
+-- Lists of nodes that are taken apart at their first, and how many nodes there are with the least quanta.
+use Rattle.std.proofs.Common.{◌≡◌, ◌∙◌, ℕ, suc, ◌+◌, ◌-◌, ◌≤◌, List, [], ◌∷◌, length, get_or, drop, take, ap, sym, refl, arith}
 use Rattle.std.proofs.Math.Seq.{take-length}
 use Rattle.gq_model.specs.machine.Accounts.{leaf_count}
-use Rattle.gq_model.specs.machine.Scenario.{LeafNode, InitNode, Nodes, End, Leaf_node, Init_node, System}
+use Rattle.gq_model.specs.machine.Scenario.{Nodes, End, Leaf_node, Init_node, System}
 use Rattle.gq_scenario.specs.Sizes.{node_count}
 use Rattle.gq_scenario.specs.Component_trees.{before, nodes_of}
 use Rattle.gq_scenario.specs.declared.scenario.Node.{Node}
@@ -50,32 +50,25 @@ apart items node h is =
     let all = first_apart items node h is in
     record { nodes = ap node_count all ∙ counts node rest; leaves = ap leaf_count all ∙ leaves node rest; some = some_node node }
 
--- PUT TOGETHER
+-- AS MANY
 
-leaf_same : (a b : LeafNode) → Leaf_node a End ≡ Leaf_node b End → a ≡ b
-leaf_same a b e = cc
+-- how many nodes stand beside one another
+abbrev beside : Nodes → ℕ
+beside End = 0
+beside (Leaf_node a rest) = suc (beside rest)
+beside (Init_node a children rest) = suc (beside rest)
 
-init_same : (a b : InitNode) (c d : Nodes) → Init_node a c End ≡ Init_node b d End → (a ≡ b) × (c ≡ d)
-init_same a b c d e = (cc, cc)
+beside_all : (items : List Node) → beside (nodes_of items) ≡ length items
+beside_all [] = refl
+beside_all (Leaf a ∷ rest) = ap suc (beside_all rest)
+beside_all (Init a children ∷ rest) = ap suc (beside_all rest)
 
 module _ (v : ℕ) (all : System) where
-  joined : (m node : Node) (more rest : Nodes) (x y : ℕ) → before m End ≡ least_nodes v all x (before node End) → y ≡ x + leaf_count (before node End)
-      → more ≡ least_nodes v all y rest → before m more ≡ least_nodes v all x (before node rest)
-  joined (Leaf a) (Leaf b) more rest x y h at e =
-      let next : y ≡ suc x = omega (arith, at) in
-      (λ j. Leaf_node (leaf_same a _ h j) ((e ∙ ap (λ n. least_nodes v all n rest) next) j))
-  joined (Leaf a) (Init b d) more rest x y h at e = absurd cc
-  joined (Init a c) (Leaf b) more rest x y h at e = absurd cc
-  joined (Init a c) (Init b d) more rest x y h at e =
-      let next : y ≡ x + leaf_count d = omega (arith, at) in
-      let same = init_same a _ c _ h in
-      (λ j. Init_node (same.0 j) (same.1 j) ((e ∙ ap (λ n. least_nodes v all n rest) next) j))
+  beside_least : (x : ℕ) (ns : Nodes) → beside (least_nodes v all x ns) ≡ beside ns
+  beside_least x End = refl
+  beside_least x (Leaf_node a rest) = ap suc (beside_least (suc x) rest)
+  beside_least x (Init_node a children rest) = ap suc (beside_least (x + leaf_count children) rest)
 
-  -- the first and those after it
-  pub list_joined : (made items : List Node) (m node : Node) → 1 ≤ length made → m ≡ get_or made 0 m → 1 ≤ length items → node ≡ get_or items 0 node
-      → (x y : ℕ) → nodes_of (m ∷ []) ≡ least_nodes v all x (nodes_of (node ∷ [])) → y ≡ x + leaf_count (nodes_of (node ∷ []))
-      → nodes_of (take (length made - 1) (drop 1 made)) ≡ least_nodes v all y (nodes_of (take (length items - 1) (drop 1 items)))
-      → nodes_of made ≡ least_nodes v all x (nodes_of items)
-  list_joined made items m node hm im h is x y first at others =
-      first_apart made m hm im
-      ∙ (joined m node _ _ x y first at others ∙ ap (least_nodes v all x) (sym (first_apart items node h is)))
+  -- with the least quanta there are as many
+  pub as_many_nodes : (x : ℕ) (made items : List Node) → nodes_of made ≡ least_nodes v all x (nodes_of items) → length made ≡ length items
+  as_many_nodes x made items e = sym (beside_all made) ∙ (ap beside e ∙ (beside_least x (nodes_of items) ∙ beside_all items))

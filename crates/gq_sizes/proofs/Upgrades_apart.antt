@@ -4,8 +4,10 @@ use Rattle.std.proofs.Common.{Bool, true, false}
 use Rattle.std.specs.Prelude.{if◌then◌else◌}
 use Rattle.std.proofs.Math.Seq.{take-length}
 use Rattle.gq_model.specs.machine.Amounts.{Amount, amount, counts_caps}
+use Rattle.gq_model.specs.machine.Scenario.{Interfaces, System}
 use Rattle.gq_verify.specs.Saturated_numbers.{saturated}
-use Rattle.gq_sizes.specs.Least.{beyond, caps_of, least_upgrades}
+use Rattle.gq_sizes.specs.Least.{beyond, caps_of, least_interfaces, least_upgrades}
+use Rattle.gq_sizes.specs.Size.{Gift}
 use Rattle.gq_sizes.specs.Saturated_tables.{row}
 use Rattle.gq_sizes.proofs.Capability_need_rounds.{row_get}
 
@@ -55,3 +57,27 @@ upgrades_joined sum (b ∷ made) (u ∷ upgrades) a l some any is first rest =
     let after =
     sym (rest_all b made) ∙ (rest ∙ ((λ j. least_upgrades sum (add-one l j) (rest_all u upgrades j)))) in
     (λ j. (sym is ∙ first) j ∷ after j)
+
+-- and the other way round: what the first upgrade and those after it are
+pub record ArePart (sum : ℕ → Amount) (made upgrades : List Amount) (a : Amount) (l : ℕ) : Type 0 where
+  pub first : a ≡ beyond (sum (suc l)) (sum l)
+  pub rest : take (length made - 1) (drop 1 made) ≡ least_upgrades sum (l + 1) (take (length upgrades - 1) (drop 1 upgrades))
+
+pub upgrades_parted : (sum : ℕ → Amount) (made upgrades : List Amount) (a : Amount) (l : ℕ) → 1 ≤ length made → 1 ≤ length upgrades → a ≡ get_or made 0 a
+    → made ≡ least_upgrades sum l upgrades → ArePart sum made upgrades a l
+upgrades_parted sum [] upgrades a l some any is e = absurd (omega (arith, some))
+upgrades_parted sum (b ∷ made) [] a l some any is e = absurd (omega (arith, any))
+upgrades_parted sum (b ∷ made) (u ∷ upgrades) a l some any is e =
+    record {
+      first = is ∙ ap (λ xs. get_or xs 0 b) e;
+      rest = rest_all b made ∙ (ap (drop 1) e ∙ sym (λ j. least_upgrades sum (add-one l j) (rest_all u upgrades j)));
+    }
+
+-- there are as many as there were
+pub as_many : (sum : ℕ → Amount) (l : ℕ) (upgrades : List Amount) → length (least_upgrades sum l upgrades) ≡ length upgrades
+as_many sum l [] = refl
+as_many sum l (a ∷ rest) = ap suc (as_many sum (suc l) rest)
+
+pub all_interfaces : (version : ℕ) (all : System) (given : List Gift) (ifs : Interfaces) → length (least_interfaces version all given ifs) ≡ length ifs
+all_interfaces version all given [] = refl
+all_interfaces version all given (e ∷ rest) = ap suc (all_interfaces version all given rest)

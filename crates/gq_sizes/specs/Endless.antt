@@ -1,11 +1,12 @@
 -- Where no number of capabilities is enough: sessions that hold one another without end.
-use Rattle.std.specs.Prelude.{◌≡◌, ℕ, zero, suc, ◌+◌, ◌≤◌, Bool, false, ◌&&◌, ◌||◌, List, length, Option, Some, None, is_some, slice_get, true}
+use Rattle.std.specs.Prelude.{◌≡◌, ℕ, zero, suc, ◌+◌, ◌≤◌, Bool, false, ◌&&◌, ◌||◌, if◌then◌else◌, List, [], ◌∷◌, length}
+use Rattle.std.specs.Prelude.{Option, Some, None, is_some, slice_get, true}
 use Rattle.gq_model.specs.declared.program.Section.{Section}
 use Rattle.gq_model.specs.declared.program.Section.TheVariants.{Main}
 use Rattle.gq_model.specs.machine.Accounts.{leaf_count}
 use Rattle.gq_model.specs.machine.Lists.{any_of}
 use Rattle.gq_model.specs.machine.Program.{Statements}
-use Rattle.gq_model.specs.machine.Scenario.{Interface, Nodes, End, Leaf_node, Init_node, Component, Scenario, System, interface_in, system}
+use Rattle.gq_model.specs.machine.Scenario.{Interface, Interfaces, Nodes, End, Leaf_node, Init_node, Component, Scenario, System, interface_in, system}
 use Rattle.gq_model.specs.rules.Kinds.{Kind, Link_kind, AbstractState, Subject}
 use Rattle.gq_model.specs.rules.Use.{subject}
 use Rattle.gq_sizes.specs.Size.{is_named, is_up_to, rounds, section_points, starts_after}
@@ -72,11 +73,32 @@ children_endless all x (Init_node node children rest) = children_endless all x c
 
 -- SCENARIOS
 
+-- sessions of each interface end, at each level that it has: none holds one that holds another, and so on without end
+abbrev pub SessionsEnd : Scenario → Type 0
+SessionsEnd s = (service : List ℕ) (i : Interface) (l : ℕ) → interface_in service s.interfaces ≡ Some i → l ≤ length i.upgrades
+    → is_endless (system (unsized s)) service l ≡ false
+
+-- sessions of a service do not end, at some level that its interface has
+pub record IsWithoutEnd (s : Scenario) (service : List ℕ) : Type 0 where
+  pub interface : Interface
+  pub level : ℕ
+  pub declared : interface_in service s.interfaces ≡ Some interface
+  pub within : level ≤ length interface.upgrades
+  pub endless : is_endless (system (unsized s)) service level ≡ true
+
+-- so it is at one of the levels up to one
+abbrev pub endless_up_to : System → List ℕ → ℕ → Bool
+endless_up_to all service zero = is_endless all service 0
+endless_up_to all service (suc l) = is_endless all service (suc l) || endless_up_to all service l
+
+-- the first service of which it is so at a level that its interface has
+abbrev pub first_endless : System → Interfaces → Option (List ℕ)
+first_endless all [] = None
+first_endless all (e ∷ rest) = if endless_up_to all e.0 (length e.1.upgrades) then Some e.0 else first_endless all rest
+
 -- enough capabilities can be given for sessions of each interface, at each level that it has
 abbrev pub HaveEnds : Scenario → Type 0
-HaveEnds s =
-    counts_caps s.version ≡ true → (service : List ℕ) (i : Interface) (l : ℕ) → interface_in service s.interfaces ≡ Some i → l ≤ length i.upgrades
-    → is_endless (system (unsized s)) service l ≡ false
+HaveEnds s = counts_caps s.version ≡ true → SessionsEnd s
 
 -- and to each of these nodes, of which the first leaf is the x-th
 abbrev pub NodesEnd : System → ℕ → Nodes → Type 0

@@ -1,14 +1,14 @@
 -- Statements that give for sessions just what the interfaces ask.
-use Rattle.std.specs.Prelude.{◌≡◌, ℕ, ◌-◌, ◌==◌, ◌&&◌, Bool, true, List, map, get_or}
+use Rattle.std.specs.Prelude.{◌≡◌, ℕ, ◌-◌, ◌≤◌, ◌==◌, ◌&&◌, Bool, true, List, length, map, get_or, Some}
 use Rattle.gq_model.specs.declared.program.Section.{Section}
-use Rattle.gq_model.specs.machine.Amounts.{Amount}
+use Rattle.gq_model.specs.machine.Amounts.{Ram, Amount}
 use Rattle.gq_model.specs.machine.Lists.{all_of}
 use Rattle.gq_model.specs.machine.Program.{Statements}
-use Rattle.gq_model.specs.machine.Scenario.{Component, Interface, Interfaces, Scenario, interface_in, number_of, system}
-use Rattle.gq_model.specs.rules.Kinds.{Subject}
+use Rattle.gq_model.specs.machine.Scenario.{Component, Interface, Interfaces, Scenario, System, interface_in, number_of, system}
+use Rattle.gq_model.specs.rules.Kinds.{Subject, need_of}
 use Rattle.gq_model.specs.rules.Use.{subject}
 use Rattle.gq_verify.specs.Visits.{Sight, At_statement, At_point, section_sights}
-use Rattle.gq_sizes.specs.Size.{Gift, gift_of, open_at}
+use Rattle.gq_sizes.specs.Size.{Gift, gift_of, needed, open_at}
 use Rattle.gq_scenario.specs.Without_quantities.{unsized}
 
 -- the bytes that an interface asks for its upgrade to a level
@@ -35,6 +35,16 @@ leaf_gives_right interfaces v =
     all_of (λ (p : Section × Statements). all_of (gives_right interfaces) (section_sights v p.0)) v.program.sections
 
 -- each `open` of a scenario gives just the need of its interface, and each `upgrade` just its upgrade
-abbrev pub GivesLeast : Scenario → Type 0
-GivesLeast s =
+abbrev pub StatementsGive : Scenario → Type 0
+StatementsGive s =
     let all = system (unsized s) in all_of (λ (c : Component). leaf_gives_right s.interfaces (subject all c)) all.components ≡ true
+
+-- what each interface asks up to each level that it has is just the bytes that sessions of that level need, so nothing is given before it is needed
+abbrev pub AskJust : System → Interfaces → Type 0
+AskJust all interfaces = (service : List ℕ) (i : Interface) (l : ℕ) → interface_in service interfaces ≡ Some i → l ≤ length i.upgrades
+    → (need_of i l).ram ≡ needed (λ _ _. 0) Ram all service i l
+
+-- statements give just what the interfaces ask, and the interfaces ask just what sessions need
+pub record GivesLeast (s : Scenario) : Type 0 where
+  pub statements : StatementsGive s
+  pub just : AskJust (system (unsized s)) s.interfaces

@@ -1,12 +1,12 @@
 -- A scenario with the least quantities in place of its own, and what is said of it.
-use Rattle.std.specs.Prelude.{◌≡◌, ℕ, suc, ◌+◌, ◌-◌, ◌%◌, ◌≤◌, if◌then◌else◌, List, [], ◌∷◌, length, Some, true}
+use Rattle.std.specs.Prelude.{◌≡◌, ℕ, suc, ◌+◌, ◌-◌, ◌%◌, ◌≤◌, if◌then◌else◌, List, [], ◌∷◌, length, Some, true, false}
 use Rattle.gq_model.specs.machine.Accounts.{leaf_count}
 use Rattle.gq_model.specs.machine.Amounts.{Ram, Caps, Amount, amount, counts_caps}
 use Rattle.gq_model.specs.machine.Scenario.{Interface, Interfaces, Nodes, End, Leaf_node, Init_node, Scenario, System, system, interface_in}
 use Rattle.gq_model.specs.rules.Kinds.{need_of}
 use Rattle.gq_laws.specs.Sound_scenarios.{IsSound}
 use Rattle.gq_sizes.specs.Size.{Gift, all_gifts, all_short, children_least, least_at, least_caps, ram_sum, root_least}
-use Rattle.gq_sizes.specs.Endless.{NoneEndless}
+use Rattle.gq_sizes.specs.Endless.{NodesEnd, NoneEndless, children_endless}
 use Rattle.gq_scenario.specs.Without_quantities.{unsized}
 
 -- capabilities are 0 where the version counts none
@@ -53,6 +53,12 @@ sized s =
       interfaces = least_interfaces s.version all given s.interfaces;
       nodes = least_nodes s.version all 0 s.nodes;
     }
+
+-- a scenario is another with the least quantities, and enough capabilities can be given to each node of it
+pub record IsSized (made s : Scenario) : Type 0 where
+  pub same : made ≡ sized s
+  pub root : counts_caps s.version ≡ true → children_endless (system (unsized s)) 0 s.nodes ≡ false
+  pub nodes : counts_caps s.version ≡ true → NodesEnd (system (unsized s)) 0 s.nodes
 
 -- WHAT IS REPORTED OF A SCENARIO
 

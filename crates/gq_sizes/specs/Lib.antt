@@ -11,3 +11,5 @@ pub mod Least
 pub mod Endless
 pub mod Gives
 pub mod Passing
+pub mod Least_numbers
+pub mod Donated

@@ -23,7 +23,11 @@ row f = f 0 ∷ f 1 ∷ f 2 ∷ f 3 ∷ []
 abbrev pub ram_rows : System → List Gift → Interfaces → List (List ℕ)
 ram_rows all given = map (λ (e : List ℕ × Interface). row (ram_sum all given e.0 e.1))
 
--- the same in capabilities
+-- what sessions need in bytes, up to each level
+abbrev pub needed_rows : System → Interfaces → List (List ℕ)
+needed_rows all = map (λ (e : List ℕ × Interface). row (needed (λ _ _. 0) Ram all e.0 e.1))
+
+-- the least sums in capabilities
 abbrev pub caps_rows : System → Interfaces → List (List ℕ)
 caps_rows all = map (λ (e : List ℕ × Interface). row (λ l. saturated (least_caps all e.0 l)))
 

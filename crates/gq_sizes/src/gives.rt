@@ -1,20 +1,25 @@
-// Whether statements give for sessions just what the interfaces ask.
-ghost use Rattle.std.specs.Prelude.{◌≡◌, ◌+◌, IsTrue, None, IfOk, IfErr, map};
+// Whether statements give for sessions just what the interfaces ask, and these ask just what sessions need.
+ghost use Rattle.std.specs.Prelude.{◌≡◌, ℕ, ◌+◌, ◌*◌, ◌^◌, ◌≤◌, IsTrue, None, IfOk, IfErr, length, map};
 ghost use Rattle.gq_model.specs.machine.Lists.{all_of};
 ghost use Rattle.gq_model.specs.machine.Scenario as model;
 ghost use Rattle.gq_model.specs.machine.Scenario.{interface_in, number_of};
+ghost use Rattle.gq_model.specs.rules.Use.{subject};
 ghost use Rattle.gq_model.specs.texts.Code.{is_section};
 ghost use Rattle.gq_load.specs.Load_faults.{PrintsFault};
 ghost use Rattle.gq_load.specs.Unsized_judgement.{unsized_fault};
 ghost use Rattle.gq_scenario.specs.Without_quantities.{unsized};
 ghost use Rattle.gq_verify.specs.Visits.{section_sights};
-ghost use Rattle.gq_sizes.specs.Gives.{GivesLeast, gives_right, leaf_gives_right, upgrade_to};
+ghost use Rattle.gq_sizes.specs.Gives.{AskJust, GivesLeast, gives_right, leaf_gives_right, upgrade_to};
 ghost use Rattle.gq_sizes.specs.Judged_scenario.{fault_without};
+ghost use Rattle.gq_sizes.specs.Saturated_tables.{row};
+ghost use Rattle.gq_sizes.specs.internal.Just_asked.{asks_above, asks_by};
 
 use crate::faultless_programs::all_verified;
+use crate::needs::needs_ram;
+use crate::point_maxima::LEVELS;
 use gq_load::load_fault::LoadError;
 use gq_load::unsized_scenarios::{Unsized, judge_unsized};
-use gq_program::{Instruction, Interface, Interfaces, Section};
+use gq_program::{Instruction, Interface, Interfaces, Section, Upgrade};
 use gq_resolve::component::{Component, components};
 use gq_rules::{AbstractState, Context};
 use gq_scenario::scenario::Scenario;
@@ -128,7 +133,45 @@ fn all_give(leaves: &[Verified<'_>], interfaces: &Interfaces) -> bool
     true
 }
 
-/// Whether the statements of a scenario give what its interfaces ask, by this one without its quantities.
+/// Whether so many bytes, which are asked up to a level, are just the number of that level; and so with each upgrade above it.
+fn ask_above(upgrades: &[Upgrade], needs: &[u64; LEVELS], level: usize, asked: u64) -> bool
+    requires levels { level + length upgrades.now ≤ 3 }
+    requires small { asked ≤ (level + 1) * 2 ^ 32 }
+    ensures { (f : ℕ → ℕ) → needs.now ≡ row f → result ≡ asks_above f level asked upgrades.now }
+{
+    if asked != needs[level] {
+        return false;
+    }
+    match upgrades {
+        [] => true,
+        [first, more @ ..] => ask_above(more, needs, level + 1, asked + u64::from(first.ram())),
+    }
+}
+
+/// Whether an interface asks just these numbers of bytes, up to each level that it has.
+fn asks(interface: &Interface, needs: &[u64; LEVELS]) -> bool
+    ensures { (f : ℕ → ℕ) → needs.now ≡ row f → result ≡ asks_by f interface.now }
+{
+    ask_above(interface.upgrades(), needs, 0, u64::from(interface.need()))
+}
+
+/// Whether each interface asks just what sessions need, up to each level that it has.
+fn all_ask(components: &[Component<'_>], leaves: &[Verified<'_>], interfaces: &Interfaces) -> bool
+    ensures just { (all : model.System) → components.now ≡ all.components → leaves.now ≡ map (subject all) all.components
+        → IsTrue result → AskJust all interfaces.now }
+    ensures only { (all : model.System) → components.now ≡ all.components → leaves.now ≡ map (subject all) all.components
+        → AskJust all interfaces.now → IsTrue result }
+{
+    for (service, interface) in interfaces.entries() {
+        let needs = needs_ram(components, leaves, service, interface);
+        if !asks(interface, &needs) {
+            return false;
+        }
+    }
+    true
+}
+
+/// Whether the statements of a scenario give what its interfaces ask, and these ask what sessions need, by this one without its quantities.
 fn gives_by(
     alloc: Global,
     scenario: &Scenario,
@@ -140,17 +183,23 @@ fn gives_by(
     requires components { components.now ≡ model.components free.now }
     requires programs { judged.now.programs.items ≡ map (λ c. c.node.program) components.now }
     requires faultless { unsized_fault free.now ≡ None }
-    ensures { IfOk result (λ b. IsTrue b → GivesLeast scenario.now) }
+    ensures least { IfOk result (λ b. IsTrue b → GivesLeast scenario.now) }
+    ensures only { IfOk result (λ b. GivesLeast scenario.now → IsTrue b) }
 {
     let programs = judged.programs.as_slice();
     let leaves = all_verified(alloc, components, programs, free.interfaces())?;
-    Ok(all_give(leaves.as_slice(), scenario.interfaces()))
+    let interfaces = scenario.interfaces();
+    let gives = all_give(leaves.as_slice(), interfaces);
+    let asks = all_ask(components, leaves.as_slice(), interfaces);
+    Ok(gives && asks)
 }
 
-/// Whether the statements of a scenario give what its interfaces ask, by this one without its quantities; or the first fault of this one.
+/// Whether the statements of a scenario give what its interfaces ask, and these ask what sessions need, by this one without its quantities; or the first fault
+/// of this one.
 fn gives_without(alloc: Global, scenario: &Scenario, free: &Scenario) -> Result<bool, LoadError>
     requires { free.now ≡ unsized scenario.now }
     ensures least { IfOk result (λ b. IsTrue b → GivesLeast scenario.now) }
+    ensures only { IfOk result (λ b. GivesLeast scenario.now → IsTrue b) }
     ensures refused { IfErr result (λ e. PrintsFault e (fault_without scenario.now)) }
 {
     let components = components(alloc, free)?;
@@ -158,11 +207,14 @@ fn gives_without(alloc: Global, scenario: &Scenario, free: &Scenario) -> Result<
     Ok(gives_by(alloc, scenario, free, components.as_slice(), &judged)?)
 }
 
-/// Whether each `open` of a scenario gives just the need of its interface, and each `upgrade` just its upgrade.
+/// Whether the statements of a scenario give just what its interfaces ask, and these just what sessions need.
+///
+/// Each `open` gives the need of its interface, and each `upgrade` its upgrade. Up to each level an interface asks the bytes that sessions of that level need.
 ///
 /// Fails with the first fault that no quantity decides, or if the host refuses memory.
 pub fn gives_least(alloc: Global, scenario: &Scenario) -> Result<bool, LoadError>
     ensures least { IfOk result (λ b. IsTrue b → GivesLeast scenario.now) }
+    ensures only { IfOk result (λ b. GivesLeast scenario.now → IsTrue b) }
     ensures refused { IfErr result (λ e. PrintsFault e (fault_without scenario.now)) }
 {
     let free = without_quantities(alloc, scenario)?;

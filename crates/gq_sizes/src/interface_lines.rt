@@ -6,10 +6,11 @@ ghost use Rattle.gq_scenario.specs.Component_trees.{version_number};
 ghost use Rattle.gq_verify.specs.Saturated_numbers.{saturated};
 ghost use Rattle.gq_sizes.specs.Size.{Gift, least_caps, ram_sum};
 ghost use Rattle.gq_sizes.specs.Endless.{is_endless};
+ghost use Rattle.gq_sizes.specs.Least_numbers.{at_least, need_least};
 ghost use Rattle.gq_sizes.specs.Passing.{endless_rows, tests};
 ghost use Rattle.gq_sizes.specs.Size_text.{need_line, unless, upgrade_line};
 ghost use Rattle.gq_sizes.specs.Saturated_tables.{caps_rows, ram_rows, row};
-ghost use Rattle.gq_sizes.specs.internal.Printed_sizes.{interface_lines, need_least, upgrade_lines};
+ghost use Rattle.gq_sizes.specs.internal.Printed_sizes.{interface_lines, upgrade_lines};
 
 use crate::endless::Tests;
 use crate::needs::Needs;
@@ -45,7 +46,7 @@ fn sum_at(sums: &[[u64; LEVELS]], place: usize, level: usize) -> u64
 }
 
 /// Whether no number of capabilities is enough up to a level of the interface at a place; not where there is none.
-fn is_endless_at(endless: &[[bool; LEVELS]], place: usize, level: usize) -> bool
+pub(crate) fn is_endless_at(endless: &[[bool; LEVELS]], place: usize, level: usize) -> bool
     ensures { result ≡ get_or (get_or endless.now place []) level false }
 {
     match endless.get(place) {
@@ -96,13 +97,24 @@ impl Sums {
 
 impl Sums {
     /// What a session of the interface at a place needs at least, to be opened.
-    pub fn least_need(&self, place: usize) -> Least {
+    pub fn least_need(&self, place: usize) -> Least
+        ensures least { result ≡ at_least
+            (amount (get_or (get_or self.now.ram.items place []) 0 0) (get_or (get_or self.now.caps.items place []) 0 0))
+            (get_or (get_or self.now.endless.items place []) 0 false) }
+        ensures small { get_or (get_or self.now.ram.items place []) 0 0 < 2 ^ 64 }
+    {
         least_of(self.need(place), self.is_endless(place, 0))
     }
 
     /// What has to be added at least for the level above one.
     pub fn least_upgrade(&self, place: usize, level: usize) -> Least
         requires { level < 3 }
+        ensures least { result ≡ at_least (amount
+            (get_or (get_or self.now.ram.items place []) (level + 1) 0 - get_or (get_or self.now.ram.items place []) level 0)
+            (get_or (get_or self.now.caps.items place []) (level + 1) 0 - get_or (get_or self.now.caps.items place []) level 0))
+            (get_or (get_or self.now.endless.items place []) (level + 1) false) }
+        ensures small { get_or (get_or self.now.ram.items place []) level 0 < 2 ^ 64 }
+        ensures small_above { get_or (get_or self.now.ram.items place []) (level + 1) 0 < 2 ^ 64 }
     {
         least_of(
             self.upgrade(place, level),

@@ -1,5 +1,5 @@
 // What each quantity of a scenario is at least, in numbers.
-ghost use Rattle.std.specs.Prelude.{◌≡◌, ◌+◌, ◌≤◌, ◌∷◌, [], None, IfOk, IfErr, map};
+ghost use Rattle.std.specs.Prelude.{◌≡◌, ℕ, ◌+◌, ◌≤◌, ◌++◌, ◌∷◌, [], List, None, IfOk, IfErr, OnOk, get_or, map};
 ghost use Rattle.gq_model.specs.machine.Accounts.{leaf_count};
 ghost use Rattle.gq_model.specs.machine.Scenario as model;
 ghost use Rattle.gq_model.specs.rules.Accept as accept;
@@ -8,7 +8,13 @@ ghost use Rattle.gq_load.specs.Unsized_judgement.{unsized_fault};
 ghost use Rattle.gq_scenario.specs.Component_trees.{nodes_of};
 ghost use Rattle.gq_scenario.specs.Without_quantities.{unsized};
 ghost use Rattle.gq_sizes.specs.Judged_scenario.{fault_without};
+ghost use Rattle.gq_sizes.specs.Endless.{children_endless, is_endless};
 ghost use Rattle.gq_sizes.specs.Least.{shorts_of};
+ghost use Rattle.gq_sizes.specs.Least_numbers.{at_least, interface_row, interface_rows, interfaces_least, nodes_least, nodes_row, root_least_printed};
+ghost use Rattle.gq_sizes.specs.Passing.{endless_rows, tests};
+ghost use Rattle.gq_sizes.specs.Saturated_tables.{AreLeast, caps_rows, ram_rows, row};
+ghost use Rattle.gq_sizes.specs.Size.{Gift, least_caps, ram_sum};
+ghost use Rattle.gq_verify.specs.Saturated_numbers.{saturated};
 
 use crate::interface_lines::Sums;
 use crate::least_quantities::{LeastFound, found_of};
@@ -18,6 +24,7 @@ pub use crate::quantity_lines::Least;
 use crate::shorts::push_shorts;
 use gq_load::load_fault::LoadError;
 use gq_load::unsized_scenarios::{Unsized, judge_unsized};
+use gq_program::Interfaces;
 use gq_resolve::component::{Component, components};
 use gq_scenario::scenario::{Node, Nodes, Scenario};
 use gq_scenario::without_quantities::without_quantities;
@@ -35,7 +42,12 @@ pub struct Leasts {
 }
 
 /// What each quantity of the interface at a place is at least.
-fn least_interface(sums: &Sums, place: usize) -> [Least; LEVELS] {
+fn least_interface(sums: &Sums, place: usize) -> [Least; LEVELS]
+    ensures { (all : model.System) (given : List Gift) (e : List ℕ × model.Interface)
+        → get_or sums.now.ram.items place [] ≡ row (ram_sum all given e.0 e.1)
+        → get_or sums.now.caps.items place [] ≡ row (λ l. saturated (least_caps all e.0 l))
+        → get_or sums.now.endless.items place [] ≡ tests (is_endless all e.0) → result ≡ interface_row all given e }
+{
     [
         sums.least_need(place),
         sums.least_upgrade(place, 0),
@@ -44,17 +56,21 @@ fn least_interface(sums: &Sums, place: usize) -> [Least; LEVELS] {
     ]
 }
 
-/// What the quantities of so many interfaces are at least.
+/// What the quantities of interfaces are at least.
 fn least_interfaces(
     alloc: Global,
+    interfaces: &Interfaces,
     sums: &Sums,
-    count: usize,
-) -> Result<Vec<[Least; LEVELS]>, AllocError> {
-    let mut interfaces = Vec::new(alloc);
-    for place in 0..count {
-        interfaces.push(least_interface(sums, place))?;
+) -> Result<Vec<[Least; LEVELS]>, AllocError>
+    ensures { (all : model.System) (given : List Gift) → sums.now.ram.items ≡ ram_rows all given interfaces.now
+        → sums.now.caps.items ≡ caps_rows all interfaces.now → sums.now.endless.items ≡ endless_rows all interfaces.now
+        → IfOk result (λ l. l.items ≡ interface_rows all given interfaces.now) }
+{
+    let mut least = Vec::new(alloc);
+    for (place, _entry) in interfaces.entries().iter().enumerate() {
+        least.push(least_interface(sums, place))?;
     }
-    Ok(interfaces)
+    Ok(least)
 }
 
 /// Puts what nodes need at least at the end, of which the first leaf has a number; and returns the number of the leaf after them.
@@ -66,6 +82,8 @@ fn push_nodes(
     first: usize,
 ) -> Result<usize, AllocError>
     requires { first + leaf_count nodes.now ≤ 64 }
+    ensures least { (all : model.System) → AreLeast all leaves.now.least.now leaves.now.endless.now
+        → OnOk result (least.new.items ≡ least.old.items ++ nodes_row all first nodes.now) }
     ensures next { IfOk result (λ next. next ≡ first + leaf_count nodes.now) }
 {
     let mut next = first;
@@ -84,6 +102,8 @@ fn push_node(
     first: usize,
 ) -> Result<usize, AllocError>
     requires { first + leaf_count (nodes_of (node.now ∷ [])) ≤ 64 }
+    ensures least { (all : model.System) → AreLeast all leaves.now.least.now leaves.now.endless.now
+        → OnOk result (least.new.items ≡ least.old.items ++ nodes_row all first (nodes_of (node.now ∷ []))) }
     ensures next { IfOk result (λ next. next ≡ first + leaf_count (nodes_of (node.now ∷ []))) }
 {
     match node {
@@ -103,7 +123,11 @@ fn least_nodes(
     alloc: Global,
     scenario: &Scenario,
     found: &LeastFound,
-) -> Result<Vec<Least>, AllocError> {
+) -> Result<Vec<Least>, AllocError>
+    ensures { (all : model.System) → AreLeast all found.now.leaves.items found.now.endless.items
+        → IfOk result (λ l. l.items ≡ at_least (root_least_printed all scenario.now.nodes) (children_endless all 0 scenario.now.nodes)
+        ∷ nodes_row all 0 scenario.now.nodes) }
+{
     let _count = scenario.leaf_count();
     let leaves = Leaves {
         least: found.leaves.as_slice(),
@@ -128,7 +152,9 @@ fn leasts_of(
     requires programs { judged.now.programs.items ≡ map (λ c. c.node.program) components.now }
     requires budgets { judged.now.budgets.items ≡ accept.budgets free.now }
     requires faultless { unsized_fault free.now ≡ None }
-    ensures { IfOk result (λ l. l.shorts.items ≡ shorts_of scenario.now) }
+    ensures interfaces { IfOk result (λ l. l.interfaces.items ≡ interfaces_least scenario.now) }
+    ensures nodes { IfOk result (λ l. l.nodes.items ≡ nodes_least scenario.now) }
+    ensures shorts { IfOk result (λ l. l.shorts.items ≡ shorts_of scenario.now) }
 {
     let found = found_of(alloc, free, components, judged)?;
     let interfaces = free.interfaces();
@@ -136,7 +162,7 @@ fn leasts_of(
     let programs = judged.programs.as_slice();
     push_shorts(&mut shorts, interfaces, &found.sums, components, programs)?;
     Ok(Leasts {
-        interfaces: least_interfaces(alloc, &found.sums, interfaces.entries().len())?,
+        interfaces: least_interfaces(alloc, scenario.interfaces(), &found.sums)?,
         nodes: least_nodes(alloc, scenario, &found)?,
         shorts,
     })
@@ -145,6 +171,8 @@ fn leasts_of(
 /// What each quantity of a scenario is at least, by this one without its quantities; or the first fault of this one.
 fn leasts_without(alloc: Global, scenario: &Scenario, free: &Scenario) -> Result<Leasts, LoadError>
     requires { free.now ≡ unsized scenario.now }
+    ensures interfaces { IfOk result (λ l. l.interfaces.items ≡ interfaces_least scenario.now) }
+    ensures nodes { IfOk result (λ l. l.nodes.items ≡ nodes_least scenario.now) }
     ensures shorts { IfOk result (λ l. l.shorts.items ≡ shorts_of scenario.now) }
     ensures faultless { IfOk result (λ l. fault_without scenario.now ≡ None) }
     ensures refused { IfErr result (λ e. PrintsFault e (fault_without scenario.now)) }
@@ -156,8 +184,10 @@ fn leasts_without(alloc: Global, scenario: &Scenario, free: &Scenario) -> Result
 
 /// What each quantity of a scenario is at least, or its first fault that no quantity decides.
 ///
-/// Whether these numbers are the least ones is for `is_sized` to say, of a scenario that has them.
+/// The numbers are those that `size` prints. A scenario that has them is the one with the least quantities (`is_sized`).
 pub fn least_quantities(alloc: Global, scenario: &Scenario) -> Result<Leasts, LoadError>
+    ensures interfaces { IfOk result (λ l. l.interfaces.items ≡ interfaces_least scenario.now) }
+    ensures nodes { IfOk result (λ l. l.nodes.items ≡ nodes_least scenario.now) }
     ensures shorts { IfOk result (λ l. l.shorts.items ≡ shorts_of scenario.now) }
     ensures faultless { IfOk result (λ l. fault_without scenario.now ≡ None) }
     ensures refused { IfErr result (λ e. PrintsFault e (fault_without scenario.now)) }

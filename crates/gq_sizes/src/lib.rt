@@ -18,11 +18,14 @@
 //! - `specs/Size`: how much is needed,
 //! - `specs/Endless`: where no number of capabilities is enough,
 //! - `specs/Least`: the scenario with the least quantities in place of its own,
-//! - `specs/Size_text`: the text, by that scenario.
+//! - `specs/Size_text`: the text, by that scenario,
+//! - `specs/Least_numbers`: the numbers of that text, in lists,
+//! - `specs/Gives`: statements that give just what the interfaces ask, and interfaces that ask just what sessions need,
+//! - `specs/Donated`: what the statements are to give for that.
 //!
 //! Modules: least quantities (`needs`, `gifts`, `leaf_needs`) and their lines (`size`, by `interface_lines`, `shorts` and `node_lines`). What is least in
-//! numbers (`leasts`, `donations`, `least_quantities`). Whether a scenario has the least quantities of another (`sized`, `same`), and gives what its interfaces
-//! ask (`gives`).
+//! numbers (`leasts`, `donations`, `least_quantities`). Whether a scenario has the least quantities of another (`sized`, `same`), gives what its interfaces
+//! ask, and asks what sessions need (`gives`).
 #![tactic(auto)]
 
 pub mod donations;
@@ -40,7 +43,7 @@ mod needs;
 mod node_lines;
 mod point_maxima;
 mod quantity_lines;
-mod same;
+pub mod same;
 mod section_levels;
 mod shorts;
 pub mod size;

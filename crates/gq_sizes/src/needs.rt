@@ -8,7 +8,7 @@ ghost use Rattle.gq_verify.specs.Saturated_numbers.{saturated};
 ghost use Rattle.gq_sizes.specs.Size.{Gift, all_gifts, asked_above, is_named, is_up_to, leaf_needed, needed, ram_sum};
 ghost use Rattle.gq_sizes.specs.Point_maxima.{given_in};
 ghost use Rattle.gq_sizes.specs.Needing.{gift_row, needed_of};
-ghost use Rattle.gq_sizes.specs.Saturated_tables.{AreOf, caps_rows, ram_rows, round_rows, row, sum_rows};
+ghost use Rattle.gq_sizes.specs.Saturated_tables.{AreOf, caps_rows, needed_rows, ram_rows, round_rows, row, sum_rows};
 
 use crate::gifts::{Gifts, given_above, least_gifts};
 use crate::point_maxima::{LEVELS, LeastGifts, most_caps, most_ram};
@@ -144,7 +144,7 @@ fn needed_caps(
 }
 
 /// What sessions of an interface need in bytes, up to each level.
-fn needs_ram(
+pub(crate) fn needs_ram(
     components: &[Component<'_>],
     leaves: &[Verified<'_>],
     service: &Name,
@@ -219,23 +219,19 @@ pub(crate) fn least_ram(
     Ok(sums)
 }
 
-/// The greatest numbers up to each level.
-fn rising(needs: [u64; LEVELS]) -> [u64; LEVELS] {
-    let one = needs[1].max(needs[0]);
-    let two = needs[2].max(one);
-    [needs[0], one, two, needs[3].max(two)]
-}
-
 /// What sessions of each interface need in bytes, up to each level, whatever is given for upgrades.
 pub(crate) fn free_ram(
     alloc: Global,
     components: &[Component<'_>],
     leaves: &[Verified<'_>],
     interfaces: &Interfaces,
-) -> Result<Needs, AllocError> {
+) -> Result<Needs, AllocError>
+    ensures { (all : System) → components.now ≡ all.components → leaves.now ≡ map (subject all) all.components →
+        IfOk result (λ n. n.items ≡ needed_rows all interfaces.now) }
+{
     let mut needs = Vec::new(alloc);
     for (service, interface) in interfaces.entries() {
-        needs.push(rising(needs_ram(components, leaves, service, interface)))?;
+        needs.push(needs_ram(components, leaves, service, interface))?;
     }
     Ok(needs)
 }

@@ -46,7 +46,7 @@ impl<'a> LeastGifts<'a> {
     }
 
     /// What is given at least for a session of a service and a level.
-    fn of(&self, service: &[u8], level: u8) -> u64
+    pub fn of(&self, service: &[u8], level: u8) -> u64
         ensures { result ≡ given_in self.now.interfaces.now self.now.sums.now service.now level }
     {
         match self.interfaces.place(service) {

@@ -10,15 +10,17 @@ use gq_scenario::source::Source;
 use gq_scenario::text_pieces::same_bytes;
 
 /// Whether two names are one.
-pub(crate) fn same_name(a: &Name, b: &Name) -> bool
-    ensures { IsTrue result → a.now ≡ b.now }
+pub fn same_name(a: &Name, b: &Name) -> bool
+    ensures same { IsTrue result → a.now ≡ b.now }
+    ensures only { a.now ≡ b.now → IsTrue result }
 {
     same_bytes(a.as_bytes(), b.as_bytes())
 }
 
 /// Whether two names are one, or there is neither.
-pub(crate) fn same_names(a: Option<&Name>, b: Option<&Name>) -> bool
-    ensures { IsTrue result → option_map (λ n. n.now) a.entry ≡ option_map (λ n. n.now) b.entry }
+pub fn same_names(a: Option<&Name>, b: Option<&Name>) -> bool
+    ensures same { IsTrue result → option_map (λ n. n.now) a.entry ≡ option_map (λ n. n.now) b.entry }
+    ensures only { option_map (λ n. n.now) a.entry ≡ option_map (λ n. n.now) b.entry → IsTrue result }
 {
     match (a, b) {
         (Some(a), Some(b)) => same_name(a, b),
@@ -28,8 +30,9 @@ pub(crate) fn same_names(a: Option<&Name>, b: Option<&Name>) -> bool
 }
 
 /// Whether two versions are one.
-pub(crate) fn same_version(a: Version, b: Version) -> bool
-    ensures { IsTrue result → a ≡ b }
+pub fn same_version(a: Version, b: Version) -> bool
+    ensures same { IsTrue result → a ≡ b }
+    ensures only { a ≡ b → IsTrue result }
 {
     match (a, b) {
         (Version::One, Version::One) => true,
@@ -41,7 +44,8 @@ pub(crate) fn same_version(a: Version, b: Version) -> bool
 
 /// Whether two routes lead to the same place.
 fn same_target(a: &Target, b: &Target) -> bool
-    ensures { IsTrue result → target_of a.now ≡ target_of b.now }
+    ensures same { IsTrue result → target_of a.now ≡ target_of b.now }
+    ensures only { target_of a.now ≡ target_of b.now → IsTrue result }
 {
     match (a, b) {
         (Target::Child(a), Target::Child(b)) => same_name(a, b),
@@ -53,14 +57,16 @@ fn same_target(a: &Target, b: &Target) -> bool
 
 /// Whether two routes are the same.
 fn same_route(a: &Route, b: &Route) -> bool
-    ensures { IsTrue result → a.now ≡ b.now }
+    ensures same { IsTrue result → a.now ≡ b.now }
+    ensures only { a.now ≡ b.now → IsTrue result }
 {
     same_names(a.service(), b.service()) && same_target(a.target(), b.target())
 }
 
 /// Whether two lists of routes are the same.
 fn same_list(a: &[Route], b: &[Route]) -> bool
-    ensures { IsTrue result → a.now ≡ b.now }
+    ensures same { IsTrue result → a.now ≡ b.now }
+    ensures only { a.now ≡ b.now → IsTrue result }
 {
     match (a, b) {
         ([], []) => true,
@@ -70,8 +76,9 @@ fn same_list(a: &[Route], b: &[Route]) -> bool
 }
 
 /// Whether two lists of routes are the same, or there is neither.
-pub(crate) fn same_routes(a: Option<&[Route]>, b: Option<&[Route]>) -> bool
-    ensures { IsTrue result → option_map (λ r. r.now) a.entry ≡ option_map (λ r. r.now) b.entry }
+pub fn same_routes(a: Option<&[Route]>, b: Option<&[Route]>) -> bool
+    ensures same { IsTrue result → option_map (λ r. r.now) a.entry ≡ option_map (λ r. r.now) b.entry }
+    ensures only { option_map (λ r. r.now) a.entry ≡ option_map (λ r. r.now) b.entry → IsTrue result }
 {
     match (a, b) {
         (Some(a), Some(b)) => same_list(a, b),
@@ -81,8 +88,9 @@ pub(crate) fn same_routes(a: Option<&[Route]>, b: Option<&[Route]>) -> bool
 }
 
 /// Whether two lists of offers are the same.
-pub(crate) fn same_offers(a: &[(Name, Name)], b: &[(Name, Name)]) -> bool
-    ensures { IsTrue result → a.now ≡ b.now }
+pub fn same_offers(a: &[(Name, Name)], b: &[(Name, Name)]) -> bool
+    ensures same { IsTrue result → a.now ≡ b.now }
+    ensures only { a.now ≡ b.now → IsTrue result }
 {
     match (a, b) {
         ([], []) => true,
@@ -94,15 +102,17 @@ pub(crate) fn same_offers(a: &[(Name, Name)], b: &[(Name, Name)]) -> bool
 }
 
 /// Whether two lists of numbers are the same.
-pub(crate) fn same_numbers(a: &[u32], b: &[u32]) -> bool
-    ensures { IsTrue result → a.now ≡ b.now }
+pub fn same_numbers(a: &[u32], b: &[u32]) -> bool
+    ensures same { IsTrue result → a.now ≡ b.now }
+    ensures only { a.now ≡ b.now → IsTrue result }
 {
     a == b
 }
 
 /// Whether two programs are given alike.
-pub(crate) fn same_source(a: &Source, b: &Source) -> bool
-    ensures { IsTrue result → source_of a.now ≡ source_of b.now }
+pub fn same_source(a: &Source, b: &Source) -> bool
+    ensures same { IsTrue result → source_of a.now ≡ source_of b.now }
+    ensures only { source_of a.now ≡ source_of b.now → IsTrue result }
 {
     match (a, b) {
         (Source::Text(a), Source::Text(b)) => same_bytes(a.as_slice(), b.as_slice()),
@@ -112,8 +122,9 @@ pub(crate) fn same_source(a: &Source, b: &Source) -> bool
 }
 
 /// Whether the sessions of two interfaces may cost no more of the same.
-pub(crate) fn same_counts(a: &Interface, b: &Interface) -> bool
-    ensures { IsTrue result → a.now.counted ≡ b.now.counted }
+pub fn same_counts(a: &Interface, b: &Interface) -> bool
+    ensures same { IsTrue result → a.now.counted ≡ b.now.counted }
+    ensures only { a.now.counted ≡ b.now.counted → IsTrue result }
 {
     match (a.counts(), b.counts()) {
         (Counts::Nothing, Counts::Nothing) => true,

@@ -1,5 +1,6 @@
 // Scenarios that have the least quantities of another.
-ghost use Rattle.std.specs.Prelude.{◌≡◌, ℕ, suc, ◌+◌, ◌*◌, ◌^◌, ◌<◌, ◌≤◌, Bool, true, false, List, [], ◌∷◌, length, get_or, IsTrue, IfOk, IfErr, IfSome};
+ghost use Rattle.std.specs.Prelude.{◌≡◌, ℕ, suc, ◌+◌, ◌*◌, ◌^◌, ◌<◌, ◌≤◌, Bool, true, false, List, [], ◌∷◌, length, get_or};
+ghost use Rattle.std.specs.Prelude.{IsTrue, IfOk, IfErr, IfSome, IsSome, OnSome};
 ghost use Rattle.gq_model.specs.machine.Accounts.{leaf_count};
 ghost use Rattle.gq_model.specs.machine.Amounts.{Ram, Caps, amount, counts_caps};
 ghost use Rattle.gq_model.specs.machine.Scenario as model;
@@ -8,7 +9,9 @@ ghost use Rattle.gq_scenario.specs.Component_trees.{nodes_of, version_number};
 ghost use Rattle.gq_scenario.specs.Without_quantities.{unsized};
 ghost use Rattle.gq_verify.specs.Saturated_numbers.{saturated};
 ghost use Rattle.gq_sizes.specs.Judged_scenario.{fault_without};
-ghost use Rattle.gq_sizes.specs.Least.{beyond, caps_of, least_interface, least_interfaces, least_nodes, least_upgrades, sized, sum_at};
+ghost use Rattle.gq_sizes.specs.Endless.{children_endless};
+ghost use Rattle.gq_sizes.specs.Least.{IsSized, beyond, caps_of, least_interface, least_interfaces, least_upgrades, sum_at};
+ghost use Rattle.gq_sizes.specs.internal.Sized_parts.{AreLeastCaps, AreLeastNodes, IsLeastQuantum};
 ghost use Rattle.gq_sizes.specs.Size.{Gift, all_gifts, children_least, least_caps, ram_sum, root_least};
 ghost use Rattle.gq_sizes.specs.Size_text.{unless};
 ghost use Rattle.gq_sizes.specs.Saturated_tables.{AreLeast, caps_rows, ram_rows, row};
@@ -32,7 +35,8 @@ use std::alloc::Global;
 
 /// Whether so many capabilities are the least, where they are counted; else whether there are none.
 fn are_least_caps(version: Version, caps: u32, least: Option<u64>) -> bool
-    ensures { (m : ℕ) (endless : Bool) → least ≡ unless endless (saturated m) → IsTrue result → caps ≡ caps_of (version_number version) m }
+    ensures least { (m : ℕ) (endless : Bool) → least ≡ unless endless (saturated m) → IsTrue result → AreLeastCaps (version_number version) caps m endless }
+    ensures only { (m : ℕ) (endless : Bool) → least ≡ unless endless (saturated m) → AreLeastCaps (version_number version) caps m endless → IsTrue result }
 {
     if !version.counts_caps() {
         return caps == 0;
@@ -45,19 +49,28 @@ fn are_least_caps(version: Version, caps: u32, least: Option<u64>) -> bool
 
 /// Whether a quantum is the least.
 fn is_least(version: Version, quantum: Quantum, least: Least) -> bool
-    ensures { (n m : ℕ) (endless : Bool) → least.ram ≡ saturated n → least.caps ≡ unless endless (saturated m) → IsTrue result
-        → quantum ≡ amount n (caps_of (version_number version) m) }
+    ensures least { (n m : ℕ) (endless : Bool) → least.ram ≡ saturated n → least.caps ≡ unless endless (saturated m) → IsTrue result
+        → IsLeastQuantum (version_number version) quantum n m endless }
+    ensures only { (n m : ℕ) (endless : Bool) → least.ram ≡ saturated n → least.caps ≡ unless endless (saturated m)
+        → IsLeastQuantum (version_number version) quantum n m endless → IsTrue result }
 {
     quantum.ram() == least.ram && are_least_caps(version, quantum.caps(), least.caps)
 }
 
 /// Whether a leaf is another with this quantum.
 fn is_leaf_sized(version: Version, made: &Leaf, leaf: &Leaf, least: Least) -> bool
-    ensures { (n m : ℕ) (endless : Bool) → least.ram ≡ saturated n → least.caps ≡ unless endless (saturated m) → IsTrue result
+    ensures least { (n m : ℕ) (endless : Bool) → least.ram ≡ saturated n → least.caps ≡ unless endless (saturated m) → IsTrue result
         → made.now ≡ record leaf.now { quantum = amount n (caps_of (version_number version) m) } }
+    ensures ends { (n m : ℕ) (endless : Bool) → least.ram ≡ saturated n → least.caps ≡ unless endless (saturated m) → IsTrue result
+        → counts_caps (version_number version) ≡ true → endless ≡ false }
+    ensures only { (n m : ℕ) (endless : Bool) → least.ram ≡ saturated n → least.caps ≡ unless endless (saturated m)
+        → (counts_caps (version_number version) ≡ true → endless ≡ false)
+        → made.now ≡ record leaf.now { quantum = amount n (caps_of (version_number version) m) } → IsTrue result }
 {
-    is_least(version, made.quantum(), least)
-        && same_name(made.name(), leaf.name())
+    if !is_least(version, made.quantum(), least) {
+        return false;
+    }
+    same_name(made.name(), leaf.name())
         && same_source(made.source(), leaf.source())
         && same_names(made.provides(), leaf.provides())
         && same_names(made.after(), leaf.after())
@@ -67,11 +80,18 @@ fn is_leaf_sized(version: Version, made: &Leaf, leaf: &Leaf, least: Least) -> bo
 
 /// Whether an init is another with this quantum.
 fn is_init_sized(version: Version, made: &Init, init: &Init, least: Least) -> bool
-    ensures { (n m : ℕ) (endless : Bool) → least.ram ≡ saturated n → least.caps ≡ unless endless (saturated m) → IsTrue result
+    ensures least { (n m : ℕ) (endless : Bool) → least.ram ≡ saturated n → least.caps ≡ unless endless (saturated m) → IsTrue result
         → made.now ≡ record init.now { quantum = amount n (caps_of (version_number version) m) } }
+    ensures ends { (n m : ℕ) (endless : Bool) → least.ram ≡ saturated n → least.caps ≡ unless endless (saturated m) → IsTrue result
+        → counts_caps (version_number version) ≡ true → endless ≡ false }
+    ensures only { (n m : ℕ) (endless : Bool) → least.ram ≡ saturated n → least.caps ≡ unless endless (saturated m)
+        → (counts_caps (version_number version) ≡ true → endless ≡ false)
+        → made.now ≡ record init.now { quantum = amount n (caps_of (version_number version) m) } → IsTrue result }
 {
-    is_least(version, made.quantum(), least)
-        && same_name(made.name(), init.name())
+    if !is_least(version, made.quantum(), least) {
+        return false;
+    }
+    same_name(made.name(), init.name())
         && same_routes(made.routes(), init.routes())
         && same_routes(made.default_routes(), init.default_routes())
         && same_offers(made.offers(), init.offers())
@@ -88,7 +108,9 @@ fn nodes_sized(
 ) -> Option<usize>
     requires { first + leaf_count (nodes_of nodes.now) ≤ 64 }
     ensures least { (all : model.System) → AreLeast all leaves.now.least.now leaves.now.endless.now
-        → IfSome result (λ next. nodes_of made.now ≡ least_nodes (version_number version) all first (nodes_of nodes.now)) }
+        → OnSome result (AreLeastNodes (version_number version) all first (nodes_of made.now) (nodes_of nodes.now)) }
+    ensures only { (all : model.System) → AreLeast all leaves.now.least.now leaves.now.endless.now
+        → AreLeastNodes (version_number version) all first (nodes_of made.now) (nodes_of nodes.now) → IsSome result }
     ensures next { IfSome result (λ next. next ≡ first + leaf_count (nodes_of nodes.now)) }
 {
     match (made, nodes) {
@@ -112,7 +134,9 @@ fn node_sized(
 ) -> Option<usize>
     requires { first + leaf_count (nodes_of (node.now ∷ [])) ≤ 64 }
     ensures least { (all : model.System) → AreLeast all leaves.now.least.now leaves.now.endless.now
-        → IfSome result (λ next. nodes_of (made.now ∷ []) ≡ least_nodes (version_number version) all first (nodes_of (node.now ∷ []))) }
+        → OnSome result (AreLeastNodes (version_number version) all first (nodes_of (made.now ∷ [])) (nodes_of (node.now ∷ []))) }
+    ensures only { (all : model.System) → AreLeast all leaves.now.least.now leaves.now.endless.now
+        → AreLeastNodes (version_number version) all first (nodes_of (made.now ∷ [])) (nodes_of (node.now ∷ [])) → IsSome result }
     ensures next { IfSome result (λ next. next ≡ first + leaf_count (nodes_of (node.now ∷ []))) }
 {
     match (made, node) {
@@ -139,6 +163,8 @@ fn is_caps_sum(version: Version, before: u64, caps: u32, least: u64) -> bool
     requires { before ≤ 2 ^ 32 }
     ensures uncounted { counts_caps (version_number version) ≡ false → IsTrue result → caps ≡ 0 }
     ensures counted { counts_caps (version_number version) ≡ true → IsTrue result → before + caps ≡ least }
+    ensures only { (counts_caps (version_number version) ≡ false → caps ≡ 0) → (counts_caps (version_number version) ≡ true → before + caps ≡ least)
+        → IsTrue result }
 {
     if !version.counts_caps() {
         return caps == 0;
@@ -173,6 +199,9 @@ fn is_upgrade_sized(
         (amount (f level) (caps_of (version_number version) (g level))) }
     ensures sum { (g : ℕ → ℕ) → caps.now ≡ row (λ l. saturated (g l)) → counts_caps (version_number version) ≡ true → IsTrue result
         → before + made.now.caps ≡ g (level + 1) }
+    ensures only { (f g : ℕ → ℕ) → ram.now ≡ row f → caps.now ≡ row (λ l. saturated (g l)) → (counts_caps (version_number version) ≡ true → before ≡ g level)
+        → g level ≤ g (level + 1) → made.now ≡ beyond (amount (f (suc level)) (caps_of (version_number version) (g (suc level))))
+        (amount (f level) (caps_of (version_number version) (g level))) → IsTrue result }
 {
     let added = at(ram, level + 1).saturating_sub(at(ram, level));
     if u64::from(made.ram()) != added {
@@ -193,10 +222,14 @@ fn upgrades_sized(
 ) -> bool
     requires levels { level + length upgrades.now ≤ 3 }
     requires small { before ≤ (level + 1) * 65536 }
-    ensures { (all : model.System) (given : List Gift) (service : List ℕ) (i : model.Interface) → ram.now ≡ row (ram_sum all given service i)
+    ensures least { (all : model.System) (given : List Gift) (service : List ℕ) (i : model.Interface) → ram.now ≡ row (ram_sum all given service i)
         → caps.now ≡ row (λ l. saturated (least_caps all service l))
         → (counts_caps (version_number version) ≡ true → before ≡ least_caps all service level) → IsTrue result
         → made.now ≡ least_upgrades (sum_at (version_number version) all given service i) level upgrades.now }
+    ensures only { (all : model.System) (given : List Gift) (service : List ℕ) (i : model.Interface) → ram.now ≡ row (ram_sum all given service i)
+        → caps.now ≡ row (λ l. saturated (least_caps all service l))
+        → (counts_caps (version_number version) ≡ true → before ≡ least_caps all service level)
+        → made.now ≡ least_upgrades (sum_at (version_number version) all given service i) level upgrades.now → IsTrue result }
 {
     match (made, upgrades) {
         ([], []) => true,
@@ -219,9 +252,12 @@ fn is_interface_sized(
     ram: &[u64; LEVELS],
     caps: &[u64; LEVELS],
 ) -> bool
-    ensures { (all : model.System) (given : List Gift) (service : List ℕ) → ram.now ≡ row (ram_sum all given service interface.now)
+    ensures least { (all : model.System) (given : List Gift) (service : List ℕ) → ram.now ≡ row (ram_sum all given service interface.now)
         → caps.now ≡ row (λ l. saturated (least_caps all service l)) → IsTrue result
         → made.now ≡ least_interface (sum_at (version_number version) all given service interface.now) interface.now }
+    ensures only { (all : model.System) (given : List Gift) (service : List ℕ) → ram.now ≡ row (ram_sum all given service interface.now)
+        → caps.now ≡ row (λ l. saturated (least_caps all service l))
+        → made.now ≡ least_interface (sum_at (version_number version) all given service interface.now) interface.now → IsTrue result }
 {
     let given = made.given_caps();
     made.arg() == interface.arg()
@@ -250,8 +286,10 @@ fn interfaces_sized(
     ram: &[[u64; LEVELS]],
     caps: &[[u64; LEVELS]],
 ) -> bool
-    ensures { (all : model.System) (given : List Gift) → ram.now ≡ ram_rows all given interfaces.now → caps.now ≡ caps_rows all interfaces.now
+    ensures least { (all : model.System) (given : List Gift) → ram.now ≡ ram_rows all given interfaces.now → caps.now ≡ caps_rows all interfaces.now
         → IsTrue result → made.now ≡ least_interfaces (version_number version) all given interfaces.now }
+    ensures only { (all : model.System) (given : List Gift) → ram.now ≡ ram_rows all given interfaces.now → caps.now ≡ caps_rows all interfaces.now
+        → made.now ≡ least_interfaces (version_number version) all given interfaces.now → IsTrue result }
 {
     match (made, interfaces, ram, caps) {
         ([], [], _, _) => true,
@@ -273,9 +311,13 @@ fn interfaces_sized(
 fn is_top_sized(made: &Scenario, scenario: &Scenario, leaves: &Leaves<'_>) -> bool
     ensures version { IsTrue result → made.now.version ≡ scenario.now.version }
     ensures total { (all : model.System) → AreLeast all leaves.now.least.now leaves.now.endless.now → IsTrue result
-        → made.now.total ≡ amount (root_least Ram (children_least Ram all 0 scenario.now.nodes))
-        (caps_of scenario.now.version (root_least Caps (children_least Caps all 0 scenario.now.nodes))) }
+        → IsLeastQuantum scenario.now.version made.now.total (root_least Ram (children_least Ram all 0 scenario.now.nodes))
+        (root_least Caps (children_least Caps all 0 scenario.now.nodes)) (children_endless all 0 scenario.now.nodes) }
     ensures routes { IsTrue result → made.now.default_routes ≡ scenario.now.default_routes }
+    ensures only { (all : model.System) → AreLeast all leaves.now.least.now leaves.now.endless.now → made.now.version ≡ scenario.now.version
+        → IsLeastQuantum scenario.now.version made.now.total (root_least Ram (children_least Ram all 0 scenario.now.nodes))
+        (root_least Caps (children_least Caps all 0 scenario.now.nodes)) (children_endless all 0 scenario.now.nodes)
+        → made.now.default_routes ≡ scenario.now.default_routes → IsTrue result }
 {
     let version = scenario.version();
     if !same_version(made.version(), version) {
@@ -294,7 +336,8 @@ fn is_sized_by(made: &Scenario, scenario: &Scenario, found: &LeastFound) -> bool
         (unsized scenario.now).interfaces }
     requires caps { found.now.sums.caps.items ≡ caps_rows (model.system (unsized scenario.now)) (unsized scenario.now).interfaces }
     requires leaves { AreLeast (model.system (unsized scenario.now)) found.now.leaves.items found.now.endless.items }
-    ensures { IsTrue result → made.now ≡ sized scenario.now }
+    ensures sized { IsTrue result → IsSized made.now scenario.now }
+    ensures only { IsSized made.now scenario.now → IsTrue result }
 {
     let _count = scenario.leaf_count();
     let version = scenario.version();
@@ -327,7 +370,8 @@ fn is_sized_without(
     free: &Scenario,
 ) -> Result<bool, LoadError>
     requires { free.now ≡ unsized scenario.now }
-    ensures sized { IfOk result (λ b. IsTrue b → made.now ≡ sized scenario.now) }
+    ensures sized { IfOk result (λ b. IsTrue b → IsSized made.now scenario.now) }
+    ensures only { IfOk result (λ b. IsSized made.now scenario.now → IsTrue b) }
     ensures refused { IfErr result (λ e. PrintsFault e (fault_without scenario.now)) }
 {
     let components = components(alloc, free)?;
@@ -336,11 +380,14 @@ fn is_sized_without(
     Ok(is_sized_by(made, scenario, &found))
 }
 
-/// Whether a scenario is another with the least quantities in place of its own.
+/// Whether a scenario is another with the least quantities in place of its own, and enough capabilities can be given to each node of it.
+///
+/// Capabilities have to be enough only where the version counts them.
 ///
 /// Fails with the first fault of the other scenario that no quantity decides, or if the host refuses memory.
 pub fn is_sized(alloc: Global, made: &Scenario, scenario: &Scenario) -> Result<bool, LoadError>
-    ensures sized { IfOk result (λ b. IsTrue b → made.now ≡ sized scenario.now) }
+    ensures sized { IfOk result (λ b. IsTrue b → IsSized made.now scenario.now) }
+    ensures only { IfOk result (λ b. IsSized made.now scenario.now → IsTrue b) }
     ensures refused { IfErr result (λ e. PrintsFault e (fault_without scenario.now)) }
 {
     let free = without_quantities(alloc, scenario)?;

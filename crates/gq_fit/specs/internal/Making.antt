@@ -1,5 +1,5 @@
 -- What faults say of a text, and of what was made of it.
-use Rattle.std.specs.Prelude.{◌≡◌, ◌≢◌, ℕ, List, [], Result, Ok}
+use Rattle.std.specs.Prelude.{◌≡◌, ◌≢◌, ℕ, List, [], Option, Some, Result, Ok}
 use Rattle.gq_model.specs.machine.Scenario.{Scenario}
 use Rattle.gq_load.specs.Load_faults.{Refuses}
 use Rattle.gq_load.specs.Load.{LoadRefusal, loaded}
@@ -8,6 +8,9 @@ use Rattle.gq_sizes.specs.Gives.{GivesLeast}
 use Rattle.gq_sizes.specs.Least.{sized}
 use Rattle.gq_fit.specs.declared.fit_fault.FitFault.{FitFault}
 use Rattle.gq_fit.specs.declared.fit_fault.FitFault.TheVariants as faults
+use Rattle.gq_fit.specs.declared.fit_fault.NoFit.TheVariants as reasons
+use Rattle.gq_fit.specs.Fitted.{HasCode}
+use Rattle.gq_fit.specs.Refitted.{IsRefitted}
 
 -- a text is refused with this fault
 abbrev pub IsRefusedBy : FitFault → Result Scenario LoadRefusal → Type 0
@@ -23,9 +26,22 @@ IsShort (faults.Short lines) shorts = (lines.items ≡ shorts) × (lines.items �
 IsShort faults.Memory shorts = Unit {0}
 IsShort _ shorts = ⊥
 
--- what was made is accepted, has its least quantities, and gives just what its interfaces ask
-pub record IsGiven (made : List ℕ) : Type 0 where
+-- what was made is accepted, is this scenario but for quantities and amounts, has its least quantities, and gives just what its interfaces ask
+pub record IsGiven (made : List ℕ) (old : Scenario) : Type 0 where
   pub scenario : Scenario
   pub accepted : loaded made ≡ Ok scenario
+  pub refitted : IsRefitted old scenario
   pub least : sized scenario ≡ scenario
   pub gives : GivesLeast scenario
+
+-- sessions of this interface hold one another without end
+abbrev pub IsEndlessFault : FitFault → Option (List ℕ) → Type 0
+IsEndlessFault (faults.NoFit (reasons.Endless name)) endless = endless ≡ Some name
+IsEndlessFault faults.Memory endless = Unit {0}
+IsEndlessFault _ endless = ⊥
+
+-- a leaf's program is code
+abbrev pub IsCodeFault : FitFault → Scenario → Type 0
+IsCodeFault (faults.NoFit (reasons.Code leaf)) s = HasCode leaf s
+IsCodeFault faults.Memory s = Unit {0}
+IsCodeFault _ s = ⊥

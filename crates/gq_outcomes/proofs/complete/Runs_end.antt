@@ -135,15 +135,15 @@ module _ (s : Scenario) (sound : IsSound s) where
   nothing = record { world = start real; text = []; wrong = None }
 
   -- a run stands at a point, and has written its lines
-  record StandsAt (acts : Acts) (p : Point) : Type 0 where
-    world : (run real acts).world ≡ p.world
-    right : (run real acts).wrong ≡ None
-    well : Well s sound p.world
-    count : length p.said ≡ length (components s)
-    lines : (y : ℕ) (c : Component) → slice_get (components s) y ≡ Some c
+  pub record StandsAt (acts : Acts) (p : Point) : Type 0 where
+    pub world : (run real acts).world ≡ p.world
+    pub right : (run real acts).wrong ≡ None
+    pub well : Well s sound p.world
+    pub count : length p.said ≡ length (components s)
+    pub lines : (y : ℕ) (c : Component) → slice_get (components s) y ≡ Some c
         → if_none c.node.provides (own_lines real (λ z. z == y) acts) ≡ get_or p.said y []
 
-  stands_first : StandsAt [] (first_point real)
+  pub stands_first : StandsAt [] (first_point real)
   stands_first =
       let h = first_reaches s in
       record { world = refl; right = refl; well = point_well s sound (first_point real) h; count = h.count; lines = h.lines }
@@ -200,14 +200,14 @@ module _ (s : Scenario) (sound : IsSound s) where
   each_time [] p = p
   each_time (t ∷ turns) p = each_time turns (times t.0 t.1 p)
 
-  stands_all : (turns : List (ℕ × ℕ)) (acts : Acts) (p : Point) → StandsAt acts p → StandsAt (acts ++ turns_alone turns) (each_time turns p)
+  pub stands_all : (turns : List (ℕ × ℕ)) (acts : Acts) (p : Point) → StandsAt acts p → StandsAt (acts ++ turns_alone turns) (each_time turns p)
   stands_all [] acts p h = subst (λ a. StandsAt a p) (sym (append-nil acts)) h
   stands_all (t ∷ turns) acts p h =
       subst (λ a. StandsAt a (each_time turns (times t.0 t.1 p))) (append_assoc acts ((t.0, Turns t.1) ∷ []) (turns_alone turns))
       (stands_all turns (acts ++ ((t.0, Turns t.1) ∷ [])) (times t.0 t.1 p) (stands_more acts t.0 t.1 p h))
 
   -- how a run ends
-  ends_so : (turns : List (ℕ × ℕ)) → ending s (turns_alone turns) ≡ (outcome_of e (each_time turns (first_point real))).text
+  pub ends_so : (turns : List (ℕ × ℕ)) → ending s (turns_alone turns) ≡ (outcome_of e (each_time turns (first_point real))).text
   ends_so turns =
       let p = each_time turns (first_point real) in
       let h = stands_all turns [] (first_point real) stands_first in

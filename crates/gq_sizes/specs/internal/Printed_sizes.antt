@@ -1,29 +1,14 @@
 -- What `size` prints, by what is least of the system without quantities.
-use Rattle.std.specs.Prelude.{ℕ, suc, ◌+◌, ◌-◌, List, [], ◌∷◌, ◌++◌, codes}
+use Rattle.std.specs.Prelude.{ℕ, suc, ◌+◌, List, [], ◌∷◌, ◌++◌, codes}
 use Rattle.gq_model.specs.machine.Accounts.{leaf_count}
-use Rattle.gq_model.specs.machine.Amounts.{Ram, Caps, Amount, amount}
+use Rattle.gq_model.specs.machine.Amounts.{Amount}
 use Rattle.gq_model.specs.machine.Scenario.{Interface, Interfaces, Nodes, End, Leaf_node, Init_node, Scenario, System, below}
-use Rattle.gq_verify.specs.Saturated_numbers.{saturated}
 use Rattle.gq_sizes.specs.Endless.{children_endless, endless_at, is_endless}
-use Rattle.gq_sizes.specs.Size.{Gift, all_gifts, all_short, children_least, least_at, least_caps, ram_sum, root_least}
+pub use Rattle.gq_sizes.specs.Least_numbers.{init_least_printed, leaf_least_printed, need_least, root_least_printed, upgrade_least}
+use Rattle.gq_sizes.specs.Size.{Gift, all_gifts, all_short}
 use Rattle.gq_sizes.specs.Size_text.{need_line, node_line, unless, upgrade_line}
 
 -- INTERFACES
-
--- the least sums of need and upgrades up to a level, as they are printed
-abbrev pub printed_ram : System → List Gift → List ℕ → Interface → ℕ → ℕ
-printed_ram all given service i l = saturated (ram_sum all given service i l)
-
-abbrev pub printed_caps : System → List ℕ → ℕ → ℕ
-printed_caps all service l = saturated (least_caps all service l)
-
-abbrev pub need_least : System → List Gift → List ℕ → Interface → Amount
-need_least all given service i = amount (printed_ram all given service i 0) (printed_caps all service 0)
-
--- what an upgrade from level l has to add at least
-abbrev pub upgrade_least : System → List Gift → List ℕ → Interface → ℕ → Amount
-upgrade_least all given service i l =
-    amount (printed_ram all given service i (suc l) - printed_ram all given service i l) (printed_caps all service (suc l) - printed_caps all service l)
 
 -- upgrades with their own numbers, of which the first is from level l
 abbrev pub upgrade_lines : ℕ → System → List Gift → List ℕ → Interface → ℕ → List Amount → List ℕ
@@ -42,16 +27,6 @@ interface_lines version all given (e ∷ rest) =
     ++ interface_lines version all given rest
 
 -- NODES
-
-abbrev pub leaf_least_printed : System → ℕ → Amount
-leaf_least_printed all x = amount (saturated (least_at Ram all x)) (saturated (least_at Caps all x))
-
-abbrev pub init_least_printed : System → ℕ → Nodes → Amount
-init_least_printed all x nodes = amount (saturated (children_least Ram all x nodes)) (saturated (children_least Caps all x nodes))
-
-abbrev pub root_least_printed : System → Nodes → Amount
-root_least_printed all nodes =
-    amount (saturated (root_least Ram (children_least Ram all 0 nodes))) (saturated (root_least Caps (children_least Caps all 0 nodes)))
 
 -- the lines of these nodes, below this label, of which the first leaf is the x-th
 abbrev pub node_lines : ℕ → System → List ℕ → ℕ → Nodes → List ℕ

@@ -1,8 +1,9 @@
-use Rattle.std.proofs.Common.{◌∙◌, ◌<◌, ◌≤◌, ◌-◌, All, length, subst, sym, arith}
+use Rattle.std.proofs.Common.{◌∙◌, ◌<◌, ◌≤◌, ◌-◌, ◌++◌, All, length, map, subst, sym, arith}
 use Rattle.gq_model.specs.machine.Scenario.{components}
-use Rattle.gq_outcomes.specs.Text.{rows_text}
+use Rattle.gq_outcomes.specs.Text.{many_lines, row_line, rows_of}
 use Rattle.gq_outcomes.specs.internal.Search_states.{HasTurns}
-use Rattle.gq_outcomes.specs.internal.Turn_rows.{rows_from}
+use Rattle.gq_outcomes.specs.internal.Turn_rows.{past_of}
+use Rattle.gq_views.specs.Listing.{joined}
 use Rattle.gq_outcomes.proofs.Outcome_endings.{no_outcome_past, no_outcome_zero, turns_are}
 use Rattle.gq_outcomes.proofs.outcomes.text_of_turns.Goals as goal
 
@@ -33,4 +34,5 @@ returns-clause-text c t h =
     let some : 0 < n = omega arith in
     let less : n - 1 < length c.args.search.now.found.items = omega arith in
     turns_are c.args.walk.now.world.scenario c.args.search.now t h n c.index-found.result.now c.in_ok-text.text.items some less c.index-found.ensures
-    (c.in_ok-text.ensures ∙ (λ i. rows_text (components (c.table.ensures i)) (rows_from (c.as_slice.ensures.value i))))
+    (c.in_ok-text.ensures ∙ (λ i. joined (many_lines (length (c.as_slice.ensures.value i))
+    ++ map (row_line (components (c.table.ensures i))) (rows_of (past_of (c.as_slice.ensures.value i))))))

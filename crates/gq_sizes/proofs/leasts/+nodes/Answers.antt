@@ -2,6 +2,7 @@ use Rattle.std.proofs.Common.{ap, arith}
 use Rattle.gq_model.specs.machine.Accounts.{leaf_count}
 use Rattle.gq_scenario.specs.Sizes.{node_count}
 use Rattle.gq_sizes.proofs.Least_leaves.{count_here, node_small}
+use Rattle.gq_sizes.proofs.Least_number_rows.{node_put}
 use Rattle.gq_sizes.proofs.leasts.+nodes.Goals as goal
 
 pub push_nodes-push_node-requires : goal.push_nodes-push_node-requires
@@ -20,4 +21,10 @@ push_nodes-loop-node-preserved t c =
     let l = c.loop-node in
     let items = c.nodes-node-items.result.now in
     let node = c.node-item.result in
-    record { leaves = omega (arith, l.invariant.leaves, c.in_ok-next.ensures, count_here items l.node-index node c.loop-node-test.true c.node-item.is) }
+    let within = c.loop-node-test.true in
+    let is = c.node-item.is in
+    record {
+      least = λ all e. node_put all items l.node-index node within is l.next c.in_ok-next.next l.least.items c.push_node.new.least.items _
+          c.in_ok-next.ensures.next (c.in_ok-next.ensures.least all e) (l.invariant.least all e);
+      leaves = omega (arith, l.invariant.leaves, c.in_ok-next.ensures.next, count_here items l.node-index node within is);
+    }

@@ -2,9 +2,9 @@ use Rattle.std.proofs.Common.{◌≤◌, ◌∷◌, [], length, ap, arith}
 use Rattle.std.proofs.lemmas.Grind.{common_steps}
 use Rattle.gq_model.specs.machine.Accounts.{leaf_count}
 use Rattle.gq_scenario.specs.Sizes.{node_count}
-use Rattle.gq_scenario.specs.Component_trees.{nodes_of}
+use Rattle.gq_scenario.specs.Component_trees.{nodes_of, version_number}
 use Rattle.gq_scenario.specs.declared.scenario.Node.{Node}
-use Rattle.gq_sizes.proofs.Nodes_apart.{apart}
+use Rattle.gq_sizes.proofs.Nodes_apart.{apart, as_many_nodes}
 use Rattle.gq_sizes.proofs.sized.+nodes.Goals as goal
 
 pub node_sized-nodes_sized-requires : goal.node_sized-nodes_sized-requires
@@ -23,3 +23,11 @@ nodes_sized-nodes_sized-requires t c =
       omega (arith, c.decreases, parts.nodes, parts.some),
       omega (arith, c.requires, parts.leaves, c.in_ok-next-in-len1-up-len1-up.ensures.next),
     )
+
+pub nodes_sized-returns-in_default-clause-only : goal.nodes_sized-returns-in_default-clause-only
+nodes_sized-returns-in_default-clause-only t c all are h =
+    let many = as_many_nodes (version_number c.args.version) all c.args.first c.args.made.now c.args.nodes.now h.same in absurd (grind (arith, common_steps))
+
+pub nodes_sized-returns-in_default-2-clause-only : goal.nodes_sized-returns-in_default-2-clause-only
+nodes_sized-returns-in_default-2-clause-only t c all are h =
+    let many = as_many_nodes (version_number c.args.version) all c.args.first c.args.made.now c.args.nodes.now h.same in absurd (grind (arith, common_steps))

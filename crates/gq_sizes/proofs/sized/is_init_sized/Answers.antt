@@ -1,0 +1,4 @@
+use Rattle.gq_sizes.proofs.sized.is_init_sized.Goals as goal
+
+pub returns-then-same_routes-2-clause-ends : goal.returns-then-same_routes-2-clause-ends
+returns-then-same_routes-2-clause-ends c n m endless ram caps h = (c.is_least.ensures.least n m endless ram caps c.if-not-is_least.false).ends
