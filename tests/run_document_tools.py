@@ -1,6 +1,6 @@
 #!/usr/bin/env python3
-"""tests/run_document_tools.py: tries which names in documents tools/document_names.py takes for false, and how tools/plant_rows.py writes rows, in a small
-repository with a search that is a script. Ends with 0 where all is well."""
+"""tests/run_document_tools.py: tries which names in documents tools/document_names.py takes for false, which files tools/stray_sources.py takes for those of a
+crate, and how tools/plant_rows.py writes rows, in a small repository with a search that is a script. Ends with 0 where all is well."""
 import os
 import pathlib
 import shutil
@@ -13,6 +13,7 @@ TOP = pathlib.Path(__file__).resolve().parent.parent
 sys.path.insert(0, str(TOP / "tools"))
 sys.dont_write_bytecode = True
 from document_names import false_names  # noqa: E402
+from stray_sources import is_in_a_crate  # noqa: E402
 
 # Rows of crates with names that another crate has, or none.
 ROWS = """
@@ -50,6 +51,16 @@ class Names(unittest.TestCase):
     def test_texts(self):
         for text, wanted in TEXTS:
             self.assertEqual(false_names(text), wanted)
+
+
+class Sources(unittest.TestCase):
+    """Code, definitions and proofs, of a repository with one crate."""
+
+    def test_places(self):
+        for path in ("crates/low/src/lib.rt", "crates/low/specs/internal/Lib.antt", "crates/low/proofs/lib/run/Answers.antt"):
+            self.assertTrue(is_in_a_crate(path, {"low": []}), path)
+        for path in ("wip/lib.rt", "wip/proofs/Answers.antt", "crates/high/src/lib.rt", "crates/low/lib.rt", "crates/low/wip/lib.rt", "crates/src/lib.rt"):
+            self.assertFalse(is_in_a_crate(path, {"low": []}), path)
 
 
 class Rows(unittest.TestCase):
