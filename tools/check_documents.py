@@ -26,7 +26,7 @@ TRUSTED = {
     "gq_library/src/loading.rt": None,
     "gq_library/src/reading.rt": None,
     "gq_library/src/running.rt": None,
-    "gq_init/src/counted.rt": None,
+    "gq_output/src/counted.rt": None,
     "gq_command/src/command_line.rt": {"command"},
     "gq_command/src/input.rt": {"read_input"},
     "gq_command/src/stored.rt": {"parted"},

@@ -1,7 +1,8 @@
 -- The program at the end of a text.
 use Rattle.std.proofs.Common.{◌≡◌, ℕ, List, [], ◌∷◌, length, drop, Ok, refl, ap, ◌∙◌, arith}
-use Rattle.gq_model.specs.declared.program.Section.{Section}
-use Rattle.gq_model.specs.machine.Program.{Statements, all_sections}
+use Rattle.gq_model.specs.declared.section.Section.{Section}
+use Rattle.gq_model.specs.machine.Program.{Statements}
+use Rattle.gq_model.specs.machine.Sections.{all_sections}
 use Rattle.gq_model.specs.texts.Text.{OpenBlock, Reading, limits_from, in_order, finished}
 
 -- where nothing comes first there is nothing

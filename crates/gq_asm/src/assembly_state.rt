@@ -10,7 +10,7 @@ use crate::asm_fault::LineError;
 use crate::line_operands::at_end;
 use gq_model::fault::TextFault;
 use gq_model::limits::{GREATEST_DEPTH, GREATEST_STATEMENTS};
-use gq_model::program::Section;
+use gq_model::section::Section;
 use gq_program::{Body, Spare, Statement};
 use std::alloc::Global;
 use std::collections::VecDeque;

@@ -1,31 +1,19 @@
 // Lines outside sections.
 ghost use Rattle.std.specs.Prelude.{◌≡◌, is_some};
-ghost use Rattle.gq_model.specs.machine.Program.{same_section, section_in};
+ghost use Rattle.gq_model.specs.machine.Program.{section_in};
+ghost use Rattle.gq_model.specs.machine.Sections.{row};
 ghost use Rattle.gq_model.specs.texts.Letters.{words};
-ghost use Rattle.gq_model.specs.texts.Text.{numbered, limit_of, heading, local, outside};
+ghost use Rattle.gq_model.specs.texts.Text.{limit_of, heading, headed, local, outside};
 ghost use Rattle.gq_asm.specs.internal.Assembly_state.{AnswersBy, reading_of};
 
 use crate::asm_fault::LineError;
 use crate::assembly_state::{BlockKind, Reading};
 use crate::line_operands::{at_end, next_number};
 use gq_model::fault::TextFault;
-use gq_model::program::Section;
+use gq_model::section::{Section, SectionKind, same_section};
+use gq_model::spelling::same_text;
 use gq_program::Body;
-use gq_program::spelling::same_text;
 use std::alloc::Global;
-
-/// Whether two sections are the same.
-pub fn same_section(section: Section, other: Section) -> bool
-    ensures { result ≡ same_section section other }
-{
-    match (section, other) {
-        (Section::Main, Section::Main) | (Section::Opening, Section::Opening) => true,
-        (Section::Upgrading(level), Section::Upgrading(other)) => level == other,
-        (Section::Calling(level), Section::Calling(other)) => level == other,
-        (Section::Closing(level), Section::Closing(other)) => level == other,
-        _ => false,
-    }
-}
 
 /// The limit of a local, if it was given.
 pub fn limit_of(limits: &[(u8, u32)], local: u8) -> Option<u32>
@@ -83,31 +71,21 @@ impl Reading {
         self.open(alloc, BlockKind::Section(section), line)
     }
 
-    /// `up`.
-    fn upgrading(&mut self, alloc: Global, line: u64, after: &[u8]) -> Result<(), LineError>
-        ensures { AnswersBy (λ _. reading_of self.new) result
-            (numbered 1 3 (words after.now) (λ l more. heading (reading_of self.old) line (Section.Upgrading l) more)) }
+    /// The heading of a section of this kind, whose level stands behind its word, where it has levels.
+    fn headed(
+        &mut self,
+        alloc: Global,
+        line: u64,
+        kind: SectionKind,
+        after: &[u8],
+    ) -> Result<(), LineError>
+        ensures { AnswersBy (λ _. reading_of self.new) result (headed (reading_of self.old) line kind (row kind).levels (words after.now)) }
     {
-        let (level, rest) = next_number(after, 1, 3)?;
-        self.heading(alloc, line, Section::Upgrading(level as u8), rest)
-    }
-
-    /// `call`.
-    fn calling(&mut self, alloc: Global, line: u64, after: &[u8]) -> Result<(), LineError>
-        ensures { AnswersBy (λ _. reading_of self.new) result
-            (numbered 0 3 (words after.now) (λ l more. heading (reading_of self.old) line (Section.Calling l) more)) }
-    {
-        let (level, rest) = next_number(after, 0, 3)?;
-        self.heading(alloc, line, Section::Calling(level as u8), rest)
-    }
-
-    /// `close`.
-    fn closing(&mut self, alloc: Global, line: u64, after: &[u8]) -> Result<(), LineError>
-        ensures { AnswersBy (λ _. reading_of self.new) result
-            (numbered 0 3 (words after.now) (λ l more. heading (reading_of self.old) line (Section.Closing l) more)) }
-    {
-        let (level, rest) = next_number(after, 0, 3)?;
-        self.heading(alloc, line, Section::Closing(level as u8), rest)
+        let Some((least, greatest)) = kind.levels() else {
+            return self.heading(alloc, line, kind.section(0), after);
+        };
+        let (level, rest) = next_number(after, u32::from(least), u32::from(greatest))?;
+        self.heading(alloc, line, kind.section(level as u8), rest)
     }
 
     /// A line outside sections: its first word, and what follows that.
@@ -123,20 +101,8 @@ impl Reading {
         if same_text(word, b"local") {
             return self.local(after);
         }
-        if same_text(word, b"main") {
-            return self.heading(alloc, line, Section::Main, after);
-        }
-        if same_text(word, b"open") {
-            return self.heading(alloc, line, Section::Opening, after);
-        }
-        if same_text(word, b"up") {
-            return self.upgrading(alloc, line, after);
-        }
-        if same_text(word, b"call") {
-            return self.calling(alloc, line, after);
-        }
-        if same_text(word, b"close") {
-            return self.closing(alloc, line, after);
+        if let Some(kind) = SectionKind::of_word(word) {
+            return self.headed(alloc, line, kind, after);
         }
         if same_text(word, b"end") || same_text(word, b"else") {
             return Err(LineError::Fault(TextFault::StrayEnd));

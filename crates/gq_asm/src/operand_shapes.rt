@@ -10,8 +10,10 @@ use crate::asm_fault::LineError;
 use crate::line_operands::{at_end, next_name, next_number, next_slot, next_slot_or_object};
 use crate::says::said_in;
 use gq_model::fault::TextFault;
+use gq_model::limits::GREATEST_ENTRIES;
 use gq_model::program::Instruction;
 use gq_program::{Bare, Shape, WithAmount, WithBytes, WithNumber, WithSlot};
+use gq_tariff::price::GREATEST_PLACE;
 use std::alloc::Global;
 
 /// `out`: without operands.
@@ -74,15 +76,15 @@ pub fn with_amount(statement: WithAmount, after: &[u8]) -> Result<Instruction, T
     Ok(statement.instruction(place, number))
 }
 
-/// `pool`: a slot, how many entries, and the bytes of each.
+/// `pool`: a slot, the bytes of an entry, and how many entries there are at most.
 pub fn pool(after: &[u8]) -> Result<Instruction, TextFault>
     ensures { result ≡ instruction_in after.now (shape_of Shape.Pool) (words after.now) }
 {
     let (place, rest) = next_slot(after)?;
-    let (entries, rest) = next_number(rest, 1, 2048)?;
-    let (bytes, rest) = next_number(rest, 1, 1024)?;
+    let (size, rest) = next_number(rest, 1, GREATEST_PLACE as u32)?;
+    let (count, rest) = next_number(rest, 1, GREATEST_ENTRIES as u32)?;
     at_end(rest)?;
-    Ok(Instruction::MakePool(place, entries as u16, bytes as u16))
+    Ok(Instruction::MakePool(place, size as u16, count as u16))
 }
 
 /// `open`: a slot, the name of a service, and the donation.

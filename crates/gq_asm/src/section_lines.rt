@@ -15,8 +15,9 @@ use crate::operand_shapes::{
 };
 use crate::statement_words::shape_with;
 use gq_model::fault::TextFault;
+use gq_model::limits::GREATEST_ROUNDS;
 use gq_model::program::Instruction;
-use gq_program::spelling::same_text;
+use gq_model::spelling::same_text;
 use gq_program::{Shape, Statement};
 use std::alloc::Global;
 
@@ -38,7 +39,7 @@ impl Reading {
     {
         self.count_statement()?;
         self.find_room()?;
-        let (count, rest) = next_number(after, 1, 65535)?;
+        let (count, rest) = next_number(after, 1, GREATEST_ROUNDS as u32)?;
         at_end(rest)?;
         self.open(alloc, BlockKind::Loop(count as u16), line)
     }

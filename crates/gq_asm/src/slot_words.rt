@@ -5,7 +5,7 @@ ghost use Rattle.gq_model.specs.texts.Spelling.{slot_number, numbered_slot, slot
 use crate::text_numbers::number_in;
 use gq_model::limits::{OWN_SLOTS, SESSION_SLOTS};
 use gq_model::program::OperandSlot;
-use gq_program::spelling::same_text;
+use gq_model::spelling::same_text;
 
 /// The number of a slot, up to high, without a leading zero.
 fn slot_number(text: &[u8], high: u8) -> Option<u8>

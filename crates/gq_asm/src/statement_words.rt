@@ -4,7 +4,7 @@ ghost use Rattle.gq_model.specs.texts.Spelling.{shape_of_word, spellings};
 ghost use Rattle.gq_program.specs.Statement_table.{shape_of};
 
 use gq_model::program::{Form, Operator, Width};
-use gq_program::spelling::same_text;
+use gq_model::spelling::same_text;
 use gq_program::{Bare, Shape, WithAmount, WithBytes, WithNumber, WithSlot, shape_of_word};
 
 /// The statement with this word of two letters.

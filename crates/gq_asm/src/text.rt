@@ -14,13 +14,13 @@ ghost use Rattle.gq_asm.specs.internal.Section_order.{without, IsFirstAt, IsAbse
 
 use crate::asm_fault::{AssembleError, LineError};
 use crate::assembly_state::Reading;
-use crate::headings::{limit_of, same_section};
+use crate::headings::limit_of;
 use crate::line_words::next_word;
 use crate::source_lines::first_line;
 use crate::usual::usual_line;
 use gq_model::fault::TextFault;
 use gq_model::limits::{GREATEST_STATEMENTS, LOCALS};
-use gq_model::program::Section;
+use gq_model::section::{Section, same_section};
 use gq_program::{Body, Program, Spare, Statement};
 use std::alloc::{AllocError, Global};
 use std::mem;

@@ -5,8 +5,9 @@ use Rattle.std.proofs.lemmas.List.{drop_more}
 use Rattle.std.specs.Prelude.{if◌then◌else◌, ◌&&◌, ◌||◌}
 use Rattle.std.proofs.lemmas.Bool.{true≢false}
 use Rattle.gq_model.specs.machine.Lists.{any_of}
-use Rattle.gq_model.specs.machine.Program.{Statements, text_eq, same_section}
-use Rattle.gq_model.specs.declared.program.Section.{Section}
+use Rattle.gq_model.specs.machine.Program.{Statements, text_eq}
+use Rattle.gq_model.specs.machine.Sections.{same_section}
+use Rattle.gq_model.specs.declared.section.Section.{Section}
 use Rattle.gq_model.specs.rules.Kinds.{Subject}
 use Rattle.gq_model.specs.rules.Budgets.{section_requests}
 use Rattle.gq_model.specs.rules.Use.{from_sections}

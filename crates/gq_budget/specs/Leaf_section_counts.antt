@@ -1,7 +1,7 @@
 -- What is kept of leaves once their sections are gone through.
 use Rattle.std.specs.Prelude.{◌≡◌, ℕ, Bool, true, List, [], ◌∷◌, Option, Some, None, map}
 use Rattle.gq_model.specs.machine.Lists.{any_of}
-use Rattle.gq_model.specs.declared.program.Section.{Section}
+use Rattle.gq_model.specs.declared.section.Section.{Section}
 use Rattle.gq_verify.specs.Requested.{Requested, is_asked}
 use Rattle.gq_budget.specs.Leaf_routes.{BudgetLeaf}
 use Rattle.gq_budget.specs.internal.Counted.{AreRequests, costs_of}

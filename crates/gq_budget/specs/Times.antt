@@ -1,7 +1,7 @@
 -- How often sections run, kept as far as it goes.
 use Rattle.std.specs.Prelude.{ℕ, suc, List, [], ◌∷◌, length, get_or}
 use Rattle.gq_model.specs.machine.Program.{Statements}
-use Rattle.gq_model.specs.declared.program.Section.{Section}
+use Rattle.gq_model.specs.declared.section.Section.{Section}
 use Rattle.gq_model.specs.machine.Scenario.{System, Component}
 use Rattle.gq_model.specs.rules.Use.{times}
 use Rattle.gq_verify.specs.Saturated_numbers.{saturated}

@@ -1,6 +1,6 @@
 // Who asks for the sections of leaves, and how often they run.
 ghost use Rattle.std.specs.Prelude.{◌≡◌, ◌∷◌, [], IfOk, map};
-ghost use Rattle.gq_model.specs.machine.Program.{same_section};
+ghost use Rattle.gq_model.specs.machine.Sections.{same_section};
 ghost use Rattle.gq_verify.specs.Saturated_numbers.{saturated};
 ghost use Rattle.gq_budget.specs.internal.Run_rounds.{runs, asked_sum, often, leaf_round, askers_by, askers_for, all_asks};
 

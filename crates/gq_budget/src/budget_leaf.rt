@@ -1,7 +1,7 @@
 // Leaves.
 ghost use Rattle.std.specs.Prelude.{◌≡◌, IfOk, IsTrue, map, option_copied};
 ghost use Rattle.gq_model.specs.machine.Lists.{all_of};
-ghost use Rattle.gq_model.specs.texts.Code.{is_section};
+ghost use Rattle.gq_model.specs.machine.Sections.{is_section};
 ghost use Rattle.gq_budget.specs.internal.Counted.{AreRequests, costs_of};
 
 use crate::number_sums::Numbers;

@@ -198,7 +198,7 @@ pub fn times_of(
     requires counted { AreCountsOf counted.now (leaves_of (system scenario.now)) }
     ensures { IfOk result (λ t. t ≡ times_table (system scenario.now)) }
 {
-    let _count = scenario.leaf_count();
+    scenario.bounds();
     let rows = leads_rows(alloc, components, routes, counted)?;
     let often = counted_times(alloc, counted, rows.as_slice())?;
     Ok(Times { often })
@@ -220,7 +220,7 @@ pub fn steps_of(
     requires counted { AreCountsOf counted.now (leaves_of (system scenario.now)) }
     ensures { IfOk result (λ steps. steps.items ≡ budgets_of (system scenario.now)) }
 {
-    let _count = scenario.leaf_count();
+    scenario.bounds();
     let leads = leads_rows(alloc, components, routes, counted)?;
     let steps = counted_budgets(alloc, counted, leads.as_slice())?;
     Ok(steps)

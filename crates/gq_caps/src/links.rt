@@ -6,7 +6,7 @@ ghost use Rattle.gq_caps.specs.Known_links.{service_of, level_of, given_of, link
 
 use crate::link::Link;
 use gq_model::program::{GREATEST_NAME, Name};
-use gq_program::spelling::same_text;
+use gq_model::spelling::same_text;
 use gq_tariff::Amount;
 
 impl Link {

@@ -4,8 +4,8 @@ use Rattle.std.specs.Prelude.{string_bytes}
 use Rattle.gq_model.specs.declared.fault.TurnFault.{TurnFault}
 use Rattle.gq_model.specs.machine.Scenario.{Scenario}
 use Rattle.gq_model.specs.texts.Turns.{turned}
-use Rattle.gq_init.specs.declared.counted.Counted.{Counted}
-use Rattle.gq_init.specs.Writer_failures.{written_to}
+use Rattle.gq_output.specs.declared.counted.Counted.{Counted}
+use Rattle.gq_output.specs.Writer_failures.{written_to}
 use Rattle.gq_reports.specs.Command_outcomes.{GivesOf, IsBefore, IsCutShort, IsFaultOf, WritesAs, run_fault_text}
 use Rattle.gq_reports.specs.Whole.{Written, refused_with, run_written}
 use Rattle.gq_reports.specs.declared.run_fault.RunFault.{RunFault}

@@ -3,7 +3,7 @@ use Rattle.std.proofs.Common.{◌≡◌, ◌∙◌, ◌⊎◌, inl, inr, List, �
 use Rattle.std.specs.Prelude.{string_bytes}
 use Rattle.std.proofs.Math.Seq.{take-length}
 use Rattle.std.specs.Io.KnownBytes.{Appends, Keeps}
-use Rattle.gq_init.proofs.Written_byte_facts.{appends_kept, appends_nothing}
+use Rattle.gq_output.proofs.Written_byte_facts.{appends_kept, appends_nothing}
 use Rattle.gq_load.specs.Load_faults.{Prints, load_fault_text}
 use Rattle.gq_load.specs.Load.{LoadRefusal, loaded}
 use Rattle.gq_load.specs.declared.load_fault.LoadFault.{LoadFault}

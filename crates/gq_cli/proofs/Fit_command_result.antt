@@ -7,8 +7,8 @@ use Rattle.gq_fit.specs.Fitted.{IsBefore, WritesFit}
 use Rattle.gq_fit.specs.Fit_words.{fit_fault_text, no_fit_text, short_text}
 use Rattle.gq_fit.specs.declared.fit_fault.FitFault.{FitFault}
 use Rattle.gq_fit.specs.declared.fit_fault.FitFault.TheVariants as faults
-use Rattle.gq_init.specs.declared.counted.Counted.{Counted}
-use Rattle.gq_init.specs.Writer_failures.{written_to}
+use Rattle.gq_output.specs.declared.counted.Counted.{Counted}
+use Rattle.gq_output.specs.Writer_failures.{written_to}
 use Rattle.gq_load.specs.Load_faults.{Refuses, load_fault_text}
 use Rattle.gq_load.specs.Load.{LoadRefusal as LoadRule}
 use Rattle.gq_load.specs.declared.load_fault.LoadFault.{LoadFault}

@@ -1,8 +1,8 @@
 -- How a command ends before anything is reported of it.
 use Rattle.std.specs.Prelude.{◌≡◌, ◌≢◌, ℕ, List, Option, Result, Ok, Err, OnOk, IfErr, string_bytes}
-use Rattle.gq_init.specs.declared.counted.Counted.{Counted}
-use Rattle.gq_init.specs.Writer_failures.{failures_of}
-use Rattle.gq_init.specs.Writes.{IsRaised}
+use Rattle.gq_output.specs.declared.counted.Counted.{Counted}
+use Rattle.gq_output.specs.Writer_failures.{failures_of}
+use Rattle.gq_output.specs.Writes.{IsRaised}
 use Rattle.gq_reports.specs.Command_outcomes.{run_fault_text}
 use Rattle.gq_reports.specs.Whole.{refused_with}
 use Rattle.gq_reports.specs.declared.run_fault.RunFault.{RunFault}

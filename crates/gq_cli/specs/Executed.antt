@@ -2,9 +2,9 @@
 use Rattle.std.specs.Prelude.{◌≡◌, ◌⊎◌, ℕ, ◌≤◌, Bool, true, false, List, [], ◌∷◌, ◌++◌, length, Option, Some, None, option_map, Result, Ok, Err, IsOkAnd}
 use Rattle.std.specs.Prelude.{codes, string_bytes}
 use Rattle.std.specs.Io.KnownBytes.{Appends, Consumes, IsAtEnd}
-use Rattle.gq_init.specs.declared.counted.Counted.{Counted}
-use Rattle.gq_init.specs.Writer_failures.{written_to, failures_of}
-use Rattle.gq_init.specs.Writes.{IsPrefix, IsRaised}
+use Rattle.gq_output.specs.declared.counted.Counted.{Counted}
+use Rattle.gq_output.specs.Writer_failures.{written_to, failures_of}
+use Rattle.gq_output.specs.Writes.{IsPrefix, IsRaised}
 use Rattle.gq_load.specs.Load.{LoadRefusal, fault_text, loaded}
 use Rattle.gq_model.specs.machine.Scenario.{Scenario}
 use Rattle.gq_model.specs.texts.Turns.{Turned, turned}
@@ -197,8 +197,8 @@ IsRefusedBy (Of_fit fitting scenario) line = IsUnfit fitting scenario (judged_wi
 IsRefusedBy (Of_faults path scenario turns) line = faults_written scenario (option_map (λ t. t.1) turns) ≡ Err line
 IsRefusedBy (Of_nothing written) line = written ≡ Err line
 
--- what a command promises beside its text: a run upholds every promise; turns lead to rest; where `races` wrote nothing there is no race, and no order, and
--- where it wrote no line of a race none, and none of orders; the turns of an outcome lead to it
+-- What a command promises beside its text. A run upholds every promise. Turns lead to rest. Where `races` wrote no line `race`, there is no race; where it
+-- wrote no line `order`, there is no order. The turns of an outcome, as far as a list may have them, lead to it.
 abbrev pub IsUpheldBy : Asked → (before after : Option (List ℕ)) → Type 0
 IsUpheldBy (Of_both Run scenario turns) before after = WritesPromised scenario turns before after
 IsUpheldBy (Of_scenario (Turns seed) scenario) before after = WritesToRest seed scenario before after

@@ -1,8 +1,8 @@
 //! Doing what a command line asks for.
 ghost use Rattle.std.specs.Prelude.{◌≡◌, ◌≢◌, ◌⊎◌, ◌++◌, true, false, codes, string_bytes, None, Ok, Some, Err, IfErr, OnOk};
 ghost use Rattle.std.specs.Io.KnownBytes.{Keeps};
-ghost use Rattle.gq_init.specs.Writer_failures.{written_to, failures_of};
-ghost use Rattle.gq_init.specs.Writes.{IsRaised};
+ghost use Rattle.gq_output.specs.Writer_failures.{written_to, failures_of};
+ghost use Rattle.gq_output.specs.Writes.{IsRaised};
 ghost use Rattle.gq_reports.specs.Command_outcomes.{GivesOf, WritesAs};
 ghost use Rattle.gq_reports.specs.Whole.{refused_with, run_written};
 ghost use Rattle.gq_world.specs.Headline.{WritesPromised};
@@ -26,8 +26,8 @@ use gq_faults::fault_laws::first_turn_fault_laws;
 use gq_faults::faults::{File, faults};
 use gq_faults::report_error::ReportError;
 use gq_faults::turn_faults::{Refused, faults_of_both};
-use gq_init::counted::{Counted, put};
 use gq_outcomes::outcomes::{outcome_turns, outcomes};
+use gq_output::counted::{Counted, put};
 use gq_races::races::races;
 use gq_reports::asm::asm;
 use gq_reports::check::check;

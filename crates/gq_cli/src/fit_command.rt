@@ -1,7 +1,7 @@
 // Texts that fit a scenario.
 ghost use Rattle.gq_command.specs.Input.{GivesAtMost};
 ghost use Rattle.gq_fit.specs.Fitted.{WritesFit};
-ghost use Rattle.gq_init.specs.Writer_failures.{written_to};
+ghost use Rattle.gq_output.specs.Writer_failures.{written_to};
 ghost use Rattle.gq_cli.specs.Early_command_ends.{Ended, IsKnown, LeavesWriter};
 ghost use Rattle.gq_cli.specs.Executed.{Of_fit, ReadsScenario, fits, reasons};
 ghost use Rattle.gq_cli.specs.internal.Fit_write_ends.{IsReportedFit};
@@ -11,7 +11,7 @@ use gq_command::command::Fitting;
 use gq_command::input::read_input;
 use gq_fit::fit::{fit, fit_donations};
 use gq_fit::fit_fault::FitFault;
-use gq_init::counted::Counted;
+use gq_output::counted::Counted;
 use std::alloc::Global;
 use std::io::{Read, Write};
 

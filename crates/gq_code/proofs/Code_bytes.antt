@@ -11,10 +11,12 @@ use Rattle.gq_model.specs.texts.Letters.{is_name_byte, is_said_byte, is_digit}
 use Rattle.gq_model.proofs.Instruction_laws.{opcode_small}
 use Rattle.gq_model.specs.texts.Operands.{Operand, Number, Slot, Bytes, Text, Service, opcode, operands, in_range, is_slot_or_object}
 use Rattle.gq_model.specs.texts.Operands.{slot_code, operand_code, operands_code}
-use Rattle.gq_model.specs.texts.Code.{IsProgram, is_body, body_code, body_length, section_number, are_sections, has_limit, limits_code, section_bits}
+use Rattle.gq_model.specs.texts.Code.{IsProgram, is_body, body_code, body_length, are_sections, has_limit, limits_code, section_bits}
+use Rattle.gq_model.specs.machine.Sections.{section_number}
 use Rattle.gq_model.specs.texts.Code.{sections_code, code_of}
 use Rattle.gq_model.proofs.Byte_number_spelling.{AreBytes, spelled_bytes}
-use Rattle.gq_code.proofs.Section_order_bits.{Sections, first_of}
+use Rattle.gq_model.proofs.Section_laws.{first_of}
+use Rattle.gq_code.proofs.Section_order_bits.{Sections}
 use Rattle.gq_code.proofs.Limits_back.{local_bits_below}
 use Rattle.gq_code.proofs.Programs_back.{parts_of}
 use Rattle.gq_model.proofs.Assembled_instructions.{or_object}

@@ -7,9 +7,10 @@ use Rattle.std.proofs.lemmas.List.{take_more_set}
 use Rattle.std.proofs.lemmas.Bool.Decides.{eqb_tells}
 use Rattle.gq_model.specs.declared.fault.CodeFault.{CodeFault}
 use Rattle.gq_model.specs.declared.fault.CodeFault.TheVariants.{Truncated, BadOperand}
-use Rattle.gq_model.specs.declared.program.Section.{Section}
-use Rattle.gq_model.specs.declared.program.Section.TheVariants.{Main}
-use Rattle.gq_model.specs.machine.Program.{Statements, Program, all_sections}
+use Rattle.gq_model.specs.declared.section.Section.{Section}
+use Rattle.gq_model.specs.declared.section.Section.TheVariants.{Main}
+use Rattle.gq_model.specs.machine.Program.{Statements, Program}
+use Rattle.gq_model.specs.machine.Sections.{all_sections}
 use Rattle.gq_model.specs.texts.Operands.{greatest_number}
 use Rattle.gq_model.specs.texts.Decode.{Decoded, decoded_then, cut, number_at, checked, limits_at, sections_at, decoded}
 use Rattle.gq_code.specs.internal.Decoding.{limit_at, after_limits}

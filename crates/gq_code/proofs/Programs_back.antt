@@ -4,7 +4,8 @@ use Rattle.std.proofs.Common.{append_assoc, append-nil, inl, inr, ◌⊎◌}
 use Rattle.std.specs.Prelude.{nat_le, sum_by, ◌&&◌}
 use Rattle.std.proofs.lemmas.Bool.{and_parts, leb-true, eqb-true}
 use Rattle.gq_model.specs.declared.fault.CodeFault.TheVariants.{Truncated, TrailingBytes}
-use Rattle.gq_model.specs.machine.Program.{Program, all_sections, size, spelled}
+use Rattle.gq_model.specs.machine.Program.{Program, size, spelled}
+use Rattle.gq_model.specs.machine.Sections.{all_sections}
 use Rattle.gq_model.specs.machine.Lists.{all_of, between}
 use Rattle.gq_model.specs.texts.Operands.{greatest_number}
 use Rattle.gq_model.specs.texts.Code.{IsProgram, are_sections, local_bits, limits_code, section_bits, sections_code, code_of, greatest_statements}

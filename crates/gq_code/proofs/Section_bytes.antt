@@ -1,6 +1,6 @@
 -- The bytes of sections, one after the other.
 use Rattle.std.proofs.Common.{◌≡◌, ℕ, suc, ◌+◌, ◌<◌, List, ◌∷◌, ◌++◌, length, get_or, drop, IsTrue, ap, sym, ◌∙◌, add-one, drop-cons, append_assoc}
-use Rattle.gq_model.specs.declared.program.Section.{Section}
+use Rattle.gq_model.specs.declared.section.Section.{Section}
 use Rattle.gq_model.specs.machine.Program.{Statements, spelled}
 use Rattle.gq_model.specs.texts.Code.{body_code, sections_code}
 use Rattle.gq_code.specs.Codes.{has_code}

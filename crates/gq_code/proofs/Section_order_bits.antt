@@ -10,9 +10,11 @@ use Rattle.std.specs.Prelude.{nat_le, ◌==◌, sum_by}
 use Rattle.gq_model.specs.machine.Lists.{all_of, between}
 use Rattle.gq_model.specs.machine.Program.{Statements, Program, size}
 use Rattle.gq_model.specs.texts.Operands.{greatest_number}
-use Rattle.gq_model.specs.declared.program.Section.{Section}
-use Rattle.gq_model.specs.declared.program.Section.TheVariants.{Main, Opening, Upgrading, Calling, Closing}
-use Rattle.gq_model.specs.texts.Code.{IsProgram, greatest_statements, is_body, is_section, section_number, are_sections, section_bits}
+use Rattle.gq_model.specs.declared.section.Section.{Section}
+use Rattle.gq_model.specs.declared.section.Section.TheVariants.{Main, Opening, Upgrading, Calling, Closing}
+use Rattle.gq_model.specs.texts.Code.{IsProgram, greatest_statements, is_body, are_sections, section_bits}
+use Rattle.gq_model.specs.machine.Sections.{is_section, section_number}
+use Rattle.gq_model.proofs.Section_laws.{first_of, number_below}
 use Rattle.gq_code.specs.Codes.{has_code}
 use Rattle.gq_code.specs.internal.Coded_sections.{have_codes}
 use Rattle.gq_code.proofs.Coded_statements.{parts, both, body_has}
@@ -20,33 +22,11 @@ use Rattle.gq_code.proofs.Coded_statements.{parts, both, body_has}
 abbrev pub Sections : Type 0
 Sections = List (Section × Statements)
 
-pub record First (n : ℕ) (p : Section × Statements) (others : Sections) : Type 0 where
-  pub section : IsTrue (is_section p.0)
-  pub after : IsTrue (nat_le n (section_number p.0))
-  pub body : IsTrue (is_body 4 p.1)
-  pub rest : IsTrue (are_sections (1 + section_number p.0) others)
-
-pub first_of : (n : ℕ) (p : Section × Statements) (rest : Sections) → IsTrue (are_sections n (p ∷ rest)) → First n p rest
-first_of n p rest h =
-    let k = section_number p.0 in
-    let a = parts (is_section p.0 && nat_le n k && is_body 4 p.1) (are_sections (1 + k) rest) h in
-    let b = parts (is_section p.0 && nat_le n k) (is_body 4 p.1) a.0 in
-    let c = parts (is_section p.0) (nat_le n k) b.0 in
-    record { section = c.0; after = c.1; body = b.1; rest = a.1 }
-
 -- sections in their order have a code
 pub sections_have : (n : ℕ) (sections : Sections) → IsTrue (are_sections n sections) → IsTrue (have_codes sections)
 sections_have n [] h = refl
 sections_have n (p ∷ rest) h =
     let f = first_of n p rest h in both (has_code p.1) (have_codes rest) (body_has 4 p.1 f.body) (sections_have (1 + section_number p.0) rest f.rest)
-
--- there are 13
-pub number_below : (s : Section) → IsTrue (is_section s) → section_number s ≤ 12
-number_below Main h = omega arith
-number_below Opening h = omega arith
-number_below (Upgrading l) h = let k = leb-true l 3 (parts (nat_le 1 l) (nat_le l 3) h).1 in omega (arith, k)
-number_below (Calling l) h = let k = leb-true l 3 h in omega (arith, k)
-number_below (Closing l) h = let k = leb-true l 3 h in omega (arith, k)
 
 twice : (k : ℕ) → 2 ^ (1 + k) ≡ 2 * 2 ^ k
 twice k = ap (λ n. 2 ^ n) {x = 1 + k} {y = suc k} (omega arith) ∙ pow-succ' 2 k
@@ -60,7 +40,7 @@ bits_below n (p ∷ rest) less h =
     let small = number_below p.0 f.section in
     let next = bits_below (1 + k) rest (omega (arith, small)) f.rest in
     let here = sum_by-cons (λ q. 2 ^ section_number q.0) p rest in
-    let after = pow_mono (leb-true n k f.after) in
+    let after = pow_mono f.at in
     omega (arith, next, here, after, twice k)
 
 -- the section that stands there comes next

@@ -7,44 +7,22 @@ use Rattle.std.proofs.lemmas.Nat.{pow_pos, pow-add}
 use Rattle.std.proofs.lemmas.List.Sums.{sum_by-cons}
 use Rattle.std.proofs.Math.Nat.{pow-succ', eq_of_mul-eq-mul_left}
 use Rattle.gq_model.specs.declared.fault.CodeFault.TheVariants.{TrailingBytes}
-use Rattle.gq_model.specs.declared.program.Section.{Section}
-use Rattle.gq_model.specs.declared.program.Section.TheVariants.{Main, Opening, Upgrading, Calling, Closing}
-use Rattle.gq_model.specs.machine.Program.{Statements, all_sections, size}
-use Rattle.gq_model.specs.texts.Code.{is_section, section_number, are_sections, section_bits, sections_code, body_code, body_length, is_body}
+use Rattle.gq_model.specs.declared.section.Section.{Section}
+use Rattle.gq_model.specs.declared.section.Section.TheVariants.{Main, Opening, Upgrading, Calling, Closing}
+use Rattle.gq_model.specs.machine.Program.{Statements, size}
+use Rattle.gq_model.specs.machine.Sections.{all_sections, is_section, section_number}
+use Rattle.gq_model.specs.texts.Code.{are_sections, section_bits, sections_code, body_code, body_length, is_body}
 use Rattle.gq_model.specs.texts.Code.{greatest_statements}
 use Rattle.gq_model.specs.texts.Decode.{Decoded, sections_at}
 use Rattle.gq_model.proofs.Decoded_programs.{InOrder}
 use Rattle.gq_code.specs.internal.Bodies.{section_at, after_sections}
 use Rattle.gq_code.proofs.Coded_body_decoding.{then_along}
 use Rattle.gq_code.proofs.Bodies_back.{section_back}
-use Rattle.gq_code.proofs.Section_order_bits.{Sections, first_of, number_below}
+use Rattle.gq_model.proofs.Section_laws.{at_number, first_of, number_below, same_number}
+use Rattle.gq_code.proofs.Section_order_bits.{Sections}
 use Rattle.gq_code.proofs.Coded_section_limits.{section_given, section_absent}
 
 -- ORDER
-
--- a section is known by its number
-at_number : (s : Section) → is_section s ≡ true → get_or all_sections (section_number s) Main ≡ s
-at_number Main h = refl
-at_number Opening h = refl
-at_number (Upgrading zero) h = cc
-at_number (Upgrading (suc zero)) h = refl
-at_number (Upgrading (suc (suc zero))) h = refl
-at_number (Upgrading (suc (suc (suc zero)))) h = refl
-at_number (Upgrading (suc (suc (suc (suc l))))) h =
-    let n = suc (suc (suc (suc l))) in let k = leb-true n 3 ((and_parts (nat_le 1 n) (nat_le n 3) h).1) in absurd (omega (arith, k))
-at_number (Calling zero) h = refl
-at_number (Calling (suc zero)) h = refl
-at_number (Calling (suc (suc zero))) h = refl
-at_number (Calling (suc (suc (suc zero)))) h = refl
-at_number (Calling (suc (suc (suc (suc l))))) h = let k = leb-true (suc (suc (suc (suc l)))) 3 h in absurd (omega (arith, k))
-at_number (Closing zero) h = refl
-at_number (Closing (suc zero)) h = refl
-at_number (Closing (suc (suc zero))) h = refl
-at_number (Closing (suc (suc (suc zero)))) h = refl
-at_number (Closing (suc (suc (suc (suc l))))) h = let k = leb-true (suc (suc (suc (suc l)))) 3 h in absurd (omega (arith, k))
-
-same_number : (s t : Section) → is_section s ≡ true → is_section t ≡ true → section_number s ≡ section_number t → s ≡ t
-same_number s t h k e = sym (at_number s h) ∙ (ap (λ n. get_or all_sections n Main) e ∙ at_number t k)
 
 -- sections from the n-th place on, the first of which stands later
 later : (n : ℕ) (p : Section × Statements) (rest : Sections) → are_sections n (p ∷ rest) ≡ true → n < section_number p.0 →
@@ -65,7 +43,7 @@ multiple n (p ∷ rest) h =
     let f = first_of n p rest h in
     let k = section_number p.0 in
     let r = multiple (1 + k) rest f.rest in
-    let at = power n k (leb-true n k f.after) in
+    let at = power n k f.at in
     let sum = sum_by-cons (λ (p : Section × Statements). 2 ^ section_number p.0) p rest in (
       at.0 + 2 * at.0 * r.0,
       whole n (section_bits (p ∷ rest)) (section_bits rest) (2 ^ k) (2 ^ (1 + k)) at.0 r.0 sum r.1 at.1
@@ -115,7 +93,7 @@ sections_back [] j bits k [] [] o end h b few = refl
 sections_back [] j bits k [] (c ∷ rest) o end h b few = refl
 sections_back [] j bits k (p ∷ sections) rest o end h b few =
     let f = first_of j p sections h in
-    let high = leb-true j (section_number p.0) f.after in let low = number_below p.0 f.section in absurd (omega (arith, high, low, end))
+    let high = f.at in let low = number_below p.0 f.section in absurd (omega (arith, high, low, end))
 sections_back (s ∷ order) j bits k [] rest o end h b few =
     let none : bits ≡ 0 = cancelled j bits 0 (omega (arith, b)) in
     skipped s order bits 0 k rest (omega (arith, none)) ∙ sections_back order (suc j) 0 k [] rest o.2 (omega (arith, end)) refl (omega arith) few
@@ -132,7 +110,7 @@ sections_back (s ∷ order) j bits k (p ∷ sections) rest o end h b few =
           skipped s order bits q.0 k (sections_code (p ∷ sections) ++ rest) half ∙
           sections_back order (suc j) q.0 k (p ∷ sections) rest o.2 (omega (arith, end)) after (sym q.1) few
       | inr more ↦
-          let at : n ≡ j = let low = leb-true j n f.after in omega (arith, low, more) in
+          let at : n ≡ j = let low = f.at in omega (arith, low, more) in
           let next : are_sections (suc j) sections ≡ true = ap (λ m. are_sections m sections) {x = suc j} {y = 1 + n} (omega (arith, at)) ∙ f.rest in
           let q = multiple (suc j) sections next in
           let one : 2 ^ n ≡ 2 ^ j = ap (λ m. 2 ^ m) at in

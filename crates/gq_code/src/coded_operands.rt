@@ -9,6 +9,7 @@ ghost use Rattle.gq_code.specs.internal.Bodies.{Reads};
 
 use crate::decode::DecodeError;
 use gq_model::fault::CodeFault;
+use gq_model::limits::GREATEST_ENTRIES;
 use gq_model::program::{GREATEST_NAME, GREATEST_TEXT, Instruction, Name, OperandSlot, Text};
 use gq_program::{Shape, WithAmount, WithBytes, WithNumber, WithSlot};
 use gq_tariff::price::GREATEST_PLACE;
@@ -204,7 +205,7 @@ pub(crate) fn pool(bytes: &[u8]) -> Result<(Instruction, &[u8]), CodeFault>
 {
     let (place, rest) = place(false, bytes)?;
     let (size, rest) = ranged(rest, 2, 1, GREATEST_PLACE as u32)?;
-    let (count, rest) = ranged(rest, 2, 1, 1024)?;
+    let (count, rest) = ranged(rest, 2, 1, GREATEST_ENTRIES as u32)?;
     Ok((
         Instruction::MakePool(place, size as u16, count as u16),
         rest,

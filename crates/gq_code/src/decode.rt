@@ -16,7 +16,8 @@ use crate::coded_operands::{
 use crate::program_code::NO_LIMIT;
 use gq_model::fault::CodeFault;
 use gq_model::limits::{GREATEST_DEPTH, GREATEST_STATEMENTS, LOCALS};
-use gq_model::program::{Instruction, Section};
+use gq_model::program::Instruction;
+use gq_model::section::Section;
 use gq_program::program_tree::{Body, Program, Statement};
 use gq_program::{Shape, shape_of_opcode};
 use std::alloc::{AllocError, AllocFailed, Global};

@@ -1,10 +1,11 @@
 // Whole programs as bytes.
 ghost use Rattle.std.specs.Prelude.{◌≡◌, ◌≤◌, ◌<◌, ◌^◌, ◌++◌, OnOk, IfOk, IsTrue, length};
-ghost use Rattle.gq_model.specs.texts.Code.{is_section, are_sections, section_number, section_bits, local_bits, limits_code, sections_code, code_of};
+ghost use Rattle.gq_model.specs.texts.Code.{are_sections, section_bits, local_bits, limits_code, sections_code, code_of};
+ghost use Rattle.gq_model.specs.machine.Sections.{is_section, section_number};
 ghost use Rattle.gq_code.specs.internal.Coded_sections.{have_codes};
 
 use crate::encode::{encode_body, write_number};
-use gq_model::program::Section;
+use gq_model::section::Section;
 use gq_program::program_tree::{Body, Program};
 use std::alloc::{AllocError, Global};
 
@@ -40,22 +41,7 @@ fn section_bit(section: Section) -> u16
     requires { IsTrue (is_section section) }
     ensures { result ≡ 2 ^ section_number section }
 {
-    match section {
-        Section::Main => 1,
-        Section::Opening => 2,
-        Section::Upgrading(1) => 4,
-        Section::Upgrading(2) => 8,
-        Section::Upgrading(3) => 16,
-        Section::Calling(0) => 32,
-        Section::Calling(1) => 64,
-        Section::Calling(2) => 128,
-        Section::Calling(3) => 256,
-        Section::Closing(0) => 512,
-        Section::Closing(1) => 1024,
-        Section::Closing(2) => 2048,
-        Section::Closing(3) => 4096,
-        _ => unreachable!(),
-    }
+    1 << section.number()
 }
 
 /// The bits of the sections that are there.

@@ -4,7 +4,7 @@ use Rattle.std.proofs.Common.{drop, Option, Some, None, option_map, Result, refl
 use Rattle.std.proofs.Common.{sym, ◌∙◌, append_assoc, append-nil}
 use Rattle.std.specs.Prelude.{OnOk}
 use Rattle.std.proofs.lemmas.List.{drop_more, drop_all, take_more}
-use Rattle.gq_init.proofs.Written_byte_facts.{on_ok}
+use Rattle.gq_output.proofs.Written_byte_facts.{on_ok}
 use Rattle.gq_model.specs.machine.Scenario.{Component}
 use Rattle.gq_model.specs.rules.Resolve.{Unresolved, Bad_after, is_bad_after, with_name}
 use Rattle.gq_model.proofs.Small_facts.{or_first_none, some_same}

@@ -4,7 +4,7 @@ use Rattle.std.proofs.Common.{Option, Some, None, option_map, Result, refl, ap, 
 use Rattle.std.specs.Prelude.{OnOk, slice_get}
 use Rattle.std.proofs.lemmas.List.{drop_more, drop_all, length-map}
 use Rattle.std.proofs.lemmas.Option.{slice_get-map, slice_get_cases, slice_get_read}
-use Rattle.gq_init.proofs.Written_byte_facts.{on_ok}
+use Rattle.gq_output.proofs.Written_byte_facts.{on_ok}
 use Rattle.gq_model.specs.machine.Lists.{any_of}
 use Rattle.gq_model.specs.machine.Routes.{server_of}
 use Rattle.gq_model.specs.machine.Scenario.{System, Component}

@@ -7,8 +7,8 @@ use Rattle.std.proofs.lemmas.List.{drop_more, drop_all, take-append-drop}
 use Rattle.std.proofs.Math.Seq.{take-append_seam}
 use Rattle.gq_faults.specs.Found_lists.{all_found}
 use Rattle.gq_faults.proofs.Joined_fault_lists.{map-append}
-use Rattle.gq_init.proofs.Written_byte_facts.{appends_nothing, appends_both}
-use Rattle.gq_init.specs.Writes.{IsPrefix}
+use Rattle.gq_output.proofs.Written_byte_facts.{appends_nothing, appends_both}
+use Rattle.gq_output.specs.Writes.{IsPrefix}
 use Rattle.gq_scenario.specs.Table_keys.{DocumentFault}
 use Rattle.gq_scenario.specs.Top_table.{document_text}
 use Rattle.gq_faults.specs.Reported_faults.{AreReported, EndsEarly, IsReported, Reporting, WritesFaults, WritesPrefix, place_text}

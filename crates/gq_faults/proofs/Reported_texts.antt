@@ -2,8 +2,8 @@
 use Rattle.std.proofs.Common.{◌≡◌, ◌∙◌, ℕ, List, map, Option, Some, None, Result, Ok, Err, refl, ap, sym, subst}
 use Rattle.std.specs.Prelude.{IsOk, MatchResult}
 use Rattle.toml.specs.Data.{Members}
-use Rattle.gq_init.specs.Writer_failures.{failures_of, written_to}
-use Rattle.gq_init.specs.declared.counted.Counted.{Counted}
+use Rattle.gq_output.specs.Writer_failures.{failures_of, written_to}
+use Rattle.gq_output.specs.declared.counted.Counted.{Counted}
 use Rattle.gq_model.specs.machine.Scenario.{Scenario}
 use Rattle.gq_scenario.specs.Document.{document_fault}
 use Rattle.gq_scenario.specs.Top_table.{ReadFault, document_in, read_from, read_text, scenario_in}

@@ -5,8 +5,8 @@ use Rattle.gq_model.specs.declared.fault.TurnFault.{TurnFault}
 use Rattle.gq_load.specs.Load.{LoadRefusal, fault_text, loaded}
 use Rattle.gq_faults.specs.First_stage_faults.{fault_lines}
 use Rattle.gq_faults.specs.Found_lists.{first}
-use Rattle.gq_init.specs.Writer_failures.{failures_of, written_to}
-use Rattle.gq_init.specs.declared.counted.Counted.{Counted}
+use Rattle.gq_output.specs.Writer_failures.{failures_of, written_to}
+use Rattle.gq_output.specs.declared.counted.Counted.{Counted}
 use Rattle.gq_faults.specs.Reported_faults.{Reporting, Reports, WritesPrefix}
 use Rattle.gq_faults.specs.Turn_faults.{Answers, lines_from, lines_of_both, reported_of, turn_fault_line, turn_faults}
 use Rattle.gq_faults.specs.declared.report_error.ReportError.{ReportError}

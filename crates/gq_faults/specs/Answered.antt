@@ -1,6 +1,6 @@
 -- What is reported and answered of the text of a scenario.
 use Rattle.std.specs.Prelude.{◌≡◌, ℕ, List, Option, Result, IfNone, IfOk, IfSome, IsOk}
-use Rattle.gq_init.specs.declared.counted.Counted.{Counted}
+use Rattle.gq_output.specs.declared.counted.Counted.{Counted}
 use Rattle.gq_load.specs.Load_faults.{Prints}
 use Rattle.gq_load.specs.Load.{loaded}
 use Rattle.gq_load.specs.declared.load_fault.LoadFault.{LoadFault}

@@ -1,9 +1,9 @@
 -- What is written of faults: a line for each with its place, and its details below it.
 use Rattle.std.specs.Prelude.{◌≡◌, ℕ, List, [], ◌∷◌, ◌++◌, map, Option, Result, OnOk, OnErr, IfErr, codes, decimal}
 use Rattle.std.specs.Io.KnownBytes.{Appends}
-use Rattle.gq_init.specs.Writer_failures.{written_to, failures_of}
-use Rattle.gq_init.specs.Writes.{IsPrefix, IsRaised}
-use Rattle.gq_init.specs.declared.counted.Counted.{Counted}
+use Rattle.gq_output.specs.Writer_failures.{written_to, failures_of}
+use Rattle.gq_output.specs.Writes.{IsPrefix, IsRaised}
+use Rattle.gq_output.specs.declared.counted.Counted.{Counted}
 use Rattle.gq_scenario.specs.Table_keys.{DocumentFault}
 use Rattle.gq_scenario.specs.Top_table.{document_text}
 use Rattle.gq_faults.specs.Details.{AreDetails}

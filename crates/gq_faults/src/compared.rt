@@ -1,7 +1,6 @@
 // What a rule compared at its place: a section is walked through once more, up to there.
 // No contract of what is found: it is details alone. Tests show it.
 ghost use Rattle.std.specs.Prelude.{◌≡◌, ◌≤◌, length};
-ghost use Rattle.gq_model.specs.texts.Code.{is_section};
 
 use crate::fault_value::{Compared, Holder, Needed};
 use crate::pushers::Pushers;
@@ -52,24 +51,13 @@ fn cost_of(subject: &Subject<'_>, section: Section) -> Compared {
     }
 }
 
-// Whether there is a section of this name and level.
-fn is_section(section: Section) -> bool
-    ensures { result ≡ is_section section }
-{
-    match section {
-        Section::Main | Section::Opening => true,
-        Section::Upgrading(level) => 1 <= level && level <= 3,
-        Section::Calling(level) | Section::Closing(level) => level <= 3,
-    }
-}
-
 // What a rule compared at a place of a section.
 fn in_section(
     alloc: Global,
     subject: &Subject<'_>,
     fault: &BrokenRule,
 ) -> Result<Compared, AllocError> {
-    if !is_section(fault.section) {
+    if !fault.section.is_there() {
         return Ok(Compared::Nothing);
     }
     let starts = Starts::new(subject);

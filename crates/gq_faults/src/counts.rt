@@ -17,7 +17,7 @@ use crate::fault_value::{Crowd, Detail, FaultPart};
 use crate::path::with_step;
 use crate::report_error::ReportError;
 use crate::table_faults::report_fault;
-use gq_init::counted::Counted;
+use gq_output::counted::Counted;
 use gq_reader::value::{count_at, has, table_at};
 use gq_scenario::component_tree::GREATEST_COUNT;
 use gq_scenario::key::Key;

@@ -9,7 +9,7 @@ use crate::document_walk::report_walk;
 use crate::fault_lines::Reporter;
 use crate::repeated_names::report_names;
 use crate::report_error::ReportError;
-use gq_init::counted::Counted;
+use gq_output::counted::Counted;
 use std::io::Write;
 use toml::Table;
 

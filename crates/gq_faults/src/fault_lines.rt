@@ -7,7 +7,7 @@ use crate::details::push_detail;
 use crate::fault_value::{Compared, Detail, FaultPart, FoundFault, Pusher};
 use crate::report_error::ReportError;
 use crate::value_words::Details;
-use gq_init::counted::{Counted, put};
+use gq_output::counted::{Counted, put};
 use gq_toml_places::{Position, SourceMap, Step};
 use std::alloc::{AllocError, Global};
 use std::io::Write;

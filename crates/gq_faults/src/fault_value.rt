@@ -5,7 +5,8 @@ ghost use Rattle.gq_faults.specs.Found_lines.{lines_found};
 
 use gq_caps::Kind;
 use gq_load::load_fault::LoadFault;
-use gq_model::program::{Name, OperandSlot, Section};
+use gq_model::program::{Name, OperandSlot};
+use gq_model::section::Section;
 use gq_reader::rules::ValueRule;
 use gq_scenario::key::Key;
 use gq_scenario::scenario::Version;

@@ -2,7 +2,7 @@
 //!
 //! ```rust
 //! use gq_faults::faults::{File, faults};
-//! use gq_init::counted::Counted;
+//! use gq_output::counted::Counted;
 //!
 //! let mut out = Counted::new(writer);
 //! // A line for each fault, `echo.toml:31:3: cli: V12 ShortDonation in main at 1`, and its details below it; nothing where there is none.

@@ -1,6 +1,6 @@
 // The lines of a program's text, with their words, and on which of them its statements stand.
 // No contract: its results are places alone. Tests show them.
-use gq_program::Section;
+use gq_model::section::{Section, SectionKind};
 use gq_scenario::text_pieces::next_line;
 
 // A walk over the lines of a program's text.
@@ -75,13 +75,9 @@ fn level_of(rest: &[u8]) -> u8 {
 
 // The section of a heading.
 fn section_of(word: &[u8], rest: &[u8]) -> Option<Section> {
-    match word {
-        b"main" => Some(Section::Main),
-        b"open" => Some(Section::Opening),
-        b"up" => Some(Section::Upgrading(level_of(rest))),
-        b"call" => Some(Section::Calling(level_of(rest))),
-        b"close" => Some(Section::Closing(level_of(rest))),
-        _ => None,
+    match SectionKind::of_word(word) {
+        Some(kind) => Some(kind.section(level_of(rest))),
+        None => None,
     }
 }
 

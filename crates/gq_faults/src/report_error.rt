@@ -1,7 +1,7 @@
 // Why not all faults were reported.
 ghost use Rattle.std.specs.Prelude.{◌≡◌};
 
-use gq_init::counted::WriteFault;
+use gq_output::counted::WriteFault;
 use std::alloc::{AllocError, AllocFailed};
 
 /// Why not all faults were reported.

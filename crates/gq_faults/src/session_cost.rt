@@ -4,7 +4,7 @@ use crate::fault_value::{Compared, SessionCost};
 use gq_caps::Kind;
 use gq_model::fault::Rule;
 use gq_program::Interface;
-use gq_rules::session_rules::{level_of, need_of, session_cost};
+use gq_rules::session_rules::{need_of, session_cost};
 use gq_rules::{AbstractState, Context};
 use gq_tariff::Amount;
 use gq_tariff::price::price_slice;
@@ -55,7 +55,7 @@ pub(crate) fn session_cost_of(
         return Ok(Compared::Nothing);
     };
     let caps = rule == Rule::OverCaps;
-    let level = level_of(context.section());
+    let level = context.section().level();
     Ok(Compared::Session(SessionCost {
         caps,
         sum: part(caps, session_cost(interface, state.bank())),

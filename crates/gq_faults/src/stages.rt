@@ -41,7 +41,7 @@ fn push_unresolved<'s>(
     requires own { map (λ v. v.items) opened.now ≡ map services components.now }
     ensures { OnOk result (lines_found found.new.items ≡ lines_found found.old.items ++ map unresolved_text (unresolved_all scenario.now)) }
 {
-    let _count = scenario.leaf_count();
+    scenario.bounds();
     push_quanta(alloc, found, Resource::Ram, scenario)?;
     push_quanta(alloc, found, Resource::Caps, scenario)?;
     push_bad_offers(alloc, found, scenario)?;

@@ -13,18 +13,18 @@ use crate::leaf_tables::way_to;
 use crate::meant::Nearest;
 use gq_load::load_fault::LoadFault;
 use gq_model::program::Name;
+use gq_model::spelling::same_text;
 use gq_resolve::component::Component;
 use gq_resolve::resolve_fault::ResolveFault;
 use gq_resolve::start_after::is_bad_after;
 use gq_scenario::key::Key;
 use gq_scenario::scenario::{Leaf, Node};
-use gq_scenario::text_pieces::same_bytes;
 use gq_toml_places::Step;
 use std::alloc::{AllocError, Global};
 
 /// Whether two names are the same.
 pub(crate) fn is_same(a: &Name, b: &Name) -> bool {
-    same_bytes(a.as_bytes(), b.as_bytes())
+    same_text(a.as_bytes(), b.as_bytes())
 }
 
 // The leaf of this name beside a component.

@@ -4,9 +4,12 @@ use crate::fault_value::{Mistake, Operand};
 use crate::meant::Nearest;
 use crate::program_lines::{LineWord, line_at, nth_word};
 use gq_model::fault::TextFault;
+use gq_model::limits::{GREATEST_ENTRIES, GREATEST_ROUNDS, LOCALS};
 use gq_model::program::{Name, WithNumber};
+use gq_model::section::SectionKind;
 use gq_program::shapes::SHAPES;
 use gq_program::{Shape, shape_of_word};
+use gq_tariff::price::GREATEST_PLACE;
 use std::alloc::{AllocError, Global};
 
 // The operands of a line, of which there are three at most.
@@ -16,9 +19,6 @@ const NONE: Operands = [None, None, None];
 
 // The words that open and close blocks.
 const BLOCKS: [&str; 4] = ["if", "loop", "else", "end"];
-
-// The words with which a line outside of sections begins.
-const HEADINGS: [&str; 6] = ["main", "open", "up", "call", "close", "local"];
 
 fn one(operand: Operand) -> Operands {
     [Some(operand), None, None]
@@ -42,8 +42,8 @@ fn of_shape(shape: Shape) -> Operands {
         ],
         Shape::Pool => [
             Some(Operand::Slot),
-            Some(Operand::Number(1, 2048)),
-            Some(Operand::Number(1, 1024)),
+            Some(Operand::Number(1, GREATEST_PLACE as u32)),
+            Some(Operand::Number(1, GREATEST_ENTRIES as u32)),
         ],
         Shape::Open => [
             Some(Operand::Slot),
@@ -57,7 +57,7 @@ fn of_shape(shape: Shape) -> Operands {
 fn of_statement(word: &[u8]) -> Option<Operands> {
     match word {
         b"if" | b"else" | b"end" => Some(NONE),
-        b"loop" => Some(one(Operand::Number(1, 65535))),
+        b"loop" => Some(one(Operand::Number(1, GREATEST_ROUNDS as u32))),
         _ => match shape_of_word(word) {
             Some(shape) => Some(of_shape(shape)),
             None => None,
@@ -68,15 +68,23 @@ fn of_statement(word: &[u8]) -> Option<Operands> {
 // The operands of a line outside of sections.
 fn of_heading(word: &[u8]) -> Option<Operands> {
     match word {
-        b"main" | b"open" => Some(NONE),
-        b"up" => Some(one(Operand::Number(1, 3))),
-        b"call" | b"close" => Some(one(Operand::Number(0, 3))),
         b"local" => Some([
-            Some(Operand::Number(0, 7)),
+            Some(Operand::Number(0, LOCALS as u32 - 1)),
             Some(Operand::Number(0, u32::MAX)),
             None,
         ]),
-        _ => None,
+        _ => match SectionKind::of_word(word) {
+            Some(kind) => Some(of_levels(kind.levels())),
+            None => None,
+        },
+    }
+}
+
+// The operands of a heading with these levels.
+fn of_levels(levels: Option<(u8, u8)>) -> Operands {
+    match levels {
+        Some((least, greatest)) => one(Operand::Number(u32::from(least), u32::from(greatest))),
+        None => NONE,
     }
 }
 
@@ -110,26 +118,20 @@ fn near_statements(alloc: Global, inputs: &[u32], word: &[u8]) -> Result<Vec<Nam
             nearest.compare(word, shape.word())?;
         }
     }
-    compare_words(&mut nearest, word, &BLOCKS)?;
+    for other in &BLOCKS {
+        nearest.compare(word, other.as_bytes())?;
+    }
     Ok(nearest.names())
 }
 
 // The words like one with which a line outside of sections may begin.
 fn near_headings(alloc: Global, word: &[u8]) -> Result<Vec<Name>, AllocError> {
     let mut nearest = Nearest::new(alloc);
-    compare_words(&mut nearest, word, &HEADINGS)?;
-    Ok(nearest.names())
-}
-
-fn compare_words(
-    nearest: &mut Nearest,
-    word: &[u8],
-    known: &[&'static str],
-) -> Result<(), AllocError> {
-    for other in known {
-        nearest.compare(word, other.as_bytes())?;
+    for kind in SectionKind::ALL {
+        nearest.compare(word, kind.word().as_bytes())?;
     }
-    Ok(())
+    nearest.compare(word, b"local")?;
+    Ok(nearest.names())
 }
 
 // The words like one with which a line may begin there; none for one with which a line elsewhere may.

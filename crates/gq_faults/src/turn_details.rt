@@ -168,7 +168,7 @@ fn push_bad_input(
     reported.raw(name_in(wrong.text.get(at..).unwrap_or(wrong.text)))?;
     reported.text(", and ")?;
     match table.leaf_named(leaf_in(wrong.text)) {
-        Some(leaf) => push_inputs(reported, table.scenario().leaf(leaf).inputs())?,
+        Some(leaf) => push_inputs(reported, table.inputs(leaf))?,
         None => reported.text("there is no such leaf")?,
     }
     reported.end()

@@ -4,8 +4,10 @@ ghost use Rattle.gq_faults.specs.Details.{AreDetails};
 
 use crate::fault_value::{Crowd, Holder, Needed, TableKind, Unit};
 use gq_caps::Kind;
+use gq_model::limits::GREATEST_RAM;
 use gq_model::program::{Name, OperandSlot};
 use gq_reader::rules::ValueRule;
+use gq_tariff::price::PAGE;
 use itoa::Buffer;
 use std::alloc::{AllocError, Global};
 use std::marker::Model;
@@ -260,7 +262,7 @@ impl Details {
                 self.text(", as 4096 or \"4K\"")
             }
             ValueRule::Total => {
-                self.range("a quantity", 4096, 67108864)?;
+                self.range("a quantity", PAGE, GREATEST_RAM)?;
                 self.text(" that is a multiple of 4096, as 65536 or \"64K\"")
             }
             ValueRule::Text => self.text("a text"),

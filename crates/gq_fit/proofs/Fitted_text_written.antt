@@ -1,7 +1,7 @@
 -- A text that was made is written, or none was made.
 use Rattle.std.proofs.Common.{◌≡◌, List, ℕ, Option, Result, Ok, Err, IfErr, subst, sym, refl}
-use Rattle.gq_init.specs.declared.counted.Counted.{Counted}
-use Rattle.gq_init.specs.Writer_failures.{Writes}
+use Rattle.gq_output.specs.declared.counted.Counted.{Counted}
+use Rattle.gq_output.specs.Writer_failures.{Writes}
 use Rattle.gq_fit.specs.Fitted.{IsBefore, WritesFit}
 use Rattle.gq_fit.specs.declared.fit_fault.FitFault.{FitFault}
 use Rattle.gq_fit.specs.declared.fit_fault.FitFault.TheVariants.{Write}

@@ -2,7 +2,7 @@
 use Rattle.std.specs.Prelude.{◌≡◌, ℕ, List, [], ◌∷◌, map}
 use Rattle.gq_model.specs.declared.program.Instruction.{Instruction}
 use Rattle.gq_model.specs.declared.program.Instruction.TheVariants.{Open, Upgrade}
-use Rattle.gq_model.specs.declared.program.Section.{Section}
+use Rattle.gq_model.specs.declared.section.Section.{Section}
 use Rattle.gq_model.specs.machine.Amounts.{Amount, amount}
 use Rattle.gq_model.specs.machine.Program.{Program, Statements, Done, Do, If, Loop}
 use Rattle.gq_model.specs.machine.Scenario.{Component, InitNode, Interface, LeafNode, Nodes, End, Leaf_node, Init_node, Scenario, As_text}

@@ -1,13 +1,13 @@
 // Scenarios with the least quantities in place of their own.
 ghost use Rattle.std.specs.Prelude.{◌≡◌, IfErr};
-ghost use Rattle.gq_init.specs.Writer_failures.{Writes};
+ghost use Rattle.gq_output.specs.Writer_failures.{Writes};
 ghost use Rattle.gq_fit.specs.declared.fit_fault.FitFault.TheVariants as faults;
 ghost use Rattle.gq_fit.specs.Fitted.{IsFitted, IsFittedWhole, IsReason, IsReasonWhole, WritesFit};
 
 use crate::fit_fault::FitFault;
 use crate::given::given_text;
 use crate::made::fitted_text;
-use gq_init::counted::{Counted, put};
+use gq_output::counted::{Counted, put};
 use std::alloc::Global;
 use std::io::Write;
 

@@ -43,7 +43,7 @@ fn giving_edits(
     program_edits(alloc, utf8, scenario, donations.leaves.as_slice())
 }
 
-/// A scenario whose programs give more of what sessions need, and what that is.
+/// The least quantities of a scenario, and what its programs are to give, which they do.
 #[derive(Drop)]
 struct Pass {
     leasts: Leasts,

@@ -11,8 +11,9 @@ ghost use Rattle.gq_fit.specs.Places.{lexer_in, with_escape, with_letter};
 ghost use Rattle.gq_fit.specs.declared.lexer.Mode.TheVariants.{Value, Comment, Twice, LongEscape, Joined};
 
 use gq_model::letters::is_name_byte;
+use gq_model::spelling::same_text;
 use gq_scenario::key::Key;
-use gq_scenario::text_pieces::{next_piece, same_bytes};
+use gq_scenario::text_pieces::next_piece;
 use std::alloc::{AllocError, Global};
 
 /// Where a lexer is in a text.
@@ -283,7 +284,7 @@ fn is_any(keys: &[Key], word: &[u8]) -> bool
 {
     match keys {
         [] => false,
-        [key, others @ ..] => same_bytes(key.word().as_bytes(), word) || is_any(others, word),
+        [key, others @ ..] => same_text(key.word().as_bytes(), word) || is_any(others, word),
     }
 }
 
@@ -323,10 +324,10 @@ fn gives_next(line: &[u8]) -> bool
     let (word, rest) = next_piece(line, b' ');
     match rest {
         Some(rest) => {
-            if same_bytes(word, b"open") {
+            if same_text(word, b"open") {
                 return is_two(rest);
             }
-            same_bytes(word, b"upgrade") && is_one(rest)
+            same_text(word, b"upgrade") && is_one(rest)
         }
         None => false,
     }

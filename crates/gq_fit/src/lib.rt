@@ -2,7 +2,7 @@
 //!
 //! ```rust
 //! use gq_fit::fit::{fit, fit_donations};
-//! use gq_init::counted::Counted;
+//! use gq_output::counted::Counted;
 //!
 //! let mut out = Counted::new(writer);
 //! // The text of the scenario with its least quantities.

@@ -3,7 +3,7 @@
 use crate::edits::Edit;
 use crate::fit_fault::{MakeError, Misfit};
 use crate::string_letters::{Letter, Letters};
-use gq_program::Section;
+use gq_model::section::{Section, SectionKind};
 use gq_sizes::donations::SectionDonations;
 use gq_views::view_words::push_number;
 use std::alloc::{AllocError, Global};
@@ -111,22 +111,32 @@ impl Row {
         let (words, count) = self.words();
         let [first, second, third, fourth, _] = words;
         match count {
-            1 if self.is(first, b"main") => LineWords::Heading(Section::Main),
-            1 if self.is(first, b"open") => LineWords::Heading(Section::Opening),
-            2 => self.heading(first, second),
+            1 | 2 => self.heading(first, second, count == 2),
             3 if self.is(first, b"upgrade") => LineWords::Giving(third),
             4 if self.is(first, b"open") => LineWords::Giving(fourth),
             _ => LineWords::Other,
         }
     }
 
-    /// A heading with a level, if these words are one.
-    fn heading(&self, first: Word, second: Word) -> LineWords {
-        match self.level(second) {
-            Some(level) if self.is(first, b"up") => LineWords::Heading(Section::Upgrading(level)),
-            Some(level) if self.is(first, b"call") => LineWords::Heading(Section::Calling(level)),
-            Some(level) if self.is(first, b"close") => LineWords::Heading(Section::Closing(level)),
-            _ => LineWords::Other,
+    /// A heading, if it is one that begins with the first word and has the second behind it, or none.
+    fn heading(&self, first: Word, second: Word, has_second: bool) -> LineWords {
+        for kind in SectionKind::ALL {
+            if self.is(first, kind.word().as_bytes()) {
+                return match kind.levels() {
+                    None if !has_second => LineWords::Heading(kind.section(0)),
+                    Some(_) if has_second => self.headed(kind, second),
+                    _ => LineWords::Other,
+                };
+            }
+        }
+        LineWords::Other
+    }
+
+    /// The heading of a section of this kind, if a word is a level.
+    fn headed(&self, kind: SectionKind, word: Word) -> LineWords {
+        match self.level(word) {
+            Some(level) => LineWords::Heading(kind.section(level)),
+            None => LineWords::Other,
         }
     }
 

@@ -3,16 +3,17 @@ ghost use Rattle.std.specs.Prelude.{◌≡◌, ◌∷◌, [], IsTrue, map};
 ghost use Rattle.gq_program.specs.Statement_trees.{tree_of};
 ghost use Rattle.gq_fit.specs.Refitted.{giving_nothing, program_giving_nothing, section_giving_nothing, statements_giving_nothing};
 
-use gq_model::program::{Instruction, Section};
+use gq_model::program::Instruction;
+use gq_model::section::Section;
+use gq_model::spelling::same_text;
 use gq_program::program_tree::{Body, Program, Statement};
-use gq_scenario::text_pieces::same_bytes;
 
 /// Whether two statements without statements in them are the same but for what they give.
 fn same_instruction(a: &Instruction, b: &Instruction) -> bool
     ensures { IsTrue result → giving_nothing a.now ≡ giving_nothing b.now }
 {
     match (a, b) {
-        (Instruction::Say(a), Instruction::Say(b)) => same_bytes(a.as_bytes(), b.as_bytes()),
+        (Instruction::Say(a), Instruction::Say(b)) => same_text(a.as_bytes(), b.as_bytes()),
         (Instruction::Out, Instruction::Out) => true,
         (Instruction::Operands(a), Instruction::Operands(b)) => a == b,
         (Instruction::Make(f, a, n), Instruction::Make(g, b, m)) => f == g && a == b && n == m,
@@ -27,7 +28,7 @@ fn same_instruction(a: &Instruction, b: &Instruction) -> bool
         (Instruction::Peek(a), Instruction::Peek(b)) => a == b,
         (Instruction::Poke(a), Instruction::Poke(b)) => a == b,
         (Instruction::Open(a, s, _), Instruction::Open(b, t, _)) => {
-            a == b && same_bytes(s.as_bytes(), t.as_bytes())
+            a == b && same_text(s.as_bytes(), t.as_bytes())
         }
         (Instruction::Upgrade(a, _), Instruction::Upgrade(b, _)) => a == b,
         (Instruction::Call(a), Instruction::Call(b)) => a == b,

@@ -5,4 +5,3 @@ pub mod Setting_lines
 pub mod Name_index_leaves
 pub mod First_turn_line
 pub mod Name_prefix_test
-pub mod Written_byte_facts

@@ -2,7 +2,3 @@ pub mod Turn_items
 pub mod TurnLines
 pub mod TurnReading
 pub mod internal
-pub mod Writer_failures
-pub mod LeafLines
-pub mod Account_values
-pub mod Writes

@@ -1,3 +1,2 @@
 pub mod Ahead
 pub mod Piecewise_lines
-pub mod Gathered_lines

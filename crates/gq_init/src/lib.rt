@@ -1,4 +1,4 @@
-//! What a run starts with and how it reports: the turns and settings of a text, and the lines that go to a writer which counts its failures.
+//! The configuration of an init, as a run starts with it: a scenario that is read, its routes, and the turns and settings of a text.
 //!
 //! ```rust
 //! use gq_init::{NodeTable, read_turns};
@@ -11,27 +11,11 @@
 //! let acts = read_turns(alloc, b"pump.0 = 17\npump 100\n", &other)?;
 //! ```
 //!
-//! `leaf_line` and `gathered_lines` are what leaves say, `account_line` is the line of an account.
-//!
-//! ```rust
-//! use gq_init::counted::{Counted, put};
-//! use gq_init::leaf_line::text_line;
-//!
-//! let mut out = Counted::new(writer);
-//! let line = text_line(b"init -> hello", b"hello");
-//! put(&mut out, line.as_slice())?;
-//! ```
-//!
-//! Modules: lines (`gathered_lines`, `account_line`), writers (`counted`), and the turns and settings of a text (`turns`, `settings`, `turn_reader`).
+//! Modules of its own: the turns and settings of a text (`turns`, `turn_reader`), and a quick way from a name to its leaf (`name_index`). The others hand on
+//! what reads a scenario (`reader`, `key`, `source`, `scenario`, `scenario_fault`, `node_numbers`) and what resolves it (`resolve`, `node_table`).
 #![tactic(auto)]
 
-pub mod account_line;
-pub mod account_report;
-pub mod counted;
-pub mod gathered_lines;
 mod item;
-pub mod leaf_line;
-pub mod line;
 pub mod name_index;
 mod settings;
 mod turn_list;

@@ -6,9 +6,9 @@ ghost use Rattle.gq_model.specs.machine.Scenario.{components};
 ghost use Rattle.gq_model.specs.texts.Letters.{is_name};
 ghost use Rattle.gq_init.specs.internal.Ahead.{IsLeafAhead, four_at};
 
+use gq_model::spelling::same_text;
 use gq_resolve::NodeTable;
 use gq_scenario::scenario::LeafNo;
-use gq_scenario::text_pieces::same_bytes;
 
 // How many ways are tried to spread names over the places of their index.
 const SPREADS: u32 = 64;
@@ -62,7 +62,7 @@ fn is_ahead(name: &[u8], text: &[u8]) -> bool
 {
     let end = name.len();
     if end > 8 {
-        return same_bytes(&text[..end], name);
+        return same_text(&text[..end], name);
     }
     if end >= 4 {
         return four(text, 0) == four(name, 0) && four(text, end - 4) == four(name, end - 4);
@@ -210,7 +210,7 @@ impl NameIndex {
         }
         let leaf = LeafNo::new(number as u32);
         let own = table.name(leaf);
-        if same_bytes(name, own.as_bytes()) {
+        if same_text(name, own.as_bytes()) {
             return Some(leaf);
         }
         None

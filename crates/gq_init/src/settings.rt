@@ -12,9 +12,10 @@ use crate::name_index::NameIndex;
 use gq_model::act::Act;
 use gq_model::fault::TurnFault;
 use gq_model::letters::{is_digit, is_name};
+use gq_model::spelling::same_text;
 use gq_resolve::NodeTable;
 use gq_scenario::scenario::LeafNo;
-use gq_scenario::text_pieces::{next_piece, same_bytes};
+use gq_scenario::text_pieces::next_piece;
 
 // The number that these digits spell, if they are digits.
 fn spelled(text: &[u8]) -> Option<u64>
@@ -64,7 +65,7 @@ fn read_input(text: &[u8]) -> Option<(&[u8], u8)>
 fn is_setting(sign: &[u8], table: &NodeTable) -> bool
     ensures { result ≡ (has_inputs table.now.version && text_eq sign.now (codes "=")) }
 {
-    table.scenario().version().number() >= 3 && same_bytes(sign, b"=")
+    table.scenario().version().number() >= 3 && same_text(sign, b"=")
 }
 
 // This value of an input of a leaf, if the leaf has the input and may be given the value.
@@ -80,7 +81,7 @@ fn setting_at(
     ensures there { IfOk result (λ t. t.0 < length (components table.now)) }
     ensures kept { IfOk result (λ t. IsKept t.1) }
 {
-    let inputs = table.scenario().leaf(leaf).inputs();
+    let inputs = table.inputs(leaf);
     match inputs.get(usize::from(input)) {
         None => Err(TurnFault::NoInput),
         Some(greatest) if value > *greatest => Err(TurnFault::InputTooLarge),

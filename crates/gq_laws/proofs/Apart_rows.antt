@@ -1,5 +1,5 @@
 -- Two pairs of a client and its server, whose turns are mixed. By computation.
-use Rattle.std.proofs.Common.{◌≡◌, ◌||◌, ◌==◌, ℕ, Bool, true, List, [], ◌∷◌, ◌++◌, codes, Option, Some, refl}
+use Rattle.std.proofs.Common.{◌≡◌, ◌||◌, ◌==◌, ℕ, Bool, true, [], ◌∷◌, ◌++◌, codes, Option, Some, refl}
 use Rattle.std.specs.Fmt.{digits}
 use Rattle.std.specs.Prelude.{slice_get}
 use Rattle.gq_model.specs.declared.act.Act.TheVariants.{Turns}

@@ -1,5 +1,5 @@
 -- Turns of leaves outside, and settings of their inputs, leave a group that is apart untouched.
-use Rattle.std.proofs.Common.{◌≡◌, ℕ, zero, suc, Bool, false, List, [], ◌∷◌, Option, Some, None, Ok, Err, refl, ◌∙◌}
+use Rattle.std.proofs.Common.{◌≡◌, ℕ, zero, suc, Bool, false, [], ◌∷◌, Option, Some, None, Ok, Err, refl, ◌∙◌}
 use Rattle.gq_model.specs.declared.act.Act.{Act}
 use Rattle.gq_model.specs.declared.act.Act.TheVariants.{Turns, Sets}
 use Rattle.gq_model.specs.machine.Scenario.{System, Scenario, system}
@@ -7,7 +7,7 @@ use Rattle.gq_model.specs.machine.World.{World}
 use Rattle.gq_model.specs.declared.fault.Wrong.{Wrong}
 use Rattle.gq_model.specs.machine.Doing.{Stepped}
 use Rattle.gq_model.specs.machine.Step.{next}
-use Rattle.gq_model.specs.machine.Run.{Ran, Acts, after_step, turn_from, turns_of, set_input, set_from, act_on, run_on, run}
+use Rattle.gq_model.specs.machine.Run.{Ran, Acts, after_step, turn_from, turns_of, set_from, act_on, run_on, run}
 use Rattle.gq_laws.specs.Session_links.{IsLinkedWorld}
 use Rattle.gq_laws.proofs.session_links.Linked_worlds.{kept_linked}
 use Rattle.gq_laws.proofs.upheld_worlds.Any_reached_world.{reached_linked}

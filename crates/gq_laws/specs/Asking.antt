@@ -7,10 +7,10 @@ use Rattle.gq_model.specs.machine.Scenario.{System, interface_in, number_of}
 use Rattle.gq_model.specs.machine.Routes.{server_of}
 use Rattle.gq_model.specs.machine.World.{Link, SlotId, Session, Ask, Ask_open, Ask_upgrade, Ask_close, Ask_call, Leaf, World, session_at, slot_at}
 use Rattle.gq_model.specs.machine.Doing.{Doing}
-use Rattle.gq_model.specs.machine.Step.{section_for, instruct}
+use Rattle.gq_model.specs.machine.Step.{section_for, instruct, level_then}
 use Rattle.gq_model.specs.rules.Kinds.{Kind, Link_kind, AbstractState, Context}
 use Rattle.gq_model.specs.rules.Rules.{judged}
-use Rattle.gq_laws.specs.Current_section_facts.{level_then, kind_replied}
+use Rattle.gq_laws.specs.Current_section_facts.{kind_replied}
 use Rattle.gq_laws.specs.Typed.{Meets}
 use Rattle.gq_laws.specs.Inside_steps.{IsSafe}
 

@@ -1,24 +1,17 @@
 -- What the proofs say of current sections, of the statements that are left, and of the steps that they cost.
 use Rattle.std.specs.Prelude.{◌≡◌, ℕ, suc, ◌<◌, ◌≤◌, ◌==◌, if◌then◌else◌, List, [], ◌∷◌, Option, Some, None, Ok, slice_get}
-use Rattle.gq_model.specs.declared.program.Section.{Section}
-use Rattle.gq_model.specs.declared.program.Section.TheVariants.{Main, Opening, Upgrading, Calling, Closing}
+use Rattle.gq_model.specs.declared.section.Section.{Section}
+use Rattle.gq_model.specs.declared.section.Section.TheVariants.{Main, Opening, Upgrading, Calling, Closing}
 use Rattle.gq_model.specs.machine.Program.{Statements}
 use Rattle.gq_model.specs.machine.Lists.{or_first}
 use Rattle.gq_model.specs.machine.Scenario.{System, Component}
 use Rattle.gq_model.specs.machine.World.{Session, Ask, Ask_open, Ask_upgrade, Ask_close, Ask_call, Request, Current, Round, Leaf, World}
-use Rattle.gq_model.specs.machine.Step.{section_for}
+use Rattle.gq_model.specs.machine.Step.{section_for, level_then}
 use Rattle.gq_model.specs.rules.Kinds.{Kind, Empty_kind, Link_kind, AbstractState, Context, no_kinds}
 use Rattle.gq_model.specs.rules.Flow.{flow, bank_at}
 use Rattle.gq_model.specs.rules.Use.{subject}
 
 -- KINDS OF SLOTS
-
--- the level that a session has once its request is current
-abbrev pub level_then : Ask → ℕ → ℕ
-level_then Ask_upgrade level = suc level
-level_then Ask_open level = level
-level_then Ask_close level = level
-level_then (Ask_call value) level = level
 
 -- the section that the first request of a session starts
 abbrev pub section_waiting : ℕ → Session → List Request → Option Section

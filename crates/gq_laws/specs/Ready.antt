@@ -1,5 +1,5 @@
 -- Scenarios that can be run with tests, whether they are accepted or not.
-use Rattle.std.specs.Prelude.{◌≡◌, ℕ, ◌==◌, false, List, Some, slice_get, slice_index_or}
+use Rattle.std.specs.Prelude.{◌≡◌, ℕ, false, List, Some, slice_get, slice_index_or}
 use Rattle.gq_model.specs.machine.Amounts.{amount, counts_caps}
 use Rattle.gq_model.specs.machine.Scenario.{Interface, Nodes, End, Leaf_node, Init_node, Scenario, Component, components, interface_in}
 use Rattle.gq_laws.specs.Resolved_scenarios.{IsResolved}

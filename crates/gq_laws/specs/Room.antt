@@ -1,6 +1,6 @@
 -- Worlds in which a client that waits for the reply to a call has room for it on its operands.
 use Rattle.std.specs.Prelude.{◌≡◌, ℕ, ◌≤◌, length, Some, slice_get}
-use Rattle.gq_model.specs.declared.program.Section.TheVariants.{Calling}
+use Rattle.gq_model.specs.declared.section.Section.TheVariants.{Calling}
 use Rattle.gq_model.specs.machine.World.{Session, Ask, Ask_open, Ask_upgrade, Ask_close, Ask_call, Request, Current, Leaf, World, session_at}
 use Rattle.gq_laws.specs.Shapes.{Each}
 

@@ -1,7 +1,7 @@
 -- Starts and ends of sections that the rules allow.
 use Rattle.std.specs.Prelude.{◌≡◌, ℕ, List, [], length, Option, Some, Ok, Err, slice_get}
 use Rattle.gq_model.specs.declared.program.Form.TheVariants.{Slice}
-use Rattle.gq_model.specs.declared.program.Section.{Section}
+use Rattle.gq_model.specs.declared.section.Section.{Section}
 use Rattle.gq_model.specs.declared.phase.Phase.TheVariants.{Handling}
 use Rattle.gq_model.specs.machine.Program.{Statements, section_in}
 use Rattle.gq_model.specs.machine.Scenario.{interface_in, number_of}
@@ -10,10 +10,9 @@ use Rattle.gq_model.specs.machine.World.{Slot, Session, Ask, Ask_open, Request, 
 use Rattle.gq_model.specs.declared.fault.Wrong.{Wrong}
 use Rattle.gq_model.specs.declared.fault.Wrong.TheVariants.{ExceededQuota}
 use Rattle.gq_model.specs.machine.Doing.{Doing}
-use Rattle.gq_model.specs.machine.Step.{section_for, accept, section_ended}
+use Rattle.gq_model.specs.machine.Step.{section_for, accept, section_ended, level_then}
 use Rattle.gq_model.specs.rules.Kinds.{Kind, Memory, AbstractState, Subject, Context}
 use Rattle.gq_model.specs.rules.Flow.{context, body, own_after, bank_before, start_of, section_end}
-use Rattle.gq_laws.specs.Current_section_facts.{level_then}
 use Rattle.gq_laws.specs.Typed.{IsKind, AreKinds, Meets}
 use Rattle.gq_laws.specs.Inside_steps.{IsSafe}
 use Rattle.gq_laws.specs.Asking.{IsWithin}

@@ -1,12 +1,13 @@
 -- When a leaf stands at a state of the rules: its slots are of the kinds, its operands within the bounds, its loops the counts.
 use Rattle.std.specs.Prelude.{◌≡◌, true, false, ℕ, ◌<◌, List, [], ◌∷◌, length, Option, Some, None, slice_get}
 use Rattle.gq_model.specs.declared.program.Form.TheVariants.{Slice, Space}
-use Rattle.gq_model.specs.declared.program.Section.{Section}
+use Rattle.gq_model.specs.declared.section.Section.{Section}
 use Rattle.gq_model.specs.machine.Amounts.{Amount}
 use Rattle.gq_model.specs.machine.Scenario.{System, number_of}
 use Rattle.gq_model.specs.machine.World.{Slot, Empty, Waiting, Bytes, Pool, Link, SlotId, Session, Current, Round, Leaf, World, session_at, slot_at}
 use Rattle.gq_model.specs.machine.Memory.{room, buffer_of}
-use Rattle.gq_model.specs.rules.Kinds.{Kind, Empty_kind, Memory, Pool_kind, Link_kind, AbstractState, Context, in_main}
+use Rattle.gq_model.specs.rules.Kinds.{Kind, Empty_kind, Memory, Pool_kind, Link_kind, AbstractState, Context}
+use Rattle.gq_model.specs.machine.Sections.{is_own_section}
 use Rattle.gq_laws.specs.Current_section_facts.{Under}
 use Rattle.gq_laws.specs.Shapes.{Each}
 
@@ -61,8 +62,8 @@ AreCounts (r ∷ loops) [] = ⊥
 
 -- `main` has no current request, and every other section a session of which it is a section
 abbrev pub IsCurrent : Section → Option Current → Type 0
-IsCurrent section None = in_main section ≡ true
-IsCurrent section (Some current) = (current.section ≡ section) × (in_main section ≡ false)
+IsCurrent section None = is_own_section section ≡ true
+IsCurrent section (Some current) = (current.section ≡ section) × (is_own_section section ≡ false)
 
 -- the session's slots are of these kinds, and its object is a slice of so many bytes
 pub record BankMeets (promised : ℕ → Option Kind) (c : Context) (kinds : List Kind) (s : Session) : Type 0 where

@@ -1,17 +1,17 @@
 -- Worlds in which each leaf stands where the rules say, and each session with its slots as its last section left them.
 use Rattle.std.specs.Prelude.{◌≡◌, ◌≤◌, true, ℕ, length, replicate, Option, Some, None, Ok, slice_get, List}
 use Rattle.gq_model.specs.declared.program.Form.TheVariants.{Slice}
-use Rattle.gq_model.specs.declared.program.Section.{Section}
-use Rattle.gq_model.specs.declared.program.Section.TheVariants.{Main}
+use Rattle.gq_model.specs.declared.section.Section.{Section}
+use Rattle.gq_model.specs.declared.section.Section.TheVariants.{Main}
 use Rattle.gq_model.specs.declared.phase.Phase.{Phase}
 use Rattle.gq_model.specs.declared.phase.Phase.TheVariants.{Pending, Running, Blocked, Serving, Handling, Exited}
 use Rattle.gq_model.specs.machine.Program.{Statements, section_in}
 use Rattle.gq_model.specs.machine.Scenario.{Interface, System, Component, interface_in, number_of}
-use Rattle.gq_model.specs.machine.World.{Empty, Session, Request, Current, Round, Leaf, World, session_at}
-use Rattle.gq_model.specs.machine.Step.{section_for}
+use Rattle.gq_model.specs.machine.World.{Empty, Session, Request, Round, Leaf, World, section_of, session_at}
+use Rattle.gq_model.specs.machine.Step.{section_for, level_then}
 use Rattle.gq_model.specs.rules.Kinds.{Kind, Memory, Link_kind, AbstractState}
 use Rattle.gq_model.specs.rules.Flow.{flow, context, body, start_of, own_after}
-use Rattle.gq_laws.specs.Current_section_facts.{level_then, current_section, section_asked, kind_replied, within, Continues, bank_kinds}
+use Rattle.gq_laws.specs.Current_section_facts.{current_section, section_asked, kind_replied, within, Continues, bank_kinds}
 use Rattle.gq_model.specs.rules.Verdict.{is_wanted}
 use Rattle.gq_model.specs.rules.Use.{subject}
 use Rattle.gq_laws.specs.Shapes.{Each}
@@ -31,11 +31,6 @@ abbrev pub PromisesSessions : (ℕ → Option Kind) → World → Type 0
 PromisesSessions promised w = (k : ℕ) (s : Session) → session_at w k ≡ Some s → promised k ≡ Some (kind_then s (section_asked w k s))
 
 -- LEAVES
-
--- the section that a leaf is in
-abbrev pub section_of : Option Current → Section
-section_of None = Main
-section_of (Some current) = current.section
 
 -- the leaf waits for the reply to a request of a session of its; with that reply it will stand at the second state
 pub record IsAwaited (system : System) (w : World) (x : ℕ) (state next : AbstractState) : Type 0 where

@@ -5,7 +5,7 @@ ghost use Rattle.gq_leaf.specs.Section_boundaries.{begun, exited, resumed, serve
 
 use crate::leaf::Leaf;
 use gq_model::phase::Phase;
-use gq_model::program::Section;
+use gq_model::section::Section;
 use gq_statements::Current;
 
 impl Leaf {

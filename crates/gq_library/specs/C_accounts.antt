@@ -4,7 +4,7 @@ use Rattle.gq_model.specs.machine.Accounts.{LeafAccount}
 use Rattle.gq_model.specs.rules.Accept.{Budget}
 use Rattle.gq_model.specs.declared.phase.Phase.{Phase}
 use Rattle.gq_model.specs.declared.phase.Phase.TheVariants.{Pending, Running, Blocked, Serving, Handling, Exited}
-use Rattle.gq_init.specs.Account_values.{AccountValues}
+use Rattle.gq_output.specs.Account_values.{AccountValues}
 use Rattle.gq_library.specs.declared.account_structs.NodeAccount.{NodeAccount}
 use Rattle.gq_library.specs.declared.account_structs.LeafBounds.{LeafBounds}
 

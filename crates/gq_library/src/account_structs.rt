@@ -1,6 +1,6 @@
 // Accounts and bounds, as C reads them.
 ghost use Rattle.std.specs.Prelude.{◌≡◌, ◌<◌, ◌↔◌, false, true, length, slice_get, IfSome};
-ghost use Rattle.gq_init.specs.Account_values.{reported_of};
+ghost use Rattle.gq_output.specs.Account_values.{reported_of};
 ghost use Rattle.gq_model.specs.rules.Accept.{budgets};
 ghost use Rattle.gq_resolve.specs.NodeTables.{node_rows};
 ghost use Rattle.gq_world.specs.Account_lines.{all_accounts};

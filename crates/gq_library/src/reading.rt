@@ -1,6 +1,6 @@
 // What a world has: nodes and leaves, names, accounts and bounds.
 ghost use Rattle.std.specs.Prelude.{◌≡◌, ◌<◌, ◌≤◌, ◌↔◌, false, true, length, slice_get, None, IfSome};
-ghost use Rattle.gq_init.specs.Account_values.{reported_of};
+ghost use Rattle.gq_output.specs.Account_values.{reported_of};
 ghost use Rattle.gq_model.specs.machine.Routes.{numbered};
 ghost use Rattle.gq_model.specs.machine.Scenario.{components};
 ghost use Rattle.gq_model.specs.rules.Accept.{budgets};

@@ -3,7 +3,8 @@ ghost use Rattle.std.specs.Prelude.{◌≡◌, Some};
 ghost use Rattle.gq_load.specs.Load_faults.{load_fault_text};
 
 use gq_model::fault::{CodeFault, Rule, TextFault};
-use gq_model::program::{Name, Section};
+use gq_model::program::Name;
+use gq_model::section::Section;
 use gq_resolve::resolve_fault::{ResolveError, ResolveFault};
 use gq_scenario::scenario_fault::ScenarioFault;
 use std::alloc::{AllocError, AllocFailed};

@@ -20,7 +20,8 @@ use Rattle.gq_leaf.specs.Leaf_states.{LeafState, body_in, leaf_of, section_at}
 use Rattle.gq_leaf.specs.Coded.{Coded}
 use Rattle.gq_machine.specs.Machines.{Machine}
 use Rattle.gq_machine.specs.Machine_world.{frame_of}
-use Rattle.gq_machine.specs.Readers.{StandsAt, section_of}
+use Rattle.gq_machine.specs.Readers.{StandsAt}
+use Rattle.gq_model.specs.machine.World.{section_of}
 use Rattle.gq_machine.specs.declared.machine.Machine.TheInside.{Inside}
 use Rattle.gq_machine.specs.internal.Machine_invariant.{Holds}
 use Rattle.gq_machine.specs.internal.Starts.{machine_seen}

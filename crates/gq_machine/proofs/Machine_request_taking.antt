@@ -7,12 +7,12 @@ use Rattle.std.proofs.lemmas.Option.{slice_get-map, get_or_from_slice_get}
 use Rattle.gq_model.specs.declared.fault.Wrong.{Wrong}
 use Rattle.gq_model.specs.declared.fault.Wrong.TheVariants.{ExceededQuota, MissingSection}
 use Rattle.gq_model.specs.declared.phase.Phase.TheVariants as phase
-use Rattle.gq_model.specs.declared.program.Section.{Section}
-use Rattle.gq_model.specs.declared.program.Section.TheVariants.{Upgrading}
+use Rattle.gq_model.specs.declared.section.Section.{Section}
+use Rattle.gq_model.specs.declared.section.Section.TheVariants.{Upgrading}
 use Rattle.gq_model.specs.machine.Doing.{Doing, Idle, Quiet, standing}
 use Rattle.gq_model.specs.machine.Program.{body_of, section_in}
 use Rattle.gq_model.specs.machine.Scenario.{Interface, Scenario, System, Component, components, interface_in, number_of, system}
-use Rattle.gq_model.specs.machine.Step.{accept_oldest, accepted_as, beginning, first_operands, next, oldest, section_for, step_in}
+use Rattle.gq_model.specs.machine.Step.{accept_oldest, accepted_as, beginning, first_operands, next, oldest, section_asked, section_for, step_in}
 use Rattle.gq_model.specs.machine.World as world
 use Rattle.gq_model.specs.texts.Code.{IsProgram}
 use Rattle.gq_model.proofs.Small_facts.{some_same}
@@ -25,13 +25,13 @@ use Rattle.gq_trade.specs.Numbers.{IsTaken}
 use Rattle.gq_trade.specs.declared.requests.Ask.TheVariants.{Upgrade}
 use Rattle.gq_trade.specs.declared.requests.Request.{Request}
 use Rattle.gq_trade.specs.Queues.{IsOldest, oldest_to}
-use Rattle.gq_trade.specs.Seen_requests.{request_seen}
+use Rattle.gq_trade.specs.Seen_requests.{ask_seen, request_seen}
 use Rattle.gq_trade.specs.Trading.{object_size, server_of, session_at}
 use Rattle.gq_slots.specs.Session_calls.{TakesOldest}
 use Rattle.gq_slots.specs.Slots.{AreSound, Frame, Slots, memory_of, world_seen}
 use Rattle.gq_statements.specs.Systems.{AreLawful, IsOf, stage_in}
 use Rattle.gq_statements.specs.Serving.{AreSections, Begins, HaveObjects, begun_leaf, taken}
-use Rattle.gq_statements.specs.internal.Beginning.{can_pay, section_of}
+use Rattle.gq_statements.specs.internal.Beginning.{can_pay}
 use Rattle.gq_statements.proofs.Oldest_request_outcomes.{from_some, without}
 use Rattle.gq_statements.proofs.Taken_request_world.{none_taken}
 use Rattle.gq_leaf.specs.Coded.{Coded, IsStanding}
@@ -41,7 +41,7 @@ use Rattle.gq_machine.specs.Machine_world.{frame_of, world_of}
 use Rattle.gq_machine.specs.declared.machine_state.Fixed.{Fixed}
 use Rattle.gq_machine.specs.declared.machine_state.MachineState.{MachineState}
 use Rattle.gq_machine.specs.internal.Machine_invariant.{Holds}
-use Rattle.gq_machine.specs.internal.Taken_requests.{begun_for, section_asked}
+use Rattle.gq_machine.specs.internal.Taken_requests.{begun_for}
 use Rattle.gq_machine.proofs.Machine_leaf_frames.{elsewhere, leaf_at, leaf_else, leaf_set}
 use Rattle.gq_machine.proofs.Slot_system_kept.{of_kept, scene_self}
 use Rattle.gq_machine.proofs.Program_section_limit.{no_fourth}
@@ -150,8 +150,8 @@ module _ (f : Fixed) (m : MachineState) (h : Holds f m) (l : AreLawful m.slots) 
       → r.ask ≡ Upgrade → (session_at t.trades.trading r.session).level ≡ 3 → next (system s) (world_of s m.leaves.items t) x ≡ Err MissingSection
   beyond order program sound r others is there server ask level =
       let n = object_size t.trades.trading r.session in
-      let none : is_some (section_in (section_of r.ask (session_at t.trades.trading r.session).level) c.node.program.sections) ≡ false =
-      ap (λ a. is_some (section_in (section_of a (session_at t.trades.trading r.session).level) c.node.program.sections)) ask
+      let none : is_some (section_in (section_asked (ask_seen r.ask) (session_at t.trades.trading r.session).level) c.node.program.sections) ≡ false =
+      ap (λ a. is_some (section_in (section_asked (ask_seen a) (session_at t.trades.trading r.session).level) c.node.program.sections)) ask
       ∙ (ap (λ k. is_some (section_in (Upgrading (suc k)) c.node.program.sections)) level ∙ no_fourth c.node.program program) in
       next_is
       ∙ without it now t x refl refl l sound r others is there after (begins order) n MissingSection none server refl

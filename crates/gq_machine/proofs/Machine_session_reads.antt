@@ -4,8 +4,8 @@ use Rattle.std.proofs.Common.{None, IfSome, eqb, refl, sym, ap, subst, ◌∙◌
 use Rattle.std.specs.Prelude.{IsTrue, slice_get, slice_index}
 use Rattle.std.proofs.lemmas.Bool.Decides.{eqb_tells}
 use Rattle.std.proofs.lemmas.List.{length-map}
-use Rattle.gq_model.specs.declared.program.Section.{Section}
-use Rattle.gq_model.specs.machine.Step.{is_to, oldest, section_for}
+use Rattle.gq_model.specs.declared.section.Section.{Section}
+use Rattle.gq_model.specs.machine.Step.{is_to, oldest, section_asked}
 use Rattle.gq_model.specs.machine.Scenario.{components}
 use Rattle.gq_model.specs.machine.World as world
 use Rattle.gq_model.proofs.Small_facts.{none_some, some_same}
@@ -35,7 +35,7 @@ use Rattle.gq_slots.proofs.Slot_change_worlds.{session_there}
 use Rattle.gq_statements.specs.Systems.{AreLawful}
 use Rattle.gq_statements.proofs.Asking_keeps_sessions.{session_found}
 use Rattle.gq_machine.specs.Machines.{Machine}
-use Rattle.gq_machine.specs.Readers.{HasSlotId, IsReportedOf, asked_in, holding_of, level_in, level_then, request_of}
+use Rattle.gq_machine.specs.Readers.{HasSlotId, IsReportedOf, asked_in, holding_of, level_in, request_of}
 use Rattle.gq_machine.specs.Machine_world.{frame_of}
 use Rattle.gq_machine.specs.declared.machine.Machine.TheInside.{Inside}
 use Rattle.gq_machine.specs.declared.world_reads.Asked.{Asked}
@@ -113,11 +113,11 @@ abbrev reported_as : ℕ → Section → Asked
 reported_as session section = record { session = session; section = section }
 
 asked_is : (f : Frame) (s : Slots) (r : Request) (a : Asked) → IsTaken s.trades.trading.sessions r.session → a.session ≡ r.session
-    → a.section ≡ section_for (ask_seen r.ask) (level_then (ask_seen r.ask) (session_at s.trades.trading r.session).level)
+    → a.section ≡ section_asked (ask_seen r.ask) (session_at s.trades.trading r.session).level
     → a ≡ asked_in (world_seen f s) (request_seen r)
 asked_is f s r a there session section =
     (λ i. reported_as (session i) (section i))
-    ∙ ap (λ (o : Option world.Session). reported_as r.session (section_for (ask_seen r.ask) (level_then (ask_seen r.ask) (level_in o))))
+    ∙ ap (λ (o : Option world.Session). reported_as r.session (section_asked (ask_seen r.ask) (level_in o)))
     (sym (session_found f s r.session there))
 
 -- WHAT THE MACHINE'S READERS RETURN
@@ -141,12 +141,11 @@ module _ (i : Inside) (w : Machine) (e : machine_seen i ≡ w) (h : Holds i.fixe
 
   pub request_read : (v : Trades) → v ≡ t.trades → (k : ℕ) (o : Option Request) (r : Request) → o ≡ queue.request_of k v.trading.requests → o ≡ Some r
       → (a : Asked) → a.session ≡ r.session
-      → a.section ≡ section_for (ask_seen r.ask) (level_then (ask_seen r.ask) (session_at v.trading r.session).level)
+      → a.section ≡ section_asked (ask_seen r.ask) (session_at v.trading r.session).level
       → Some a ≡ option_map (asked_in w.world) (request_of k w.world.requests)
   request_read v same k o r is reported a session section =
       let there = subst (λ (y : Trades). IsTaken y.trading.sessions r.session) same (request_taken v same k o r is reported) in
-      let asked = asked_is f t r a there session (section ∙ ap (λ (y : Trades). section_for (ask_seen r.ask)
-      (level_then (ask_seen r.ask) (session_at y.trading r.session).level)) same) in
+      let asked = asked_is f t r a there session (section ∙ ap (λ (y : Trades). section_asked (ask_seen r.ask) (session_at y.trading r.session).level) same) in
       let first = requests_seen k t.trades.trading.requests ∙ ap (λ (y : Trades). option_map request_seen (queue.request_of k y.trading.requests)) (sym same)
       ∙ ap (option_map request_seen) (sym is ∙ reported) in
       ap Some asked ∙ ap (option_map (asked_in (world_seen f t))) (sym first)
@@ -165,12 +164,11 @@ module _ (i : Inside) (w : Machine) (e : machine_seen i ≡ w) (h : Holds i.fixe
 
   pub oldest_read : (v : Trades) → v ≡ t.trades → (x n : ℕ) → n ≡ x → (r : Request) → IsOldest n v.trading.requests r → IsTaken v.trading.sessions r.session
       → (a : Asked) → a.session ≡ r.session
-      → a.section ≡ section_for (ask_seen r.ask) (level_then (ask_seen r.ask) (session_at v.trading r.session).level)
+      → a.section ≡ section_asked (ask_seen r.ask) (session_at v.trading r.session).level
       → Some a ≡ option_map (λ (p : world.Request × List world.Request). asked_in w.world p.0) (oldest w.world x w.world.requests)
   oldest_read v same x n at r is taken a session section =
       let there = subst (λ (y : Trades). IsTaken y.trading.sessions r.session) same taken in
-      let asked = asked_is f t r a there session (section ∙ ap (λ (y : Trades). section_for (ask_seen r.ask)
-      (level_then (ask_seen r.ask) (session_at y.trading r.session).level)) same) in
+      let asked = asked_is f t r a there session (section ∙ ap (λ (y : Trades). section_asked (ask_seen r.ask) (session_at y.trading r.session).level) same) in
       let first = oldest_seen x ∙ ap taken_seen (ap (λ (y : Trades). oldest_to x y.trading.requests) (sym same)
       ∙ ap (λ m. oldest_to m v.trading.requests) (sym at) ∙ is.is) in
       ap Some asked ∙ ap (option_map (λ (p : world.Request × List world.Request). asked_in (world_seen f t) p.0)) (sym first)

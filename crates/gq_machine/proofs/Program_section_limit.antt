@@ -2,11 +2,12 @@
 use Rattle.std.proofs.Common.{◌≡◌, ◌+◌, ℕ, zero, suc, true, false, ◌&&◌, cond, List, [], ◌∷◌, ◌==◌, is_some, Some, refl, ap, length, sum_by, ◌∙◌, arith}
 use Rattle.std.specs.Prelude.{nat_le}
 use Rattle.std.proofs.lemmas.Bool.{and_parts, leb-true}
-use Rattle.gq_model.specs.declared.program.Section.{Section}
-use Rattle.gq_model.specs.declared.program.Section.TheVariants.{Main, Opening, Upgrading, Calling, Closing}
+use Rattle.gq_model.specs.declared.section.Section.{Section}
+use Rattle.gq_model.specs.declared.section.Section.TheVariants.{Main, Opening, Upgrading, Calling, Closing}
 use Rattle.gq_model.specs.machine.Lists.{all_of, between}
-use Rattle.gq_model.specs.machine.Program.{Program, Statements, same_section, section_in, size}
-use Rattle.gq_model.specs.texts.Code.{IsProgram, are_sections, greatest_statements, is_body, is_section, section_number}
+use Rattle.gq_model.specs.machine.Program.{Program, Statements, section_in, size}
+use Rattle.gq_model.specs.machine.Sections.{same_section, is_section, section_number}
+use Rattle.gq_model.specs.texts.Code.{IsProgram, are_sections, greatest_statements, is_body}
 use Rattle.gq_model.specs.texts.Operands.{greatest_number}
 
 -- a section is none for a fourth upgrade

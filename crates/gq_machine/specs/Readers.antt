@@ -1,12 +1,13 @@
 -- What is read of a machine's world, as its readers report it.
 use Rattle.std.specs.Prelude.{◌≡◌, ℕ, suc, Bool, true, false, ◌<◌, ◌≤◌, ◌==◌, if◌then◌else◌, is_some, IsTrue, List, [], ◌∷◌, Option, Some, None, get_or}
 use Rattle.std.specs.Prelude.{length, slice_get}
-use Rattle.gq_model.specs.declared.program.Section.{Section}
-use Rattle.gq_model.specs.declared.program.Section.TheVariants.{Main}
+use Rattle.gq_model.specs.declared.section.Section.{Section}
+use Rattle.gq_model.specs.declared.section.Section.TheVariants.{Main}
 use Rattle.gq_model.specs.machine.Program.{body_of, section_in}
 use Rattle.gq_model.specs.machine.Scenario.{Component, components}
-use Rattle.gq_model.specs.machine.Step.{section_for}
+use Rattle.gq_model.specs.machine.Step.{section_asked}
 use Rattle.gq_model.specs.machine.World as world
+use Rattle.gq_model.specs.machine.World.{section_of}
 use Rattle.gq_trade.specs.declared.session.SlotId.{SlotId}
 use Rattle.gq_trade.specs.declared.session.SlotId.TheVariants.{InLeaf, InSession, InObject}
 use Rattle.gq_trade.specs.Seen_sessions.{slot_id_seen}
@@ -23,20 +24,13 @@ use Rattle.gq_machine.specs.declared.world_reads.SessionState.{SessionState}
 
 -- REQUESTS
 
--- the level at which a session of this level is once a request of it is taken
-abbrev pub level_then : world.Ask → ℕ → ℕ
-level_then world.Ask_open level = level
-level_then world.Ask_upgrade level = suc level
-level_then world.Ask_close level = level
-level_then (world.Ask_call value) level = level
-
 abbrev pub level_in : Option world.Session → ℕ
 level_in None = 0
 level_in (Some s) = s.level
 
 -- the section that a request starts
 abbrev pub requested : world.World → world.Request → Section
-requested w r = section_for r.ask (level_then r.ask (level_in (world.session_at w r.session)))
+requested w r = section_asked r.ask (level_in (world.session_at w r.session))
 
 -- a request, as it is reported
 abbrev pub asked_in : world.World → world.Request → Asked
@@ -91,10 +85,6 @@ awaits (world.Link k) = false
 awaits (world.Waiting k) = true
 
 -- LEAVES
-
-abbrev pub section_of : Option world.Current → Section
-section_of None = Main
-section_of (Some current) = current.section
 
 -- a leaf has left to do what stands at the place of these registers in its section, and has their operands, locals and inputs
 abbrev pub StandsAt : Component → world.Leaf → Core → Type 0

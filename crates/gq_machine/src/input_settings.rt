@@ -76,7 +76,7 @@ impl Machine {
         ensures unchanged { OnErr result (self.new ≡ self.old) }
     {
         lawful(&self.state.slots);
-        let inputs = self.fixed.table.scenario().leaf(leaf).inputs();
+        let inputs = self.fixed.table.inputs(leaf);
         match judge_input(inputs, input, number) {
             Ok(()) => {
                 put_input(&self.fixed, &mut self.state, leaf.index(), input, number);

@@ -15,8 +15,8 @@ use crate::machine_steps::turn;
 use crate::others::LINE;
 use crate::output::output_turns;
 use arrayvec::ArrayVec;
-use gq_init::gathered_lines::Lines;
 use gq_model::fault::Wrong;
+use gq_output::gathered_lines::Lines;
 use gq_scenario::scenario::LeafNo;
 use gq_statements::paid_laws::lawful;
 

@@ -19,7 +19,7 @@ ghost use Rattle.gq_machine.specs.internal.Starts.{AreFirst, ArePrepared, IsFirs
 use crate::machine_state::{Fixed, MachineState, Prepared};
 use gq_bytecode::Code;
 use gq_leaf::Leaf;
-use gq_model::limits::INPUTS;
+use gq_model::limits::{GREATEST_SESSIONS, INPUTS};
 use gq_model::phase::Phase;
 use gq_prepared::openings::openings;
 use gq_prepared::plan_of;
@@ -37,7 +37,7 @@ use std::alloc::{AllocError, Global};
 use std::marker::Model;
 
 // How many sessions there is room for: more than there can be at a time.
-const ROOM: u32 = 16449;
+const ROOM: u32 = GREATEST_SESSIONS as u32;
 
 /// The leaves of a scenario between two steps, with all that they have in memory and sessions.
 #[derive(Drop)]

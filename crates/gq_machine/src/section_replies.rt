@@ -1,6 +1,6 @@
 // At the end of a section for a session its server replies.
 ghost use Rattle.std.specs.Prelude.{◌≡◌, ℕ, ◌+◌, ◌<◌, ◌^◌, ◌∷◌, Some, length, slice_get};
-ghost use Rattle.gq_model.specs.declared.program.Section.TheVariants as section;
+ghost use Rattle.gq_model.specs.declared.section.Section.TheVariants as section;
 ghost use Rattle.gq_statements.specs.Slot_statements.{done};
 ghost use Rattle.gq_leaf.specs.Coded.{Coded};
 ghost use Rattle.gq_machine.specs.internal.Machine_invariant.{EndsSection, Goes, LeavesState, OfLeaf};
@@ -9,7 +9,7 @@ ghost use Rattle.gq_machine.specs.internal.Section_replies.{HasClient, replied};
 use crate::machine_state::{Fixed, MachineState};
 use gq_leaf::Leaf;
 use gq_model::fault::Wrong;
-use gq_model::program::Section;
+use gq_model::section::Section;
 use gq_statements::Current;
 use gq_statements::client_replies::{reply_close, reply_open};
 use gq_statements::paid_laws::lawful;

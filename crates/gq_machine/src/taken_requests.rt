@@ -15,10 +15,9 @@ ghost use Rattle.gq_model.specs.machine.Amounts.{counts_caps};
 use crate::machine_state::{Fixed, MachineState};
 use gq_leaf::Leaf;
 use gq_model::fault::Wrong;
-use gq_model::program::Section;
 use gq_statements::Current;
 use gq_statements::paid_laws::lawful;
-use gq_statements::serving_requests::Provider;
+use gq_statements::serving_requests::{Provider, section_asked};
 use gq_trade::{Ask, Request};
 
 // What every scenario has: its interfaces stand in the order of their names, and each leaf has a program. It does nothing.
@@ -67,27 +66,13 @@ fn begin(leaf: &mut Leaf, request: Request, level: u8)
     requires level { level ≤ 3 }
     ensures { leaf.new ≡ begun_for leaf.old (request_seen request) level }
 {
-    let session = request.session;
+    let current = Current {
+        session: request.session,
+        section: section_asked(request.ask, level),
+    };
     match request.ask {
-        Ask::Open => leaf.begin(Current {
-            session,
-            section: Section::Opening,
-        }),
-        Ask::Upgrade => leaf.begin(Current {
-            session,
-            section: Section::Upgrading(level + 1),
-        }),
-        Ask::Close => leaf.begin(Current {
-            session,
-            section: Section::Closing(level),
-        }),
-        Ask::Call(value) => leaf.begin_with(
-            Current {
-                session,
-                section: Section::Calling(level),
-            },
-            value,
-        ),
+        Ask::Call(value) => leaf.begin_with(current, value),
+        Ask::Open | Ask::Upgrade | Ask::Close => leaf.begin(current),
     }
 }
 

@@ -2,7 +2,7 @@
 ghost use Rattle.std.specs.Prelude.{◌≡◌, ◌<◌, ◌≤◌, ◌∷◌, [], Some, None, option_map, drop, length, slice_get, slice_index, IfSome, IfNone, MatchOption};
 ghost use Rattle.gq_heap.specs.Classes.{index_of};
 ghost use Rattle.gq_model.specs.machine.Scenario.{components};
-ghost use Rattle.gq_model.specs.machine.Step.{oldest, section_for};
+ghost use Rattle.gq_model.specs.machine.Step.{oldest, section_asked};
 ghost use Rattle.gq_model.specs.machine.World as world;
 ghost use Rattle.gq_store.specs.Store.{Store};
 ghost use Rattle.gq_contents.specs.Contents.{seen};
@@ -11,14 +11,16 @@ ghost use Rattle.gq_trade.specs.Seen_sessions.{slot_id_seen};
 ghost use Rattle.gq_trade.specs.Seen_requests.{ask_seen};
 ghost use Rattle.gq_trade.specs.Trading.{session_at};
 ghost use Rattle.gq_statements.specs.Slot_statements.{current_seen};
-ghost use Rattle.gq_machine.specs.Readers.{HasSlotId, IsReportedOf, asked_in, holding_of, level_then, request_of};
+ghost use Rattle.gq_machine.specs.Readers.{HasSlotId, IsReportedOf, asked_in, holding_of, request_of};
 
 use crate::machine::Machine;
 use gq_contents::Content;
-use gq_model::program::{Form, Section};
+use gq_model::program::Form;
+use gq_model::section::Section;
 use gq_scenario::scenario::LeafNo;
 use gq_statements::Current;
 use gq_statements::paid_laws::lawful;
+use gq_statements::serving_requests::section_asked;
 use gq_tariff::{Amount, Class};
 use gq_trade::{Ask, Request, Session, SlotId, Trades};
 
@@ -54,31 +56,17 @@ pub enum Holding {
     Session(usize),
 }
 
-// The section that a request starts, of a session that has this level.
-fn section_of(ask: Ask, level: u8) -> Section
-    requires { level ≤ 3 }
-    ensures { result ≡ section_for (ask_seen ask) (level_then (ask_seen ask) level) }
-{
-    match ask {
-        Ask::Open => Section::Opening,
-        Ask::Upgrade => Section::Upgrading(level + 1),
-        Ask::Close => Section::Closing(level),
-        Ask::Call(_) => Section::Calling(level),
-    }
-}
-
 // A request that waits, with the section that it starts.
 fn asked_of(trades: &Trades, request: Request) -> Asked
     requires there { IsTaken trades.now.trading.sessions request.session }
     requires level { (session_at trades.now.trading request.session).level ≤ 3 }
     ensures session { result.session ≡ request.session }
-    ensures section { result.section ≡ section_for (ask_seen request.ask)
-        (level_then (ask_seen request.ask) (session_at trades.now.trading request.session).level) }
+    ensures section { result.section ≡ section_asked (ask_seen request.ask) (session_at trades.now.trading request.session).level }
 {
     let level = trades.level(request.session);
     Asked {
         session: request.session,
-        section: section_of(request.ask, level),
+        section: section_asked(request.ask, level),
     }
 }
 

@@ -5,7 +5,8 @@ use Rattle.std.proofs.lemmas.Bool.{and_parts, and_from, lt-ltb}
 use Rattle.gq_model.specs.machine.Program.{Statements, Done, Do, If, Loop, ◌then◌, size}
 use Rattle.gq_model.specs.machine.Lists.{all_of, between}
 use Rattle.gq_model.specs.texts.Operands.{operands, in_range}
-use Rattle.gq_model.specs.texts.Code.{is_body, is_section, greatest_statements}
+use Rattle.gq_model.specs.texts.Code.{is_body, greatest_statements}
+use Rattle.gq_model.specs.machine.Sections.{is_section}
 use Rattle.gq_model.specs.texts.Text.{BlockKind, Section_block, First_arm, Second_arm, Loop_body, OpenBlock, Reading, add_to, close_block}
 use Rattle.gq_model.proofs.Assembled_sections.{AreLimits, AreGiven, sections_size}
 

@@ -1,15 +1,18 @@
 -- What a text is assembled to is a program.
 use Rattle.std.proofs.Common.{◌≡◌, ℕ, suc, ◌+◌, ◌<◌, ◌≤◌, List, [], ◌∷◌, length, true, Option, Some, None, Result, Ok, Err, refl, arith}
-use Rattle.std.specs.Prelude.{nat_lt, nat_le, ◌==◌, ◌&&◌, if◌then◌else◌, codes, sum_by}
+use Rattle.std.specs.Prelude.{nat_lt, nat_le, ◌==◌, ◌&&◌, ◌||◌, if◌then◌else◌, codes, sum_by}
 use Rattle.std.proofs.lemmas.Bool.{and_parts, and_from, ltb-true, le-leb, cond_both}
-use Rattle.gq_model.specs.machine.Program.{Done, Do, Section, Main, Opening, Upgrading, Calling, Closing, all_sections, section_in, Program, size, text_eq}
+use Rattle.gq_model.specs.machine.Program.{Done, Do, section_in, Program, size, text_eq}
+use Rattle.gq_model.specs.machine.Sections.{Section, Main, Opening, Upgrading, Calling, Closing, all_sections, is_section, SectionKind, row, all_kinds}
+use Rattle.gq_model.specs.declared.section.SectionKind.TheVariants as kinds
 use Rattle.gq_model.specs.machine.Lists.{all_of, between}
 use Rattle.gq_model.specs.texts.Letters.{lines, words, unindented, past_word, number_in}
 use Rattle.gq_model.specs.texts.Operands.{operands, in_range, greatest_number}
-use Rattle.gq_model.specs.texts.Code.{is_section, are_sections, greatest_statements, IsProgram}
+use Rattle.gq_model.specs.texts.Code.{are_sections, greatest_statements, IsProgram}
 use Rattle.gq_model.specs.texts.Spelling.{TextFault, UnknownWord, BadNumber, TooLong, spellings, shape_of_word, Spelled, instruction_in}
 use Rattle.gq_model.specs.texts.Text.{Section_block, First_arm, Second_arm, Loop_body, BlockKind, OpenBlock, Reading, Read, at_end, numbered, opening}
 use Rattle.gq_model.specs.texts.Text.{close_block, ended, turned_over, other_arm, counted, nested, put, statement, limit_of, once, heading, local, outside}
+use Rattle.gq_model.specs.texts.Text.{kind_with, headed, headed_or_stray}
 use Rattle.gq_model.specs.texts.Text.{is_comment, in_place, line_read, on_line, limits_from, in_order, finished, lines_read, assembled}
 use Rattle.gq_model.proofs.Holding_results.{Holds, holds_at}
 use Rattle.gq_model.proofs.Shape_spelling.{word_fills}
@@ -145,22 +148,29 @@ local_holds r rest h =
     (λ n last t.
     at_end_holds last _ (record { limits = (t, h.limits); sections = h.sections; blocks = h.blocks; count = h.count; few = h.few }))))
 
+at_most : (l : ℕ) → between 0 3 l ≡ true → nat_le l 3 ≡ true
+at_most l t = (and_parts (nat_le 0 l) (nat_le l 3) t).1
+
+headed_holds : (r : Reading) (k : ℕ) (kind : SectionKind) (rest : List (List ℕ)) → IsReading r → r.blocks ≡ []
+    → Holds IsReading (headed r k kind (row kind).levels rest)
+headed_holds r k kinds.Main rest h e = heading_holds r k Main rest h e refl
+headed_holds r k kinds.Opening rest h e = heading_holds r k Opening rest h e refl
+headed_holds r k kinds.Upgrading rest h e =
+    numbered_holds 1 3 rest (λ l more. heading r k (Upgrading l) more) (λ l more t. heading_holds r k (Upgrading l) more h e t)
+headed_holds r k kinds.Calling rest h e =
+    numbered_holds 0 3 rest (λ l more. heading r k (Calling l) more) (λ l more t. heading_holds r k (Calling l) more h e (at_most l t))
+headed_holds r k kinds.Closing rest h e =
+    numbered_holds 0 3 rest (λ l more. heading r k (Closing l) more) (λ l more t. heading_holds r k (Closing l) more h e (at_most l t))
+
+headed_or_stray_holds : (r : Reading) (k : ℕ) (word : List ℕ) (rest : List (List ℕ)) (kind : Option SectionKind) → IsReading r → r.blocks ≡ []
+    → Holds IsReading (headed_or_stray r k word rest kind)
+headed_or_stray_holds r k word rest None h e = cond_both (text_eq word (codes "end") || text_eq word (codes "else")) _ _ (Holds IsReading) (λ _. tt) (λ _. tt)
+headed_or_stray_holds r k word rest (Some kind) h e = headed_holds r k kind rest h e
+
 outside_holds : (r : Reading) (k : ℕ) (word : List ℕ) (rest : List (List ℕ)) → IsReading r → r.blocks ≡ [] → Holds IsReading (outside r k word rest)
 outside_holds r k word rest h e =
-    cond_both (text_eq word (codes "local")) _ _ (Holds IsReading) (λ _. local_holds r rest h) (λ _.
-    cond_both (text_eq word (codes "main")) _ _ (Holds IsReading) (λ _. heading_holds r k Main rest h e refl) (λ _.
-    cond_both (text_eq word (codes "open")) _ _ (Holds IsReading) (λ _. heading_holds r k Opening rest h e refl) (λ _.
-    cond_both (text_eq word (codes "up")) _ _ (Holds IsReading)
-    (λ _. numbered_holds 1 3 rest (λ l more. heading r k (Upgrading l) more) (λ l more t. heading_holds r k (Upgrading l) more h e t)) (λ _.
-    cond_both (text_eq word (codes "call")) _ _ (Holds IsReading)
-    (λ _. numbered_holds 0 3 rest (λ l more. heading r k (Calling l) more) (λ l more t. heading_holds r k (Calling l) more h e (at_most l t))) (λ _.
-    cond_both (text_eq word (codes "close")) _ _ (Holds IsReading)
-    (λ _. numbered_holds 0 3 rest (λ l more. heading r k (Closing l) more) (λ l more t. heading_holds r k (Closing l) more h e (at_most l t))) (λ _.
-    cond_both (text_eq word (codes "end")) _ _ (Holds IsReading) (λ _. tt) (λ _.
-    cond_both (text_eq word (codes "else")) _ _ (Holds IsReading) (λ _. tt) (λ _. tt))))))))
-  where
-    at_most : (l : ℕ) → between 0 3 l ≡ true → nat_le l 3 ≡ true
-    at_most l t = (and_parts (nat_le 0 l) (nat_le l 3) t).1
+    cond_both (text_eq word (codes "local")) _ _ (Holds IsReading) (λ _. local_holds r rest h)
+    (λ _. headed_or_stray_holds r k word rest (kind_with word all_kinds) h e)
 
 -- TEXTS
 

@@ -3,10 +3,11 @@ use Rattle.std.proofs.Common.{◌≡◌, ℕ, zero, suc, ◌+◌, ◌*◌, ◌�
 use Rattle.std.specs.Prelude.{nat_le, ◌==◌, ◌&&◌, if◌then◌else◌, sum_by}
 use Rattle.std.proofs.lemmas.Bool.{and_parts, and_from, leb-true, le-leb, cond_both}
 use Rattle.std.proofs.lemmas.List.Sums.{sum_by-cons}
-use Rattle.gq_model.specs.machine.Program.{Statements, Section, Main, Opening, Upgrading, Calling, Closing, same_section, all_sections, section_in, size}
+use Rattle.gq_model.specs.machine.Program.{Statements, section_in, size}
+use Rattle.gq_model.specs.machine.Sections.{Section, Main, Opening, Upgrading, Calling, Closing, same_section, all_sections, is_section, section_number}
 use Rattle.gq_model.specs.machine.Lists.{all_of, between}
 use Rattle.gq_model.specs.texts.Operands.{greatest_number}
-use Rattle.gq_model.specs.texts.Code.{is_body, is_section, section_number, are_sections}
+use Rattle.gq_model.specs.texts.Code.{is_body, are_sections}
 use Rattle.gq_model.specs.texts.Text.{limit_of, limit_or_greatest, limits_from, section_entry, in_order}
 use Rattle.gq_model.proofs.Decoded_programs.{Sections, InOrder, sections_later}
 

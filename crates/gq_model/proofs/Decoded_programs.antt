@@ -5,10 +5,11 @@ use Rattle.std.specs.Prelude.{nat_lt, nat_le, ◌==◌, ◌&&◌, sum_by}
 use Rattle.std.proofs.lemmas.Bool.{and_parts, and_from, ltb-true, leb-true, le-leb, eqb-true, eqb-false, eq-eqb, cond_both}
 use Rattle.std.proofs.lemmas.List.Sums.{sum_by-cons}
 use Rattle.std.proofs.Math.Nat.{pow-succ'}
-use Rattle.gq_model.specs.machine.Program.{Statements, Section, all_sections, Program, size, spelled}
+use Rattle.gq_model.specs.machine.Program.{Statements, Program, size, spelled}
+use Rattle.gq_model.specs.machine.Sections.{Section, all_sections, is_section, section_number}
 use Rattle.gq_model.specs.machine.Lists.{all_of, between}
 use Rattle.gq_model.specs.texts.Operands.{greatest_number}
-use Rattle.gq_model.specs.texts.Code.{is_body, is_section, section_number, are_sections, greatest_statements, IsProgram, body_code, body_length, local_bits}
+use Rattle.gq_model.specs.texts.Code.{is_body, are_sections, greatest_statements, IsProgram, body_code, body_length, local_bits}
 use Rattle.gq_model.specs.texts.Code.{limits_code, section_bits, sections_code, code_of}
 use Rattle.gq_model.specs.texts.Decode.{Truncated, BadOperand, Decoded, cut, number_at, checked, body_at, limits_at, sections_at, decoded}
 use Rattle.gq_model.proofs.Holding_results.{Holds, holds_at, holds_then}

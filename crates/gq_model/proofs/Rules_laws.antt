@@ -6,9 +6,10 @@ use Rattle.gq_model.specs.machine.Amounts.{Amount, Resource, same_amount}
 use Rattle.gq_model.specs.declared.fault.Rule.{Rule}
 use Rattle.gq_model.specs.declared.fault.Rule.TheVariants.{LeftoverOperand, JoinDiffers}
 use Rattle.gq_model.specs.declared.program.Form.TheVariants.{Block, Slice, Space}
-use Rattle.gq_model.specs.declared.program.Section.{Section}
-use Rattle.gq_model.specs.declared.program.Section.TheVariants.{Main, Opening, Upgrading, Calling, Closing}
-use Rattle.gq_model.specs.machine.Program.{Statements, If, Loop, size, text_eq, same_section, all_sections, section_in}
+use Rattle.gq_model.specs.declared.section.Section.{Section}
+use Rattle.gq_model.specs.declared.section.Section.TheVariants.{Main, Opening, Upgrading, Calling, Closing}
+use Rattle.gq_model.specs.machine.Program.{Statements, If, Loop, size, text_eq, section_in}
+use Rattle.gq_model.specs.machine.Sections.{same_section, all_sections}
 use Rattle.gq_model.specs.machine.Scenario.{Interface}
 use Rattle.gq_model.specs.rules.Kinds.{Kind, Empty_kind, Memory, Pool_kind, Link_kind, AbstractState, Context, Subject, inside, same_kind, same_kinds}
 use Rattle.gq_model.specs.rules.Rules.{Judged, must, covered, within_need}

@@ -4,7 +4,8 @@ use Rattle.std.specs.Prelude.{codes, replicate}
 use Rattle.gq_model.specs.machine.Amounts.{Ram, Caps, amount}
 use Rattle.gq_model.specs.machine.Program.{Own, Shared, Block, Slice, Space, Byte, Subtract, Multiply, Instruction, Say, Out}
 use Rattle.gq_model.specs.machine.Program.{Make, MakePool, Load, Store, Free, Take, Give, Open, Upgrade, Call, Close, Statements, Done, Do, Loop}
-use Rattle.gq_model.specs.machine.Program.{Section, Main, Opening, Upgrading, Calling, Closing, Program}
+use Rattle.gq_model.specs.machine.Program.{Program}
+use Rattle.gq_model.specs.machine.Sections.{Section, Main, Opening, Upgrading, Calling, Closing}
 use Rattle.gq_model.specs.machine.Scenario.{Scenario, Interface, Interfaces, Route, Target, Any_child, Parent, As_text, LeafNode, InitNode, Nodes, End}
 use Rattle.gq_model.specs.machine.Scenario.{Leaf_node, Init_node}
 use Rattle.gq_model.proofs.Statement_word_rows.{drop, combine, push, modulo, index}

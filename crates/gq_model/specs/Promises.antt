@@ -3,7 +3,8 @@ use Rattle.std.specs.Prelude.{◌≡◌, ℕ, ◌+◌, ◌≤◌, true, List, []
 use Rattle.gq_model.specs.machine.Amounts.{Resource, Amount, part}
 use Rattle.gq_model.specs.machine.Scenario.{Interface, Scenario, System, Component, components, system, interface_in}
 use Rattle.gq_model.specs.rules.Kinds.{need_of}
-use Rattle.gq_model.specs.machine.Program.{Done, Closing}
+use Rattle.gq_model.specs.machine.Program.{Done}
+use Rattle.gq_model.specs.machine.Sections.{Closing}
 use Rattle.gq_model.specs.machine.World.{Session, Handling, Leaf, World, session_at}
 use Rattle.gq_model.specs.machine.Sums.{bank_price, to_leaf, held, lent, received, quota, paid}
 use Rattle.gq_model.specs.machine.Doing.{Event}

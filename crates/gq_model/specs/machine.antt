@@ -3,6 +3,7 @@
 -- It speaks of lists, numbers and trees alone; no page, frame, code byte or stored balance.
 pub mod Lists
 pub mod Amounts
+pub mod Sections
 pub mod Program
 pub mod Resource_prices
 pub mod Scenario

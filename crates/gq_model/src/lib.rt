@@ -16,4 +16,6 @@ pub mod letters;
 pub mod limits;
 pub mod phase;
 pub mod program;
+pub mod section;
+pub mod spelling;
 pub mod statements;

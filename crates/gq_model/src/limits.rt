@@ -18,8 +18,30 @@ pub const GREATEST_INTERFACES: usize = 64;
 /// The capabilities of a scenario.
 pub const GREATEST_CAPS: u64 = 65536;
 
+/// The bytes of a system: 2 to the 26, in whole pages.
+pub const GREATEST_RAM: u64 = 67_108_864;
+
+/// A quantity of bytes in a scenario, as a quantum: 2 to the 40.
+pub const GREATEST_QUANTITY: u64 = 1 << 40;
+
+/// The bytes of the object of a session.
+pub const GREATEST_OBJECT: u64 = 65_536;
+
+/// The bytes of the buffer of a session.
+pub const GREATEST_BUFFER: u64 = 1_048_576;
+
+/// The numbers of sessions. At most 16384 are accepted at a time, as the server of each pays a page for its object. At most one more for each leaf is
+/// not, as its client waits. And there is one that none has.
+pub const GREATEST_SESSIONS: usize = 16_449;
+
 /// The bytes of a space, a slice or a block: 2 to the 26.
 pub const GREATEST_SIZE: u32 = 67_108_864;
+
+/// The entries of a pool.
+pub const GREATEST_ENTRIES: u16 = 1024;
+
+/// The rounds of a loop.
+pub const GREATEST_ROUNDS: u16 = 65_535;
 
 /// The operands of a leaf.
 pub const OPERANDS: usize = 16;

@@ -1,11 +1,9 @@
 // The parts of programs that hold no statements.
 ghost use Rattle.std.specs.Prelude.{◌≡◌, if◌then◌else◌, IsTrue, Some, IfOk};
-ghost use Rattle.gq_model.specs.texts.Fault_texts.{section_word};
 ghost use Rattle.gq_model.specs.texts.Letters.{is_name, is_said};
 
 use crate::letters::{is_name, is_said};
 use std::alloc::{AllocError, Global};
-use std::fmt::{self, Display, Formatter, Write};
 use std::marker::Model;
 
 /// A slot of the component's own, one of the current session, or that session's object.
@@ -45,50 +43,6 @@ pub enum Operator {
     And,
     Equal,
     Less,
-}
-
-/// A section of a program: what is done at the start, at a session's opening, and for an upgrade to, a call at and the
-/// close at a level.
-#[derive(Clone, Copy, Debug, PartialEq, Eq)]
-pub enum Section {
-    Main,
-    Opening,
-    Upgrading(u8),
-    Calling(u8),
-    Closing(u8),
-}
-
-impl Section {
-    /// The sections in the order in which a program's code has them, and in which they are judged.
-    pub const ALL: [Section; 13] = [
-        Section::Main,
-        Section::Opening,
-        Section::Upgrading(1),
-        Section::Upgrading(2),
-        Section::Upgrading(3),
-        Section::Calling(0),
-        Section::Calling(1),
-        Section::Calling(2),
-        Section::Calling(3),
-        Section::Closing(0),
-        Section::Closing(1),
-        Section::Closing(2),
-        Section::Closing(3),
-    ];
-}
-
-impl Display for Section {
-    ghost output = { λ section. Some (section_word section) };
-
-    fn fmt<W: Write>(&self, f: &mut Formatter<W>) -> fmt::Result {
-        match self {
-            Section::Main => f.write_str("main"),
-            Section::Opening => f.write_str("open"),
-            Section::Upgrading(level) => write!(f, "up {level}"),
-            Section::Calling(level) => write!(f, "call {level}"),
-            Section::Closing(level) => write!(f, "close {level}"),
-        }
-    }
 }
 
 /// The greatest number of bytes of a text to say.

@@ -18,7 +18,8 @@ use Rattle.gq_laws.specs.Turn_effects.{can_run, runs, runs_as}
 use Rattle.gq_bytecode.specs.Code_positions.{place_at}
 use Rattle.gq_bytecode.specs.Cores.{Core}
 use Rattle.gq_machine.specs.Machines.{Machine}
-use Rattle.gq_machine.specs.Readers.{StandsAt, body_in, section_of}
+use Rattle.gq_machine.specs.Readers.{StandsAt, body_in}
+use Rattle.gq_model.specs.machine.World.{section_of}
 use Rattle.gq_outcomes.specs.Choices as spec
 use Rattle.gq_outcomes.specs.declared.asks.Asks.{Asks}
 use Rattle.gq_outcomes.specs.internal.Asked_servers.{server_asked}

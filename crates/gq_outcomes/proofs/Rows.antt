@@ -5,7 +5,7 @@ use Rattle.gq_model.specs.declared.act.Act.TheVariants.{Turns}
 use Rattle.gq_model.specs.declared.program.Instruction.{Instruction}
 use Rattle.gq_model.specs.declared.program.Instruction.TheVariants.{Out, MakePool, Take, Give, Open, Call, Close}
 use Rattle.gq_model.specs.declared.program.OperandSlot.TheVariants.{Own}
-use Rattle.gq_model.specs.declared.program.Section.TheVariants.{Main, Opening, Calling, Closing}
+use Rattle.gq_model.specs.declared.section.Section.TheVariants.{Main, Opening, Calling, Closing}
 use Rattle.gq_tariff.specs.declared.amount.Resource.TheVariants.{Ram}
 use Rattle.gq_model.specs.machine.Amounts.{amount}
 use Rattle.gq_model.specs.machine.Program.{Done}

@@ -2,10 +2,11 @@
 use Rattle.std.proofs.Common.{◌≡◌, ℕ, zero, suc, ◌+◌, ◌<◌, ◌≤◌, true, false, List, [], ◌∷◌, ◌++◌, length, drop, get_or, Option, Some, None}
 use Rattle.std.proofs.Common.{refl, ap, sym, ◌∙◌, arith}
 use Rattle.std.specs.Prelude.{if◌then◌else◌}
-use Rattle.gq_model.specs.declared.program.Section.{Section}
+use Rattle.gq_model.specs.declared.section.Section.{Section}
 use Rattle.gq_model.specs.declared.phase.Phase.{Phase}
 use Rattle.gq_model.specs.declared.phase.Phase.TheVariants as phase
-use Rattle.gq_model.specs.machine.Program.{Statements, Done, same_section, section_in}
+use Rattle.gq_model.specs.machine.Program.{Statements, Done, section_in}
+use Rattle.gq_model.specs.machine.Sections.{same_section}
 use Rattle.gq_model.specs.machine.World.{Leaf}
 use Rattle.gq_bytecode.specs.Cores.{Core}
 use Rattle.gq_bytecode.specs.Nexts.{state_in}

@@ -21,7 +21,8 @@ use Rattle.gq_model.specs.declared.program.OperandStatement.TheVariants.{Plain, 
 use Rattle.gq_model.specs.declared.program.Instruction.{Instruction}
 use Rattle.gq_model.specs.declared.program.Instruction.TheVariants.{Say, Out, Operands, Make, MakePool, Load, Store, Free, Take, Give, Peek, Poke, Open}
 use Rattle.gq_model.specs.declared.program.Instruction.TheVariants.{Upgrade, Call, Close}
-use Rattle.gq_model.specs.machine.Program.{Statements, Done, Do, If, Loop, same_section, text_eq}
+use Rattle.gq_model.specs.machine.Program.{Statements, Done, Do, If, Loop, text_eq}
+use Rattle.gq_model.specs.machine.Sections.{same_section}
 use Rattle.gq_model.specs.machine.World.{Slot, Empty, Bytes, Pool, Link, Waiting, SlotId, In_leaf, In_session, In_object, Session, Ask, Ask_open, Ask_upgrade}
 use Rattle.gq_model.specs.machine.World.{Ask_close, Ask_call, Request, Current, Round, Leaf, World}
 use Rattle.gq_model.specs.machine.World.{session_at}

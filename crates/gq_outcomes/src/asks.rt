@@ -1,7 +1,7 @@
 // What a leaf asks next, at each place of its program.
 ghost use Rattle.std.specs.Prelude.{◌≡◌, ◌<◌, ◌≤◌, ◌^◌, ◌∷◌, [], List, IfOk, get_or, length};
 ghost use Rattle.gq_bytecode.specs.Bytecode_layout.{width};
-ghost use Rattle.gq_model.specs.declared.program.Section.{Section};
+ghost use Rattle.gq_model.specs.declared.section.Section.{Section};
 ghost use Rattle.gq_model.specs.machine.Program as model;
 ghost use Rattle.gq_model.specs.machine.Program.{Statements, body_of, section_in};
 ghost use Rattle.gq_model.specs.machine.Scenario.{Component};
@@ -10,7 +10,8 @@ ghost use Rattle.gq_outcomes.specs.internal.Asks.{AreOfSections, IsOfSection, as
 ghost use Rattle.gq_outcomes.specs.internal.Left.{ahead, ahead_in};
 
 use crate::statement_key::{width, width_of};
-use gq_model::program::{Instruction, OperandSlot, Section};
+use gq_model::program::{Instruction, OperandSlot};
+use gq_model::section::{Section, same_section};
 use gq_program::program_tree::{Body, Program, Statement};
 use gq_resolve::component::Component;
 use gq_resolve::routes::server_of;
@@ -188,19 +189,6 @@ pub(crate) fn program_asks(
         all.push(section_asks(alloc, components, component, *section, body)?)?;
     }
     Ok(all)
-}
-
-/// Whether two sections are the same.
-pub(crate) fn same_section(a: Section, b: Section) -> bool
-    ensures { result ≡ model.same_section a b }
-{
-    match (a, b) {
-        (Section::Main, Section::Main) | (Section::Opening, Section::Opening) => true,
-        (Section::Upgrading(a), Section::Upgrading(b))
-        | (Section::Calling(a), Section::Calling(b))
-        | (Section::Closing(a), Section::Closing(b)) => a == b,
-        _ => false,
-    }
 }
 
 // What comes next at a place among these: nothing past their end.

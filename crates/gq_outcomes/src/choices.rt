@@ -2,7 +2,8 @@
 ghost use Rattle.std.specs.Prelude.{◌≡◌, ◌<◌, ◌≤◌, ◌&&◌, ℕ, Some, None, true, false, map, IfOk, length, slice_get};
 ghost use Rattle.gq_model.specs.machine.Scenario.{Component, components, system};
 ghost use Rattle.gq_model.specs.machine.World as model;
-ghost use Rattle.gq_machine.specs.Readers.{HasSlotId, section_of};
+ghost use Rattle.gq_machine.specs.Readers.{HasSlotId};
+ghost use Rattle.gq_model.specs.machine.World.{section_of};
 ghost use Rattle.gq_laws.specs.Turn_effects.{can_run};
 ghost use Rattle.gq_statements.specs.Slot_statements.{current_seen};
 ghost use Rattle.gq_trade.specs.Seen_sessions.{slot_id_seen};
@@ -18,11 +19,13 @@ use gq_machine::machine::Machine;
 use gq_machine::world_reads::Holding;
 use gq_model::limits::{GREATEST_LEAVES, OWN_SLOTS, SESSION_SLOTS};
 use gq_model::phase::Phase;
-use gq_model::program::{OperandSlot, Section};
+use gq_model::program::OperandSlot;
+use gq_model::section::Section;
 use gq_program::program_tree::Program;
 use gq_resolve::NodeTable;
 use gq_resolve::component::{Component, components};
 use gq_scenario::scenario::LeafNo;
+use gq_statements::actor::section_of;
 use gq_statements::{Actor, Current};
 use gq_trade::SlotId;
 use std::alloc::{AllocError, Global};
@@ -32,16 +35,6 @@ use std::alloc::{AllocError, Global};
 pub(crate) struct Choices {
     racy: Vec<bool>,
     asks: Vec<Vec<SectionAsks>>,
-}
-
-/// The section that a leaf is in.
-pub(crate) fn section_of(current: Option<Current>) -> Section
-    ensures { result ≡ section_of (current_seen current) }
-{
-    match current {
-        None => Section::Main,
-        Some(current) => current.section,
-    }
 }
 
 // Whether there is a slot.

@@ -5,7 +5,7 @@
 //!
 //! ```rust
 //! use gq_outcomes::outcomes::{outcome_turns, outcomes};
-//! use gq_init::counted::Counted;
+//! use gq_output::counted::Counted;
 //!
 //! let mut out = Counted::new(writer);
 //! // What leaves that provide nothing wrote, and the account lines, of each outcome.

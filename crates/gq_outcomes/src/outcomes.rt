@@ -1,7 +1,7 @@
 // The outcomes of an accepted scenario.
 ghost use Rattle.std.specs.Prelude.{◌≡◌, Ok, IfOk, IfErr, OnOk, length};
 ghost use Rattle.gq_model.specs.machine.Scenario.{components};
-ghost use Rattle.gq_init.specs.Writer_failures.{written_to};
+ghost use Rattle.gq_output.specs.Writer_failures.{written_to};
 ghost use Rattle.gq_outcomes.specs.Laws.{WritesTurnsTo};
 ghost use Rattle.gq_outcomes.specs.Text.{nth_outcome};
 ghost use Rattle.gq_outcomes.specs.Written.{outcome_turns_written, outcomes_written, turns_of_outcome};
@@ -12,7 +12,7 @@ use crate::laws::turn_list_laws;
 use crate::search::{Search, search_all};
 use crate::text::{search_text, turns_text};
 use crate::walk::Walk;
-use gq_init::counted::Counted;
+use gq_output::counted::Counted;
 use gq_reports::RunFault;
 use gq_reports::command_text::put_text;
 use std::alloc::Global;

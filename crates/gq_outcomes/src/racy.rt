@@ -5,12 +5,13 @@ ghost use Rattle.gq_model.specs.machine.Routes.{leaf_routed, route};
 ghost use Rattle.gq_model.specs.machine.Scenario as model;
 ghost use Rattle.gq_model.specs.machine.Scenario.{Component, Scenario, system};
 ghost use Rattle.gq_outcomes.specs.Choices as choices;
-ghost use Rattle.gq_model.specs.rules.Kinds.{in_main};
+ghost use Rattle.gq_model.specs.machine.Sections.{is_own_section};
 ghost use Rattle.gq_program.specs.Statement_trees.{tree_of};
 ghost use Rattle.gq_outcomes.specs.internal.Racy as spec;
 ghost use Rattle.gq_outcomes.specs.internal.Racy.{changes_in, is_marked};
 
-use gq_model::program::{Name, Section};
+use gq_model::program::Name;
+use gq_model::section::Section;
 use gq_program::program_tree::{Body, Program, Statement};
 use gq_races::effects::changes_own;
 use gq_races::races::all_shared;
@@ -48,9 +49,9 @@ fn has_changes(body: &Body) -> bool
 
 // Whether a section changes an own slot, and is not `main`.
 fn section_changes(section: Section, body: &Body) -> bool
-    ensures { result ≡ (not (in_main section) && changes_in body.now) }
+    ensures { result ≡ (not (is_own_section section) && changes_in body.now) }
 {
-    !matches!(section, Section::Main) && has_changes(body)
+    !section.is_own() && has_changes(body)
 }
 
 // Whether a section of a program other than `main` changes an own slot.

@@ -17,9 +17,9 @@ use crate::text::outcome_text;
 use crate::walk::Walk;
 use arrayvec::ArrayVec;
 use gq_model::limits::GREATEST_LEAVES;
+use gq_model::spelling::same_text;
 use gq_reports::RunFault;
 use gq_scenario::scenario::LeafNo;
-use gq_scenario::text_pieces::same_bytes;
 use std::alloc::{AllocError, Global};
 use std::collections::BTreeSet;
 
@@ -90,7 +90,7 @@ impl Search {
         ensures { result ≡ spec.is_found text.now (map outcome_seen self.now.found.items) }
     {
         for found in self.found.as_slice() {
-            if same_bytes(found.text.as_slice(), text) {
+            if same_text(found.text.as_slice(), text) {
                 return true;
             }
         }

@@ -13,9 +13,9 @@ ghost use Rattle.gq_views.specs.Listing.{joined};
 
 use crate::search::{Found, MOST_TURNS, Search};
 use gq_init::NodeTable;
-use gq_init::account_line::account_line;
-use gq_init::line::Line;
 use gq_model::limits::GREATEST_TURNS;
+use gq_output::account_line::account_line;
+use gq_output::line::Line;
 use gq_scenario::node_numbers::NodeNo;
 use gq_scenario::scenario::LeafNo;
 use gq_views::view_words::push_number;

@@ -12,8 +12,8 @@ ghost use Rattle.gq_outcomes.specs.internal.Walks.{Comes, IsOnWay, IsWalk, PutsL
 use crate::choices::Choices;
 use crate::racy::racy_servers;
 use arrayvec::ArrayVec;
-use gq_init::leaf_line::text_line;
 use gq_machine::event::Event;
+use gq_output::leaf_line::text_line;
 use gq_reports::RunFault;
 use gq_resolve::NodeTable;
 use gq_scenario::scenario::LeafNo;

@@ -4,9 +4,10 @@ use Rattle.std.specs.Prelude.{slice_get}
 use Rattle.gq_model.specs.declared.program.Instruction.{Instruction}
 use Rattle.gq_model.specs.declared.program.Instruction.TheVariants.{Open}
 use Rattle.gq_model.specs.declared.program.OperandSlot as declared
-use Rattle.gq_model.specs.declared.program.Section.{Section}
+use Rattle.gq_model.specs.declared.section.Section.{Section}
 use Rattle.gq_model.specs.machine.Lists.{any_of}
-use Rattle.gq_model.specs.machine.Program.{Statements, Done, Do, If, Loop, ◌then◌, same_section, section_in, text_eq}
+use Rattle.gq_model.specs.machine.Program.{Statements, Done, Do, If, Loop, ◌then◌, section_in, text_eq}
+use Rattle.gq_model.specs.machine.Sections.{same_section}
 use Rattle.gq_model.specs.machine.Scenario.{Component}
 use Rattle.gq_model.specs.rules.Use.{opened_by, services, services_in, services_of}
 use Rattle.gq_model.proofs.Small_facts.{none_some, some_same, text_self}

@@ -11,10 +11,10 @@ use gq_bytecode::Code;
 use gq_bytecode::bytecode_laws::stated;
 use gq_laws::ready::served;
 use gq_model::program::{Instruction, Name};
+use gq_model::spelling::same_text;
 use gq_program::interface::Interfaces;
 use gq_resolve::NodeTable;
 use gq_scenario::scenario::LeafNo;
-use gq_scenario::text_pieces::same_bytes;
 use std::alloc::{AllocError, Global};
 
 /// An `open` statement of a program, with where it leads: the number of its service's interface, the leaf that serves it, if one does, and the
@@ -31,7 +31,7 @@ fn interface_number(interfaces: &Interfaces, service: &Name) -> Option<usize>
     ensures { result ≡ interface_number 0 service.now interfaces.now }
 {
     for (number, (name, _interface)) in interfaces.entries().iter().enumerate() {
-        if same_bytes(service.as_bytes(), name.as_bytes()) {
+        if same_text(service.as_bytes(), name.as_bytes()) {
             return Some(number);
         }
     }

@@ -5,10 +5,10 @@ ghost use Rattle.gq_model.specs.machine.Scenario.{interface_in};
 ghost use Rattle.gq_program.specs.Interfaces.{interface_of, or_none, need_caps, is_before, is_rising, are_interfaces};
 ghost use Rattle.gq_program.specs.Interfaces.{all_unbounded, counted_by, place_in, unbounded};
 
-use crate::spelling::same_text;
 use arrayvec::ArrayVec;
 pub use gq_model::limits::{GREATEST_INTERFACES, GREATEST_LEVEL};
 use gq_model::program::Name;
+use gq_model::spelling::same_text;
 use std::alloc::{AllocError, Global};
 use std::marker::Model;
 

@@ -33,12 +33,11 @@ mod program_check;
 pub mod program_tree;
 pub mod shapes;
 pub mod spare;
-pub mod spelling;
 
 pub use gq_model::program::{
-    Bare, Form, Instruction, Name, OperandSlot, OperandStatement, Operator, Section, Text, Width,
-    WithNumber,
+    Bare, Form, Instruction, Name, OperandSlot, OperandStatement, Operator, Text, Width, WithNumber,
 };
+pub use gq_model::section::Section;
 pub use interface::{Counts, Interface, Interfaces, Upgrade};
 pub use program_tree::{Body, Program, Statement};
 pub use shapes::{Shape, WithAmount, WithBytes, WithSlot, shape_of_opcode, shape_of_word};

@@ -4,15 +4,18 @@ ghost use Rattle.gq_program.specs.Statement_trees.{tree_of};
 ghost use Rattle.gq_model.specs.machine.Program.{size};
 ghost use Rattle.gq_model.specs.machine.Lists.{all_of, between};
 ghost use Rattle.gq_model.specs.texts.Operands.{greatest_number, is_slot, is_slot_or_object, in_range, operands};
-ghost use Rattle.gq_model.specs.texts.Code.{is_section, is_body, section_number, are_sections, greatest_statements};
+ghost use Rattle.gq_model.specs.texts.Code.{is_body, are_sections, greatest_statements};
+ghost use Rattle.gq_model.specs.machine.Sections.{is_section, section_number};
 ghost use Rattle.gq_program.specs.internal.Statement_counts.{less};
 
 use crate::program_tree::{Body, Statement};
 use gq_model::letters::{is_name, is_said};
 use gq_model::limits::{
-    GREATEST_DEPTH, GREATEST_SIZE, GREATEST_STATEMENTS, LOCALS, OWN_SLOTS, SESSION_SLOTS,
+    GREATEST_DEPTH, GREATEST_ENTRIES, GREATEST_SIZE, GREATEST_STATEMENTS, LOCALS, OWN_SLOTS,
+    SESSION_SLOTS,
 };
-use gq_model::program::{Instruction, OperandSlot, OperandStatement, Section};
+use gq_model::program::{Instruction, OperandSlot, OperandStatement};
+use gq_model::section::Section;
 use gq_tariff::price::GREATEST_PLACE;
 
 /// Whether a slot is one of the 64 own ones, or of the 8 of a session.
@@ -55,7 +58,7 @@ fn in_range(instruction: &Instruction) -> bool
                 && 1 <= *size
                 && u64::from(*size) <= GREATEST_PLACE
                 && 1 <= *count
-                && *count <= 1024
+                && *count <= GREATEST_ENTRIES
         }
         Instruction::Open(place, service, amount) => {
             let _amount = *amount;
@@ -130,43 +133,16 @@ fn without_one(statement: &Statement, left: u32) -> Option<u32>
     }
 }
 
-/// Whether there is a section of this name and level.
-fn is_section(section: Section) -> bool
-    ensures { result ≡ is_section section }
-{
-    match section {
-        Section::Main | Section::Opening => true,
-        Section::Upgrading(level) => 1 <= level && level <= 3,
-        Section::Calling(level) | Section::Closing(level) => level <= 3,
-    }
-}
-
-/// The place of a section in the order of sections.
-fn section_number(section: Section) -> u32
-    ensures { result ≡ section_number section }
-{
-    match section {
-        Section::Main => 0,
-        Section::Opening => 1,
-        Section::Upgrading(level) => 1 + u32::from(level),
-        Section::Calling(level) => 5 + u32::from(level),
-        Section::Closing(level) => 9 + u32::from(level),
-    }
-}
-
 /// Whether the sections stand in their order, each once, with at most four blocks in one another.
 pub(crate) fn are_sections(sections: &[(Section, Body)]) -> bool
     ensures { result ≡ are_sections 0 sections.now }
 {
     let mut next = 0;
     for (section, body) in sections {
-        if !is_section(*section)
-            || section_number(*section) < next
-            || !is_body(body, GREATEST_DEPTH as u8)
-        {
+        if !section.is_there() || section.number() < next || !is_body(body, GREATEST_DEPTH as u8) {
             return false;
         }
-        next = 1 + section_number(*section);
+        next = 1 + section.number();
     }
     true
 }

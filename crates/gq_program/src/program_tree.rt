@@ -11,7 +11,8 @@ use crate::notes::StatementSummary;
 use crate::program_check::{are_few, are_limits, are_sections};
 use crate::spare::Spare;
 pub use gq_model::limits::LOCALS;
-use gq_model::program::{Instruction, Section};
+use gq_model::program::Instruction;
+use gq_model::section::Section;
 use std::alloc::{AllocError, Global};
 use std::marker::Model;
 

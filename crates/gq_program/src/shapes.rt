@@ -6,11 +6,11 @@ ghost use Rattle.gq_program.specs.Statement_table.{slot_instruction, slot_word, 
 ghost use Rattle.gq_program.specs.Statement_table.{amount_instruction, amount_word, amount_opcode, amount_low, amount_high};
 ghost use Rattle.gq_program.specs.Statement_table.{shape_of, word_of, opcode_of, spellings_of};
 
-pub use crate::spelling::same_text;
 use gq_model::limits::GREATEST_SIZE;
 use gq_model::program::{
     Bare, Form, Instruction, OperandSlot, OperandStatement, Operator, Width, WithNumber,
 };
+pub use gq_model::spelling::same_text;
 
 /// A statement with a slot.
 #[derive(Clone, Copy)]

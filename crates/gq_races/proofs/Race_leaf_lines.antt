@@ -8,7 +8,7 @@ use Rattle.std.proofs.lemmas.List.{map-append}
 use Rattle.gq_resolve.proofs.Mapped_list_growth.{next_is, onto}
 use Rattle.gq_model.specs.declared.program.Instruction.{Instruction}
 use Rattle.gq_model.specs.declared.program.Instruction.TheVariants.{Open}
-use Rattle.gq_model.specs.declared.program.Section.{Section}
+use Rattle.gq_model.specs.declared.section.Section.{Section}
 use Rattle.gq_model.specs.machine.Program.{Statements, Done, Do, If, Loop, size}
 use Rattle.gq_races.specs.Races.{Stated, is_shared, found_in, each_stated, stated_in, stated_of, opens_with, opened_by_from, openers}
 use Rattle.gq_races.specs.Race_text.{effect_text, has_effect, heading, leaf_lines, lines_from, opened_text, place_text, sharing_lines, word_of}

@@ -4,7 +4,7 @@ use Rattle.std.proofs.Common.{map, length, get_or, drop, ap, sym, refl, arith}
 use Rattle.std.proofs.Common.{append_assoc, append-nil}
 use Rattle.std.proofs.lemmas.List.{map-append}
 use Rattle.gq_model.specs.declared.program.Instruction.{Instruction}
-use Rattle.gq_model.specs.declared.program.Section.{Section}
+use Rattle.gq_model.specs.declared.section.Section.{Section}
 use Rattle.gq_model.specs.machine.Program.{Statements, Done, Do, size}
 use Rattle.gq_program.specs.Statement_trees.{tree_of}
 use Rattle.gq_program.specs.declared.program_tree.Statement.{Statement}

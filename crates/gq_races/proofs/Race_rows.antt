@@ -7,7 +7,7 @@ use Rattle.gq_model.specs.declared.program.Instruction.TheVariants.{Out, Make, L
 use Rattle.gq_model.specs.declared.program.Operator.TheVariants.{Add}
 use Rattle.gq_model.specs.declared.program.OperandSlot.{OperandSlot}
 use Rattle.gq_model.specs.declared.program.OperandSlot.TheVariants.{Own, Shared, Object}
-use Rattle.gq_model.specs.declared.program.Section.TheVariants.{Main, Opening, Calling, Closing}
+use Rattle.gq_model.specs.declared.section.Section.TheVariants.{Main, Opening, Calling, Closing}
 use Rattle.gq_model.specs.declared.program.Width.TheVariants.{Byte, Word}
 use Rattle.gq_tariff.specs.declared.amount.Resource.TheVariants.{Ram}
 use Rattle.gq_model.specs.machine.Amounts.{amount}

@@ -4,11 +4,11 @@ use Rattle.std.proofs.Common.{◌∷◌, ◌++◌, map, length, get_or, drop, Op
 use Rattle.std.proofs.Common.{refl, append-nil, arith}
 use Rattle.std.specs.Prelude.{not}
 use Rattle.std.proofs.lemmas.List.{length-map}
-use Rattle.gq_model.specs.declared.program.Section.{Section}
+use Rattle.gq_model.specs.declared.section.Section.{Section}
 use Rattle.gq_model.specs.machine.Lists.{any_of}
 use Rattle.gq_model.specs.machine.Program.{Statements}
 use Rattle.gq_model.specs.machine.Scenario.{Component, Scenario, components, system}
-use Rattle.gq_model.specs.rules.Kinds.{in_main}
+use Rattle.gq_model.specs.machine.Sections.{is_own_section}
 use Rattle.gq_model.specs.rules.Use.{is_there, services_of}
 use Rattle.gq_resolve.specs.Served.{once, server_among}
 use Rattle.gq_resolve.proofs.Opened_service_lists.{any_once}
@@ -52,16 +52,17 @@ module _ (s : Scenario) (x : ℕ) (c : Component) where
       any_append (is_there x) (servers_of (components s) c (services_of body)) rest ∙ ap (λ o. o || any_of (is_there x) rest) (opens_is body)
 
   first_in : (sections : List (Section × Statements))
-      → any_of (is_there x) (first_servers (components s) c sections) ≡ any_of (λ p. in_main p.0 && opens (system s) x c p.1) sections
+      → any_of (is_there x) (first_servers (components s) c sections) ≡ any_of (λ p. is_own_section p.0 && opens (system s) x c p.1) sections
   first_in [] = refl
   first_in (p ∷ rest) =
-      first_one (in_main p.0) p.1 (first_servers (components s) c rest) ∙ ap (λ r. in_main p.0 && opens (system s) x c p.1 || r) (first_in rest)
+      first_one (is_own_section p.0) p.1 (first_servers (components s) c rest) ∙ ap (λ r. is_own_section p.0 && opens (system s) x c p.1 || r) (first_in rest)
 
   later_in : (sections : List (Section × Statements))
-      → any_of (is_there x) (later_servers (components s) c sections) ≡ any_of (λ p. not (in_main p.0) && opens (system s) x c p.1) sections
+      → any_of (is_there x) (later_servers (components s) c sections) ≡ any_of (λ p. not (is_own_section p.0) && opens (system s) x c p.1) sections
   later_in [] = refl
   later_in (p ∷ rest) =
-      later_one (in_main p.0) p.1 (later_servers (components s) c rest) ∙ ap (λ r. not (in_main p.0) && opens (system s) x c p.1 || r) (later_in rest)
+      later_one (is_own_section p.0) p.1 (later_servers (components s) c rest)
+      ∙ ap (λ r. not (is_own_section p.0) && opens (system s) x c p.1 || r) (later_in rest)
 
 -- LEAVES
 
@@ -107,12 +108,12 @@ module _ (all : List Component) (c : Component) (sections : List (Section × Sta
   pub first_here : first_servers all c (drop i sections) ≡ first_servers all c (p ∷ []) ++ first_servers all c (drop (i + 1) sections)
   first_here =
       ap (first_servers all c) (next_is sections i p within is)
-      ∙ ap (λ l. l ++ first_servers all c (drop (i + 1) sections)) (sym (append-nil (cond (in_main p.0) (servers_of all c (services_of p.1)) [])))
+      ∙ ap (λ l. l ++ first_servers all c (drop (i + 1) sections)) (sym (append-nil (cond (is_own_section p.0) (servers_of all c (services_of p.1)) [])))
 
   pub later_here : later_servers all c (drop i sections) ≡ later_servers all c (p ∷ []) ++ later_servers all c (drop (i + 1) sections)
   later_here =
       ap (later_servers all c) (next_is sections i p within is)
-      ∙ ap (λ l. l ++ later_servers all c (drop (i + 1) sections)) (sym (append-nil (cond (in_main p.0) [] (servers_of all c (services_of p.1)))))
+      ∙ ap (λ l. l ++ later_servers all c (drop (i + 1) sections)) (sym (append-nil (cond (is_own_section p.0) [] (servers_of all c (services_of p.1)))))
 
 get_same : (l : List Bool) (x : ℕ) (a b : Bool) → x < length l → get_or l x a ≡ get_or l x b
 get_same [] x a b within = absurd (omega (arith, within))

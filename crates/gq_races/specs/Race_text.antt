@@ -1,9 +1,9 @@
 -- The statements by which the outcome of a scenario could depend on the turns, as text.
 use Rattle.std.specs.Prelude.{ℕ, suc, if◌then◌else◌, ◌||◌, Bool, List, [], ◌∷◌, ◌++◌, map, codes, decimal, Option, Some, None}
 use Rattle.gq_model.specs.declared.program.Instruction.{Instruction}
-use Rattle.gq_model.specs.declared.program.Section.{Section}
+use Rattle.gq_model.specs.declared.section.Section.{Section}
 use Rattle.gq_model.specs.machine.Scenario.{Scenario, System, Component, system}
-use Rattle.gq_model.specs.texts.Fault_texts.{section_word}
+use Rattle.gq_model.specs.machine.Sections.{section_word}
 use Rattle.gq_views.specs.Listing.{instruction_text, joined}
 use Rattle.gq_races.specs.Races.{Stated, writes_line, is_race, is_order, is_shared, stated_of, openers}
 

@@ -7,12 +7,12 @@ use Rattle.gq_model.specs.declared.program.OperandStatement.TheVariants.{Numbere
 use Rattle.gq_model.specs.declared.program.WithNumber.TheVariants.{Input}
 use Rattle.gq_model.specs.declared.program.OperandSlot.{OperandSlot}
 use Rattle.gq_model.specs.declared.program.OperandSlot.TheVariants.{Own, Shared, Object}
-use Rattle.gq_model.specs.declared.program.Section.{Section}
+use Rattle.gq_model.specs.declared.section.Section.{Section}
 use Rattle.gq_model.specs.machine.Program.{Statements, Done, Do, If, Loop, size}
 use Rattle.gq_model.specs.machine.Lists.{any_of}
 use Rattle.gq_model.specs.machine.Scenario.{Scenario, System, Component, system}
 use Rattle.gq_model.specs.machine.Routes.{server_of}
-use Rattle.gq_model.specs.rules.Kinds.{in_main}
+use Rattle.gq_model.specs.machine.Sections.{is_own_section}
 use Rattle.gq_model.specs.rules.Use.{services_of, is_there}
 
 -- OWNERS
@@ -23,11 +23,11 @@ opens system x c statements = any_of (λ service. is_there x (server_of system c
 
 -- a leaf opens sessions with the x-th in `main`
 abbrev pub opens_first : System → ℕ → Component → Bool
-opens_first system x c = any_of (λ p. in_main p.0 && opens system x c p.1) c.node.program.sections
+opens_first system x c = any_of (λ p. is_own_section p.0 && opens system x c p.1) c.node.program.sections
 
 -- and in another section
 abbrev pub opens_later : System → ℕ → Component → Bool
-opens_later system x c = any_of (λ p. not (in_main p.0) && opens system x c p.1) c.node.program.sections
+opens_later system x c = any_of (λ p. not (is_own_section p.0) && opens system x c p.1) c.node.program.sections
 
 -- where one holds, the other does
 abbrev pub implies : Bool → Bool → Bool
@@ -128,7 +128,7 @@ stated_in test leaf (p ∷ rest) = each_stated leaf p.0 (found_in (test p.0) 1 p
 
 -- a section of a leaf that is shared, or not, may run for several threads: each of a shared leaf but `main`
 abbrev pub for_several : Bool → Section → Bool
-for_several shared section = shared && not (in_main section)
+for_several shared section = shared && not (is_own_section section)
 
 -- a race: a statement that changes an own slot, where the section may run for several threads; or an `in`, in any section
 abbrev pub is_race : Bool → Instruction → Bool

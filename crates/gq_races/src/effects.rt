@@ -11,7 +11,8 @@ ghost use Rattle.gq_races.specs.internal.Kind_lines.{effect_line};
 ghost use Rattle.gq_views.specs.Listing.{joined, line};
 
 use crate::statement_prefix::prefix_of;
-use gq_model::program::{Instruction, OperandSlot, OperandStatement, Section, WithNumber};
+use gq_model::program::{Instruction, OperandSlot, OperandStatement, WithNumber};
+use gq_model::section::Section;
 use gq_program::program_tree::{Body, Program, Statement};
 use gq_views::instruction_text::push_instruction;
 use itoa::Buffer;
@@ -168,7 +169,7 @@ fn push_effects(
 fn for_several(shared: bool, section: Section) -> bool
     ensures { result ≡ for_several shared section }
 {
-    shared && !matches!(section, Section::Main)
+    shared && !section.is_own()
 }
 
 // The lines of a section of a leaf that is shared, or not.

@@ -2,7 +2,7 @@
 //!
 //! ```rust
 //! use gq_races::races::races;
-//! use gq_init::counted::Counted;
+//! use gq_output::counted::Counted;
 //!
 //! let mut out = Counted::new(writer);
 //! // The leaves that have any, with the lines of their statements.

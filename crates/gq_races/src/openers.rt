@@ -6,7 +6,8 @@ ghost use Rattle.gq_model.specs.rules.Use.{is_there};
 ghost use Rattle.gq_resolve.specs.Served as served;
 ghost use Rattle.gq_races.specs.internal.Openers.{first_servers, later_servers, opened_from, servers_of};
 
-use gq_model::program::{Name, Section};
+use gq_model::program::Name;
+use gq_model::section::Section;
 use gq_program::program_tree::{Body, Program};
 use gq_resolve::component::Component;
 use gq_resolve::opened_services::{once, push_opened};

@@ -10,7 +10,8 @@ ghost use Rattle.gq_races.specs.internal.Openers.{opened_among, opens_among};
 ghost use Rattle.gq_views.specs.Listing.{joined, line};
 
 use crate::statement_prefix::prefix_of;
-use gq_model::program::{Instruction, Section};
+use gq_model::program::Instruction;
+use gq_model::section::Section;
 use gq_program::program_tree::{Body, Program, Statement};
 use gq_resolve::component::Component;
 use gq_resolve::routes::server_of;

@@ -1,7 +1,7 @@
 // The statements by which the outcome of an accepted scenario could depend on the turns.
 ghost use Rattle.std.specs.Prelude.{◌≡◌, ◌≤◌, ◌++◌, ◌∷◌, [], List, IfOk, IfErr, IsOkAnd, OnOk, codes, length, map};
 ghost use Rattle.gq_model.specs.machine.Scenario as model;
-ghost use Rattle.gq_init.specs.Writer_failures.{written_to};
+ghost use Rattle.gq_output.specs.Writer_failures.{written_to};
 ghost use Rattle.gq_load.specs.Load_faults.{Refuses};
 ghost use Rattle.gq_load.specs.Load.{loaded};
 ghost use Rattle.gq_races.specs.Races.{AreSharedOf, IsOrderFree, IsRaceFree, Stated, stated_of};
@@ -16,9 +16,9 @@ use crate::effects::push_leaf_effects;
 use crate::openers::all_opened;
 use crate::opens::push_openers;
 use crate::owners::shared;
-use gq_init::counted::Counted;
 use gq_load::accepted::Accepted;
 use gq_load::load_fault::LoadError;
+use gq_output::counted::Counted;
 use gq_program::program_tree::Program;
 use gq_reports::RunFault;
 use gq_reports::command_text::put_text;

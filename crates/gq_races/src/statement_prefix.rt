@@ -2,7 +2,7 @@
 ghost use Rattle.std.specs.Prelude.{◌≡◌, IfOk};
 ghost use Rattle.gq_races.specs.Race_text.{prefix_of};
 
-use gq_model::program::Section;
+use gq_model::section::Section;
 use gq_views::listing::push_heading;
 use std::alloc::{AllocError, Global};
 

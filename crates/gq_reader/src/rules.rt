@@ -15,9 +15,10 @@ ghost use Rattle.gq_reader.specs.Key_rules.{entries_or_none, are_counts, fits_of
 use crate::hexadecimal::is_hex;
 use crate::value::{has, number_of, quantity, value_at};
 use gq_model::letters::is_name;
-use gq_model::limits::{GREATEST_CAPS, INPUTS};
+use gq_model::limits::{GREATEST_CAPS, GREATEST_RAM, INPUTS};
 use gq_scenario::key::{Key, key_of};
 use gq_scenario::scenario_fault::ScenarioFault;
+use gq_tariff::price::PAGE;
 use toml::{Table, Value};
 
 /// The values that fit a key.
@@ -148,7 +149,7 @@ fn is_total(value: &Value) -> bool
     ensures { result ≡ is_total (view value.now) }
 {
     match quantity(value) {
-        Some(bytes) => 4096 <= bytes && bytes <= 67108864 && bytes % 4096 == 0,
+        Some(bytes) => PAGE <= bytes && bytes <= GREATEST_RAM && bytes % PAGE == 0,
         None => false,
     }
 }

@@ -9,7 +9,7 @@ ghost use Rattle.gq_reader.specs.Key_rules.{entries_or_none, rule_of};
 use crate::rules::{GREATEST_NUMBER, KeyRule, ValueRule, either, optional, other, required};
 use crate::value::count_at;
 use arrayvec::ArrayVec;
-use gq_model::limits::GREATEST_CAPS;
+use gq_model::limits::{GREATEST_BUFFER, GREATEST_CAPS, GREATEST_OBJECT, GREATEST_QUANTITY};
 use gq_scenario::key::Key;
 use gq_scenario::scenario::Version;
 use toml::Table;
@@ -53,11 +53,11 @@ pub fn interface_rules(version: Version, table: &Table) -> KeyRules<'static>
     let reply = required(Key::Reply, ValueRule::Number(0, GREATEST_NUMBER));
     let need = required(Key::Need, ValueRule::Quantity(0, GREATEST_NUMBER));
     let need_caps = required(Key::NeedCaps, ValueRule::Number(0, GREATEST_CAPS));
-    let object = optional(Key::Object, ValueRule::Quantity(0, 65536));
+    let object = optional(Key::Object, ValueRule::Quantity(0, GREATEST_OBJECT));
     let upgrades = optional(Key::Upgrades, ValueRule::Upgrades);
     let count = count_at(table, Key::Upgrades);
     let upgrade_caps = optional(Key::UpgradeCaps, ValueRule::Counts(count));
-    let buffer = optional(Key::Buffer, ValueRule::Quantity(0, 1048576));
+    let buffer = optional(Key::Buffer, ValueRule::Quantity(0, GREATEST_BUFFER));
     match version {
         Version::One => listed(&[arg, reply, need, object, upgrades, buffer]),
         Version::Two | Version::Three => listed(&[
@@ -95,7 +95,7 @@ pub fn init_rules(version: Version) -> KeyRules<'static>
     ensures { map rule_of result.items ≡ init_keys (version_number version) }
 {
     let name = required(Key::Name, ValueRule::NameText);
-    let quantum = required(Key::Quantum, ValueRule::Quantity(0, 1 << 40));
+    let quantum = required(Key::Quantum, ValueRule::Quantity(0, GREATEST_QUANTITY));
     let caps = required(Key::Caps, ValueRule::Number(0, GREATEST_CAPS));
     let routes = optional(Key::Route, ValueRule::Tables);
     let start = required(Key::Start, ValueRule::Tables);
@@ -114,7 +114,7 @@ pub fn leaf_rules<'a>(version: Version, interfaces: Option<&'a Table>) -> KeyRul
         ≡ leaf_keys (version_number version) (keys_of (entries_or_none (option_map (λ t. table_view t.now) interfaces.entry))) }
 {
     let name = required(Key::Name, ValueRule::NameText);
-    let quantum = required(Key::Quantum, ValueRule::Quantity(0, 1 << 40));
+    let quantum = required(Key::Quantum, ValueRule::Quantity(0, GREATEST_QUANTITY));
     let caps = required(Key::Caps, ValueRule::Number(0, GREATEST_CAPS));
     let routes = optional(Key::Route, ValueRule::Tables);
     let provides = optional(Key::Provides, ValueRule::Declared(interfaces));

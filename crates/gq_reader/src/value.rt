@@ -8,6 +8,7 @@ ghost use Rattle.gq_scenario.specs.Document.{text_at, number_at, quantity_at, li
 ghost use Rattle.gq_reader.specs.Key_rules.{entries_or_none};
 ghost use Rattle.gq_scenario.specs.Fault_words.{key_text};
 
+use gq_model::limits::GREATEST_QUANTITY;
 use gq_scenario::key::Key;
 use gq_tariff::quantity::read_quantity;
 use toml::{Table, Value};
@@ -27,7 +28,7 @@ pub fn quantity(value: &Value) -> Option<u64>
     ensures { result ≡ quantity (view value.now) }
 {
     if let Some(number) = number_of(value) {
-        return if number <= 1 << 40 {
+        return if number <= GREATEST_QUANTITY {
             Some(number)
         } else {
             None

@@ -1,6 +1,6 @@
 //! Addresses: a region map, which says what is attached at an address, and the bytes at the addresses of a leaf, whose slots are its region map.
 //!
-//! The program itself works out no address: a statement names a slot and an index. This is for whoever builds on the library.
+//! Programs of one's own use it, and the tests. `trade` does not: its statements name a slot and an index, and no address.
 //!
 //! ```rust
 //! use gq_region::{Base, RegionMap};

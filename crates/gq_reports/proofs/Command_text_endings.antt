@@ -4,9 +4,9 @@ use Rattle.std.specs.Prelude.{IsOkAnd}
 use Rattle.std.specs.Io.KnownBytes.{Appends}
 use Rattle.gq_load.specs.Load.{LoadRefusal}
 use Rattle.gq_model.specs.machine.Scenario.{Scenario}
-use Rattle.gq_init.specs.declared.counted.Counted.{Counted}
-use Rattle.gq_init.specs.Writer_failures.{Writes, failures_of, written_to}
-use Rattle.gq_init.specs.Writes.{IsPrefix, IsRaised}
+use Rattle.gq_output.specs.declared.counted.Counted.{Counted}
+use Rattle.gq_output.specs.Writer_failures.{Writes, failures_of, written_to}
+use Rattle.gq_output.specs.Writes.{IsPrefix, IsRaised}
 use Rattle.gq_reports.specs.declared.run_fault.RunFault.{RunFault}
 use Rattle.gq_reports.specs.declared.run_fault.RunFault.TheVariants.{Load, NoComponent, Turns, Memory, Write}
 use Rattle.gq_reports.specs.Command_outcomes.{IsBefore, IsFaultOf, WritesAs}

@@ -7,9 +7,9 @@ use Rattle.gq_load.specs.declared.load_fault.LoadError.{LoadError}
 use Rattle.gq_load.specs.declared.load_fault.LoadError.TheVariants as error
 use Rattle.gq_reports.specs.declared.run_fault.RunFault.{RunFault}
 use Rattle.gq_reports.specs.declared.run_fault.RunFault.TheVariants.{Load, NoComponent, NoOutcome, Turns, Memory, Write}
-use Rattle.gq_init.specs.declared.counted.Counted.{Counted}
-use Rattle.gq_init.specs.Writer_failures.{written_to, failures_of}
-use Rattle.gq_init.specs.Writes.{IsPrefix, IsRaised}
+use Rattle.gq_output.specs.declared.counted.Counted.{Counted}
+use Rattle.gq_output.specs.Writer_failures.{written_to, failures_of}
+use Rattle.gq_output.specs.Writes.{IsPrefix, IsRaised}
 use Rattle.gq_reports.specs.Whole.{Written, refused_with, turn_fault_text}
 
 -- the line that a fault prints

@@ -4,8 +4,8 @@ ghost use Rattle.gq_reports.specs.Whole.{check_written};
 
 use crate::command_text::put_text;
 use crate::run_fault::RunFault;
-use gq_init::counted::Counted;
 use gq_load::checked::checked_lines;
+use gq_output::counted::Counted;
 use std::alloc::Global;
 use std::io::Write;
 

@@ -4,7 +4,7 @@ ghost use Rattle.gq_reports.specs.Command_outcomes.{WritesAs};
 ghost use Rattle.gq_reports.specs.Whole.{Written};
 
 use crate::run_fault::RunFault;
-use gq_init::counted::{Counted, put};
+use gq_output::counted::{Counted, put};
 use std::io::Write;
 
 /// Writes the text that a command has made, whole. Fails with `Write` if a write fails; then a prefix of the text was written.

@@ -8,18 +8,21 @@ use Rattle.std.proofs.lemmas.Option.{slice_get-get_or}
 use Rattle.std.proofs.lemmas.List.{length-map}
 use Rattle.gq_model.specs.machine.Program.{text_eq}
 use Rattle.gq_model.specs.machine.Routes.{numbered}
+use Rattle.gq_model.specs.texts.Turns.{inputs_at}
 use Rattle.gq_scenario.specs.Component_trees.{nodes_of}
 use Rattle.gq_scenario.specs.declared.scenario.Node.{Node}
 use Rattle.gq_scenario.specs.declared.scenario.Node.TheVariants.{Leaf, Init}
 use Rattle.gq_scenario.proofs.Tree_counts.{nodes_drop}
 use Rattle.gq_scenario.proofs.Preorder_leaves.{components-count}
-use Rattle.std.specs.Prelude.{slice_get, codes}
+use Rattle.std.specs.Prelude.{slice_get, codes, map}
 use Rattle.gq_model.specs.machine.Accounts.{leaf_count}
 use Rattle.gq_model.specs.machine.Amounts.{Amount}
 use Rattle.gq_model.specs.machine.Scenario.{Route, LeafNode, InitNode, Nodes, End, Leaf_node, Init_node, Level, Component, Scenario, level, below}
 use Rattle.gq_model.specs.machine.Scenario.{components_of, components}
 use Rattle.gq_scenario.specs.Sizes.{node_count, leaf_places, depth}
 use Rattle.gq_resolve.specs.NodeTables.{NodeRow, LeafRow, leaf_node, init_node, rows_of, node_rows, IsNodeOf, leaf_row, leaf_rows_of, leaf_rows}
+use Rattle.gq_resolve.specs.NodeTables.{interface_number, number_named}
+use Rattle.gq_resolve.specs.Served.{AreServers, server_at}
 
 -- HOW MANY
 
@@ -240,6 +243,9 @@ module _ (s : Scenario) (leaves : List LeafRow) (x : ℕ) (r : LeafRow) (all : l
       subst (λ (o : Option Component). IfSome o (λ c. IsNodeOf (node_rows s) r.node c)) (sym a.there)
       (subst (λ (n : ℕ). IsNodeOf (node_rows s) n a.component) (sym (ap (λ l. l.node) same_row)) a.node)
 
+  pub inputs_here : r.inputs ≡ inputs_at (slice_get (components s) x)
+  inputs_here = let a = row_at s x less in ap (λ l. l.inputs) same_row ∙ sym (ap inputs_at a.there)
+
   pub servers_here : length r.servers ≡ length s.interfaces
   servers_here = ap (λ l. length l.servers) same_row ∙ length-map s.interfaces _
 
@@ -265,6 +271,27 @@ module _ (s : Scenario) (leaves : List LeafRow) (x : ℕ) (r : LeafRow) (all : l
   found_later name own e t =
       numbered_here name ∙ (ap (λ n. cond (text_eq name n) (Some x) (numbered (x + 1) name (drop (x + 1) (components s)))) (sym e)
       ∙ ap (λ b. cond b (Some x) (numbered (x + 1) name (drop (x + 1) (components s)))) t)
+
+-- what is kept of a leaf is its row
+pub row_made : (s : Scenario) (routes : List (List (List ℕ × ℕ))) → AreServers s routes → (cs : List Component) → cs ≡ components s → (x place : ℕ)
+    (item : Component)
+    → x < length cs → item ≡ get_or cs x item → (row : LeafRow) → row.name ≡ item.node.name → row.node ≡ place
+    → row.service ≡ number_named item.node.provides (λ name. interface_number 0 name s.interfaces)
+    → row.after ≡ number_named item.node.after (λ name. numbered 0 name cs) → row.inputs ≡ item.node.inputs
+    → row.servers ≡ map (λ e. server_at x e.0 routes) s.interfaces → IfSome (slice_get cs x) (λ c. row ≡ leaf_row s place c)
+row_made s routes are cs all x place item less is row name node service after inputs servers =
+    let there : slice_get cs x ≡ Some item = slice_get-get_or cs x item less ∙ ap Some (sym is) in
+    let at : slice_get (components s) x ≡ Some item = ap (λ l. slice_get l x) (sym all) ∙ there in
+    let afters = after ∙ ap (λ (l : List Component). number_named item.node.after (λ name. numbered 0 name l)) all in
+    let given = servers ∙ (λ j. map (λ e. are.reported x item at e.0 j) s.interfaces) in
+    subst (λ (o : Option Component). IfSome o (λ c. row ≡ leaf_row s place c)) (sym there) (λ i. record {
+      name = name i;
+      node = node i;
+      service = service i;
+      after = afters i;
+      inputs = inputs i;
+      servers = given i;
+    })
 
 -- one leaf more
 pub more_leaves : (s : Scenario) (places : List ℕ) (cs : List Component) (i p : ℕ) → i < length places → length places ≡ length cs → p ≡ get_or places i p

@@ -6,10 +6,10 @@ ghost use Rattle.gq_resolve.specs.internal.Search_keys.{name_keys};
 
 use crate::component::Component;
 use gq_model::program::Name;
+use gq_model::spelling::same_text;
 use gq_program::key_index::KeyIndex;
 use gq_program::name_keys::key_of;
 use gq_scenario::scenario::LeafNo;
-use gq_scenario::text_pieces::same_bytes;
 use std::marker::Model;
 
 // Where leaves may stand among these, by the numbers of their names.
@@ -70,7 +70,7 @@ impl<'l, 'a> LeafNames<'l, 'a> {
         let key = key_of(name.as_bytes());
         let (first, end) = self.places.range(key, self.components.len());
         for place in first..end {
-            if same_bytes(
+            if same_text(
                 name.as_bytes(),
                 self.components[place].leaf().name().as_bytes(),
             ) {

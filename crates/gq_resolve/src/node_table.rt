@@ -4,21 +4,22 @@ ghost use Rattle.gq_model.specs.machine.Accounts.{leaf_count};
 ghost use Rattle.gq_model.specs.machine.Routes.{numbered};
 ghost use Rattle.gq_model.specs.machine.Scenario as model;
 ghost use Rattle.gq_model.specs.machine.Scenario.{below, components};
+ghost use Rattle.gq_model.specs.texts.Turns.{inputs_at};
 ghost use Rattle.gq_resolve.specs.Served.{server_at, AreServers};
 ghost use Rattle.gq_scenario.specs.Sizes.{node_count, leaf_places, depth};
-ghost use Rattle.gq_resolve.specs.NodeTables.{IsNodeOf, all_rows, interface_number, leaf_row, leaf_rows, node_rows, rows_of};
+ghost use Rattle.gq_resolve.specs.NodeTables.{IsNodeOf, all_rows, interface_number, leaf_row, leaf_rows, node_rows, number_named, rows_of};
 
 use crate::component::Component;
 use crate::routes::{Routes, numbered};
 use arrayvec::ArrayVec;
 use gq_model::limits::GREATEST_LABEL;
 use gq_model::program::Name;
+use gq_model::spelling::same_text;
 use gq_program::interface::Interfaces;
 use gq_program::program_tree::Program;
 use gq_scenario::component_tree::copied;
 use gq_scenario::node_numbers::NodeNo;
-use gq_scenario::scenario::{LeafNo, Node, Nodes, Quantum, Scenario};
-use gq_scenario::text_pieces::same_bytes;
+use gq_scenario::scenario::{Inputs, Leaf, LeafNo, Node, Nodes, Quantum, Scenario};
 use std::alloc::{AllocError, Global};
 use std::marker::Model;
 
@@ -49,6 +50,7 @@ struct LeafEntry {
     node: NodeNo,
     service: Option<u32>,
     after: Option<LeafNo>,
+    inputs: Inputs,
     servers: Vec<Option<LeafNo>>,
 }
 
@@ -57,7 +59,7 @@ impl Model for LeafEntry {
 
     ghost Value = { LeafRow };
 
-    ghost view = { λ e. record { name = e.name; node = e.node; service = e.service; after = e.after; servers = e.servers.items } };
+    ghost view = { λ e. record { name = e.name; node = e.node; service = e.service; after = e.after; inputs = e.inputs.items; servers = e.servers.items } };
 }
 
 // Puts bytes at the end of a label.
@@ -132,8 +134,7 @@ fn node_entries(alloc: Global, scenario: &Scenario) -> Result<Vec<NodeEntry>, Al
     ensures { IfOk result (λ entries. entries.items ≡ node_rows scenario.now) }
 {
     scenario.laws();
-    let _leaves = scenario.leaf_count();
-    let _nodes = scenario.node_count();
+    scenario.bounds();
     let mut label = ArrayVec::new();
     extend(&mut label, b"init");
     let mut root = ArrayVec::new();
@@ -154,7 +155,7 @@ fn interface_number(interfaces: &Interfaces, service: &Name) -> Option<u32>
     ensures { result ≡ interface_number 0 service.now interfaces.now }
 {
     for (number, (name, _interface)) in interfaces.entries().iter().enumerate() {
-        if same_bytes(service.as_bytes(), name.as_bytes()) {
+        if same_text(service.as_bytes(), name.as_bytes()) {
             return Some(number as u32);
         }
     }
@@ -177,6 +178,27 @@ fn servers_of(
     Ok(servers)
 }
 
+// The number of the interface of the service that a leaf provides.
+fn service_of(interfaces: &Interfaces, leaf: &Leaf) -> Option<u32>
+    ensures { result ≡ number_named leaf.now.provides (λ name. interface_number 0 name interfaces.now) }
+{
+    match leaf.provides() {
+        Some(name) => interface_number(interfaces, name),
+        None => None,
+    }
+}
+
+// The leaf that a leaf starts after.
+fn after_of(components: &[Component<'_>], leaf: &Leaf) -> Option<LeafNo>
+    requires { length components.now ≤ 64 }
+    ensures { result ≡ number_named leaf.now.after (λ name. numbered 0 name components.now) }
+{
+    match leaf.after() {
+        Some(name) => numbered(name, components),
+        None => None,
+    }
+}
+
 // What is kept of a leaf at a place among the nodes.
 fn leaf_entry(
     alloc: Global,
@@ -193,20 +215,15 @@ fn leaf_entry(
     ensures { IfOk result (λ entry. IfSome (slice_get components.now leaf) (λ c. entry ≡ leaf_row scenario.now node c)) }
 {
     let component = components[leaf.index()].leaf();
-    let service = match component.provides() {
-        Some(name) => interface_number(scenario.interfaces(), name),
-        None => None,
-    };
-    let after = match component.after() {
-        Some(name) => numbered(name, components),
-        None => None,
-    };
+    let service = service_of(scenario.interfaces(), component);
+    let after = after_of(components, component);
     let servers = servers_of(alloc, scenario.interfaces(), leaf, routes)?;
     Ok(LeafEntry {
         name: copied(component.name()),
         node,
         service,
         after,
+        inputs: component.copied_inputs(),
         servers,
     })
 }
@@ -222,7 +239,7 @@ fn leaf_entries(
     requires servers { AreServers scenario.now routes.now }
     ensures { IfOk result (λ entries. entries.items ≡ leaf_rows scenario.now) }
 {
-    let _leaves = scenario.leaf_count();
+    scenario.bounds();
     let places = scenario.leaf_nodes(alloc)?;
     let mut entries = Vec::new(alloc);
     for (number, node) in places.iter().enumerate() {
@@ -310,7 +327,7 @@ impl NodeTable {
         requires entries { entries ≡ all_rows scenario }
         ensures { result ≡ scenario }
     {
-        let _leaves = scenario.leaf_count();
+        scenario.bounds();
         NodeTable {
             scenario,
             programs,
@@ -330,7 +347,7 @@ impl NodeTable {
         ensures count { result ≡ length (node_rows self.now) }
         ensures few { result ≤ 129 }
     {
-        let _nodes = self.scenario.node_count();
+        self.scenario.bounds();
         self.entries.nodes().len()
     }
 
@@ -384,6 +401,7 @@ impl NodeTable {
         requires { leaf < length (components self.now) }
         ensures row { slice_get (leaf_rows self.now) leaf ≡ Some result.now }
         ensures node { IfSome (slice_get (components self.now) leaf) (λ c. IsNodeOf (node_rows self.now) result.now.node c) }
+        ensures inputs { result.now.inputs ≡ inputs_at (slice_get (components self.now) leaf) }
         ensures servers { length result.now.servers ≡ length self.now.interfaces }
     {
         &self.entries.leaves()[leaf.index()]
@@ -433,6 +451,16 @@ impl NodeTable {
         entry.after
     }
 
+    /// The greatest values of a leaf's inputs, from input 0 on, at most 8.
+    pub fn inputs(&self, leaf: LeafNo) -> &[u32]
+        requires { leaf < length (components self.now) }
+        ensures inputs { result.now ≡ inputs_at (slice_get (components self.now) leaf) }
+        ensures few { length result.now ≤ 8 }
+    {
+        let entry = self.row(leaf);
+        entry.inputs.as_slice()
+    }
+
     /// The leaf that serves a leaf's sessions of an interface, where a statement of its program opens one.
     pub fn server(&self, leaf: LeafNo, interface: u32) -> Option<LeafNo>
         requires leaf { leaf < length (components self.now) }
@@ -450,7 +478,7 @@ impl NodeTable {
     {
         let _leaves = self.leaf_count();
         for (number, leaf) in self.entries.leaves().iter().enumerate() {
-            if same_bytes(name, leaf.name.as_bytes()) {
+            if same_text(name, leaf.name.as_bytes()) {
                 return Some(LeafNo::new(number as u32));
             }
         }

@@ -6,10 +6,10 @@ ghost use Rattle.gq_resolve.specs.Resolve_faults.{refused};
 use crate::resolve_fault::ResolveFault;
 use crate::routing::{is_service, offer_of};
 use gq_model::program::Name;
+use gq_model::spelling::same_text;
 use gq_program::interface::Interfaces;
 use gq_scenario::component_tree::copied;
 use gq_scenario::scenario::{Init, Node, Nodes, Scenario};
-use gq_scenario::text_pieces::same_bytes;
 
 // Whether the child of this name serves a service: it is a leaf that provides it, or an init that offers it.
 fn child_serves(name: &Name, service: &Name, children: &Nodes) -> bool
@@ -18,12 +18,12 @@ fn child_serves(name: &Name, service: &Name, children: &Nodes) -> bool
     for node in children.nodes() {
         match node {
             Node::Leaf(leaf) => {
-                if same_bytes(name.as_bytes(), leaf.name().as_bytes()) {
+                if same_text(name.as_bytes(), leaf.name().as_bytes()) {
                     return is_service(leaf.provides(), service);
                 }
             }
             Node::Init(init, _) => {
-                if same_bytes(name.as_bytes(), init.name().as_bytes()) {
+                if same_text(name.as_bytes(), init.name().as_bytes()) {
                     return offer_of(init.offers(), service).is_some();
                 }
             }

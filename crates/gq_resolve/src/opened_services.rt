@@ -8,11 +8,11 @@ ghost use Rattle.gq_resolve.specs.Served.{once, added};
 ghost use Rattle.gq_program.specs.Name_keys.{AreWithin, key_of};
 
 use gq_model::program::{Instruction, Name};
+use gq_model::spelling::same_text;
 use gq_program::key_index::KeyIndex;
 use gq_program::name_keys::key_of;
 use gq_program::program_tree::{Body, Program, Statement};
 use gq_scenario::component_tree::copied;
-use gq_scenario::text_pieces::same_bytes;
 use std::alloc::{AllocError, Global};
 
 /// Puts the services of the open statements of a list at the end, in the order of the text. Fails only if the host refuses memory.
@@ -69,7 +69,7 @@ fn is_among(service: &Name, key: u64, services: &[Name], places: &KeyIndex) -> b
 {
     let (first, end) = places.range(key, services.len());
     for place in first..end {
-        if same_bytes(service.as_bytes(), services[place].as_bytes()) {
+        if same_text(service.as_bytes(), services[place].as_bytes()) {
             return true;
         }
     }

@@ -98,7 +98,7 @@ pub fn resolve_opened(
     check_quanta(scenario)?;
     check_offers(scenario)?;
     check_after(components)?;
-    let _count = scenario.leaf_count();
+    scenario.bounds();
     let routes = all_routes(alloc, components, opened)?;
     check_cycle(alloc, components, &routes)?;
     Ok(routes)

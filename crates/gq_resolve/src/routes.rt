@@ -6,10 +6,10 @@ ghost use Rattle.gq_resolve.specs.Served.{servers, server_in, server_at};
 use crate::component::Component;
 use crate::routing::route;
 use gq_model::program::Name;
+use gq_model::spelling::same_text;
 use gq_program::key_index::KeyIndex;
 use gq_program::name_keys::key_of;
 use gq_scenario::scenario::LeafNo;
-use gq_scenario::text_pieces::same_bytes;
 use std::alloc::{AllocError, Global};
 use std::marker::Model;
 
@@ -19,7 +19,7 @@ pub fn numbered(name: &Name, components: &[Component<'_>]) -> Option<LeafNo>
     ensures { result ≡ numbered 0 name.now components.now }
 {
     for (place, component) in components.iter().enumerate() {
-        if same_bytes(name.as_bytes(), component.leaf().name().as_bytes()) {
+        if same_text(name.as_bytes(), component.leaf().name().as_bytes()) {
             return Some(LeafNo::new(place as u32));
         }
     }
@@ -92,7 +92,7 @@ impl LeafRoutes {
         let (first, end) = self.places.range(key, self.entries.len());
         for place in first..end {
             let (name, server) = &self.entries[place];
-            if same_bytes(service.as_bytes(), name.as_bytes()) {
+            if same_text(service.as_bytes(), name.as_bytes()) {
                 return Some(*server);
             }
         }

@@ -8,8 +8,8 @@ ghost use Rattle.gq_scenario.specs.Targets.{target_of};
 ghost use Rattle.gq_scenario.specs.Component_trees.{nodes_of};
 
 use gq_model::program::Name;
+use gq_model::spelling::same_text;
 use gq_scenario::scenario::{Node, Nodes, Route, Target};
-use gq_scenario::text_pieces::same_bytes;
 use std::marker::Model;
 
 /// Why a service leads to no leaf.
@@ -77,7 +77,7 @@ pub(crate) fn is_service(provided: Option<&Name>, service: &Name) -> bool
     ensures { result ≡ is_service (option_map (λ s. s.now) provided.entry) service.now }
 {
     match provided {
-        Some(provided) => same_bytes(provided.as_bytes(), service.as_bytes()),
+        Some(provided) => same_text(provided.as_bytes(), service.as_bytes()),
         None => false,
     }
 }
@@ -87,7 +87,7 @@ pub fn fits(route: &Route, service: &Name) -> bool
     ensures { result ≡ fits route.now.service service.now }
 {
     match route.service() {
-        Some(name) => same_bytes(name.as_bytes(), service.as_bytes()),
+        Some(name) => same_text(name.as_bytes(), service.as_bytes()),
         None => true,
     }
 }
@@ -97,7 +97,7 @@ pub fn offer_of<'a>(offers: &'a [(Name, Name)], service: &Name) -> Option<&'a Na
     ensures { option_map (λ child. child.now) result ≡ offer_of offers.now service.now }
 {
     for (offered, child) in offers {
-        if same_bytes(service.as_bytes(), offered.as_bytes()) {
+        if same_text(service.as_bytes(), offered.as_bytes()) {
             return Some(child);
         }
     }
@@ -115,7 +115,7 @@ fn child_named<'a>(
     for node in siblings.nodes() {
         match node {
             Node::Leaf(leaf) => {
-                if same_bytes(name.as_bytes(), leaf.name().as_bytes()) {
+                if same_text(name.as_bytes(), leaf.name().as_bytes()) {
                     return if is_service(leaf.provides(), service) {
                         Ok(name)
                     } else {
@@ -124,7 +124,7 @@ fn child_named<'a>(
                 }
             }
             Node::Init(init, children) => {
-                if same_bytes(name.as_bytes(), init.name().as_bytes()) {
+                if same_text(name.as_bytes(), init.name().as_bytes()) {
                     return match offer_of(init.offers(), service) {
                         Some(child) => child_named(child, service, children),
                         None => Err(RouteFault::ProvidesDiffers),

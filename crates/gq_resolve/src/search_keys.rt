@@ -5,10 +5,10 @@ ghost use Rattle.gq_program.specs.Name_keys.{AreWithin, key_of};
 ghost use Rattle.gq_resolve.specs.internal.Search_keys.{node_key, keys_of, are_silent};
 
 use gq_model::program::Name;
+use gq_model::spelling::same_text;
 use gq_program::key_index::KeyIndex;
 use gq_program::name_keys::key_of;
 use gq_scenario::scenario::{Node, Nodes};
-use gq_scenario::text_pieces::same_bytes;
 
 // The number of the service that a node provides; 0 where it provides none.
 fn node_key(node: &Node) -> u64

@@ -10,9 +10,9 @@ use crate::component::Component;
 use crate::resolve_fault::ResolveFault;
 use crate::routing::Level;
 use gq_model::program::Name;
+use gq_model::spelling::same_text;
 use gq_scenario::component_tree::copied;
 use gq_scenario::scenario::{Leaf, Node, Nodes};
-use gq_scenario::text_pieces::same_bytes;
 
 // The leaf of this name among these nodes.
 fn leaf_child<'a>(name: &Name, nodes: &'a Nodes) -> Option<&'a Leaf>
@@ -20,7 +20,7 @@ fn leaf_child<'a>(name: &Name, nodes: &'a Nodes) -> Option<&'a Leaf>
 {
     for node in nodes.nodes() {
         if let Node::Leaf(leaf) = node {
-            if same_bytes(name.as_bytes(), leaf.name().as_bytes()) {
+            if same_text(name.as_bytes(), leaf.name().as_bytes()) {
                 return Some(leaf);
             }
         }
@@ -63,7 +63,7 @@ fn after_of<'a>(name: &Name, components: &[Component<'a>]) -> Option<&'a Name>
     ensures { option_map (λ n. n.now) result ≡ after_of name.now components.now }
 {
     for component in components {
-        if same_bytes(name.as_bytes(), component.leaf().name().as_bytes()) {
+        if same_text(name.as_bytes(), component.leaf().name().as_bytes()) {
             return component.leaf().after();
         }
     }
@@ -79,7 +79,7 @@ fn leads_back<'a>(components: &[Component<'a>], goal: &Name, first: &'a Name) ->
         match next {
             None => return false,
             Some(name) => {
-                if same_bytes(name.as_bytes(), goal.as_bytes()) {
+                if same_text(name.as_bytes(), goal.as_bytes()) {
                     return true;
                 }
                 next = after_of(name, components);
@@ -95,7 +95,7 @@ fn is_named(name: &Name, components: &[Component<'_>]) -> bool
 {
     for component in components {
         if let Some(after) = component.leaf().after() {
-            if same_bytes(name.as_bytes(), after.as_bytes()) {
+            if same_text(name.as_bytes(), after.as_bytes()) {
                 return true;
             }
         }

@@ -1,6 +1,6 @@
 // A world in memory, turn by turn, and writers that fail.
-use gq_init::counted::Counted;
 use gq_model::phase::Phase;
+use gq_output::counted::Counted;
 use gq_reports::RunFault;
 use gq_reports::asm::asm;
 use gq_scenario::node_numbers::NodeNo;

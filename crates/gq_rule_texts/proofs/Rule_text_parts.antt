@@ -5,8 +5,8 @@ use Rattle.std.specs.Io.KnownBytes.{Appends}
 use Rattle.std.proofs.lemmas.Grind.{flat_map-append}
 use Rattle.std.proofs.lemmas.List.{take-append-drop, take_more}
 use Rattle.std.proofs.Math.Seq.{take-append_seam}
-use Rattle.gq_init.specs.Writes.{IsPrefix}
-use Rattle.gq_init.proofs.Written_byte_facts.{appends_both}
+use Rattle.gq_output.specs.Writes.{IsPrefix}
+use Rattle.gq_output.proofs.Written_byte_facts.{appends_both}
 
 -- the parts up to the next one, and those of which it is the next
 parts_more : {X : Type 0} (f : X → List ℕ) (xs : List X) (i : ℕ) (d : X) → i < length xs

@@ -1,9 +1,9 @@
 // The lines of rules, written out.
-ghost use Rattle.gq_init.specs.Writer_failures.{Writes};
+ghost use Rattle.gq_output.specs.Writer_failures.{Writes};
 ghost use Rattle.gq_rule_texts.specs.Rule_tables.{lines_of, lines_of_all};
 
 use crate::rule_table::RuleText;
-use gq_init::counted::{Counted, WriteFault, put};
+use gq_output::counted::{Counted, WriteFault, put};
 use std::io::Write;
 
 /// Writes the line of each rule of a table, which `families` gives, up to the first write that fails. Then a prefix of these lines went out.

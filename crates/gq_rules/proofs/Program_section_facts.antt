@@ -4,11 +4,12 @@ use Rattle.std.specs.Prelude.{nat_lt, nat_le, if◌then◌else◌, ◌==◌, len
 use Rattle.std.proofs.lemmas.List.Sums.{sum_by-cons}
 use Rattle.std.proofs.lemmas.Bool.Decides.{nat_tests}
 use Rattle.gq_model.specs.machine.Lists.{all_of, between}
-use Rattle.gq_model.specs.machine.Program.{Statements, Done, Do, If, Loop, size, Program, same_section, section_in}
-use Rattle.gq_model.specs.declared.program.Section.{Section}
+use Rattle.gq_model.specs.machine.Program.{Statements, Done, Do, If, Loop, size, Program, section_in}
+use Rattle.gq_model.specs.machine.Sections.{same_section, is_section, section_number}
+use Rattle.gq_model.specs.declared.section.Section.{Section}
 use Rattle.gq_program.specs.declared.program_tree.Body.{Body}
 use Rattle.gq_model.specs.texts.Operands.{operands, in_range, greatest_number}
-use Rattle.gq_model.specs.texts.Code.{is_body, is_section, section_number, are_sections, is_program, greatest_statements}
+use Rattle.gq_model.specs.texts.Code.{is_body, are_sections, is_program, greatest_statements}
 use Rattle.gq_rules.specs.Flowing.{few_loops}
 
 -- both of two tests

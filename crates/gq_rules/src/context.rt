@@ -1,6 +1,7 @@
 // Where a statement stands.
 ghost use Rattle.std.specs.Prelude.{◌≡◌, ◌<◌, length, slice_get, slice_index};
-ghost use Rattle.gq_model.specs.rules.Kinds.{inside, in_main};
+ghost use Rattle.gq_model.specs.rules.Kinds.{inside};
+ghost use Rattle.gq_model.specs.machine.Sections.{is_own_section};
 ghost use Rattle.gq_model.specs.rules.Flow.{context};
 
 use crate::subject::Subject;
@@ -72,11 +73,11 @@ impl<'a> Context<'a> {
         self.section
     }
 
-    /// Whether it is in `main`.
-    pub fn is_in_main(&self) -> bool
-        ensures { result ≡ in_main self.now.section }
+    /// Whether its section is one of the leaf's own, in which no session is current.
+    pub fn is_own(&self) -> bool
+        ensures { result ≡ is_own_section self.now.section }
     {
-        self.section == Section::Main
+        self.section.is_own()
     }
 
     /// The count of the loop so many loops out, where there is one.

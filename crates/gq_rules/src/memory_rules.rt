@@ -74,14 +74,14 @@ impl<'a> Context<'a> {
         match place {
             OperandSlot::Own(slot) => state.own_kind(slot),
             OperandSlot::Shared(slot) => {
-                if self.is_in_main() {
+                if self.is_own() {
                     None
                 } else {
                     state.shared_kind(slot)
                 }
             }
             OperandSlot::Object => {
-                if self.is_in_main() {
+                if self.is_own() {
                     None
                 } else {
                     Some(Kind::Slice(self.subject().object()))
@@ -95,7 +95,7 @@ impl<'a> Context<'a> {
         ensures { result ≡ may_change self.now place }
     {
         match place {
-            OperandSlot::Own(_) => self.is_in_main(),
+            OperandSlot::Own(_) => self.is_own(),
             OperandSlot::Shared(_) | OperandSlot::Object => true,
         }
     }

@@ -1,7 +1,8 @@
 // The rules for sessions.
 ghost use Rattle.std.specs.Prelude.{◌≡◌, ◌≤◌, length, take, option_map};
 ghost use Rattle.gq_model.specs.machine.Amounts.{Ram, Caps};
-ghost use Rattle.gq_model.specs.rules.Kinds.{kind_at, level_of, need_of, session_cost};
+ghost use Rattle.gq_model.specs.rules.Kinds.{kind_at, need_of, session_cost};
+ghost use Rattle.gq_model.specs.machine.Sections.{level_of};
 ghost use Rattle.gq_model.specs.rules.Rules.{judge, opened, upgraded, closed, link_kind, covered, within_need};
 ghost use Rattle.gq_caps.specs.Known.{all_known};
 ghost use Rattle.gq_rules.specs.Judging.{after, link_parts};
@@ -111,23 +112,13 @@ impl<'a> Context<'a> {
     pub fn within_need(&self, state: &AbstractState) -> Result<(), Rule>
         ensures { after result state.now ≡ within_need self.now.section self.now.subject.provided state.now }
     {
-        if self.is_in_main() {
+        if self.is_own() {
             return Ok(());
         }
         match self.subject().provided() {
-            Some(interface) => covered(interface, level_of(self.section()), state),
+            Some(interface) => covered(interface, self.section().level(), state),
             None => Ok(()),
         }
-    }
-}
-
-/// The level of the current session.
-pub fn level_of(section: Section) -> u8
-    ensures { result ≡ level_of section }
-{
-    match section {
-        Section::Main | Section::Opening => 0,
-        Section::Upgrading(level) | Section::Calling(level) | Section::Closing(level) => level,
     }
 }
 

@@ -2,7 +2,7 @@
 ghost use Rattle.std.specs.Prelude.{◌≡◌, ◌≤◌, nat_le, option_copied, is_some, slice_get, IfSome, IsTrue};
 ghost use Rattle.gq_model.specs.machine.Program.{section_in, size};
 ghost use Rattle.gq_model.specs.machine.Lists.{all_of};
-ghost use Rattle.gq_model.specs.texts.Code.{is_section};
+ghost use Rattle.gq_model.specs.machine.Sections.{is_section};
 ghost use Rattle.gq_model.specs.machine.Scenario.{interface_in, number_of};
 ghost use Rattle.gq_rules.specs.Flowing.{few_loops};
 

@@ -9,9 +9,9 @@ ghost use Rattle.gq_scenario.specs.Fault_words.{SameFault};
 
 use crate::scenario::{Leaf, Node, Nodes, Route};
 use crate::scenario_fault::ScenarioFault;
-use crate::text_pieces::same_bytes;
 use gq_model::limits::GREATEST_LEAVES;
 use gq_model::program::Name;
+use gq_model::spelling::same_text;
 use std::alloc::AllocError;
 
 /// The greatest number of leaves of a scenario, of inits below the root, of interfaces, and of routes in a list.
@@ -137,11 +137,11 @@ fn is_taken(names: &[Name], name: &[u8]) -> bool
     ensures { result ≡ (any_of (text_eq name.now) names.now || text_eq name.now (codes "init")) }
 {
     for other in names {
-        if same_bytes(name, other.as_bytes()) {
+        if same_text(name, other.as_bytes()) {
             return true;
         }
     }
-    same_bytes(name, b"init")
+    same_text(name, b"init")
 }
 
 /// The first of these names that was seen before, of which `init` is the root's.

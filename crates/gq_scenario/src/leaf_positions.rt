@@ -49,7 +49,7 @@ impl Scenario {
     pub fn leaf_nodes(&self, alloc: Global) -> Result<Vec<NodeNo>, AllocError>
         ensures { IfOk result (λ places. places.items ≡ leaf_places 1 self.now.nodes) }
     {
-        let _count = self.node_count();
+        self.bounds();
         let mut places = Vec::new(alloc);
         push_places(&mut places, 1, self.nodes())?;
         Ok(places)

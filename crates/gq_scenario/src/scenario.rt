@@ -1,11 +1,12 @@
 // Scenarios in memory.
-ghost use Rattle.std.specs.Prelude.{◌≡◌, ◌<◌, ◌≤◌, Some, length, slice_get, option_map};
+ghost use Rattle.std.specs.Prelude.{◌≡◌, ◌<◌, ◌≤◌, ◌+◌, Some, length, slice_get, option_map};
+ghost use Rattle.gq_model.specs.machine.Accounts.{leaf_count};
 ghost use Rattle.gq_model.specs.machine.Amounts.{amount, counts_caps};
 ghost use Rattle.gq_model.specs.texts.Sources.{program_from};
 ghost use Rattle.gq_scenario.specs.Given.{source_of};
 ghost use Rattle.gq_model.specs.machine.Scenario.{components};
 ghost use Rattle.gq_scenario.specs.Scenario_parts.{scenario_made, IsScenario};
-ghost use Rattle.gq_scenario.specs.Sizes.{IsQuantum};
+ghost use Rattle.gq_scenario.specs.Sizes.{IsQuantum, node_count};
 ghost use Rattle.gq_scenario.specs.Targets.{target_of};
 ghost use Rattle.gq_scenario.specs.Component_trees.{version_number, nodes_of};
 
@@ -99,7 +100,7 @@ pub struct Quantum {
 
 impl Model for Quantum {
     ghost use Rattle.gq_model.specs.machine.Amounts.{Amount, amount};
-    ghost use Rattle.gq_scenario.specs.Sizes.{IsQuantum};
+    ghost use Rattle.gq_scenario.specs.Sizes.{IsQuantum, node_count};
 
     ghost Value = { Amount };
 
@@ -315,6 +316,17 @@ impl Leaf {
         self.inputs.as_slice()
     }
 
+    /// The same values.
+    pub fn copied_inputs(&self) -> Inputs
+        ensures { result.items ≡ self.now.inputs }
+    {
+        let mut copied = ArrayVec::new();
+        match copied.try_extend_from_slice(self.inputs()) {
+            Ok(()) => copied,
+            Err(_) => unreachable!(),
+        }
+    }
+
     /// Its own routes; none are those of its init.
     pub fn routes(&self) -> Option<&[Route]>
         ensures { option_map (λ r. r.now) result ≡ self.now.routes }
@@ -526,6 +538,15 @@ impl Scenario {
         ensures { IsScenario self.now }
     {
         let _version = self.version;
+    }
+
+    /// How many leaves and nodes, the root among them, every scenario has at most. It does nothing.
+    pub fn bounds(&self)
+        ensures leaves { length (components self.now) ≤ 64 }
+        ensures count { leaf_count self.now.nodes ≤ 64 }
+        ensures nodes { 1 + node_count self.now.nodes ≤ 129 }
+    {
+        self.laws();
     }
 
     /// The number of its leaves, at most 64.

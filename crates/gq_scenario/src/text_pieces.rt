@@ -1,18 +1,9 @@
 // Lines of a text, and pieces of a line.
 ghost use Rattle.std.specs.Prelude.{◌≡◌, ℕ, ◌==◌, ◌<◌, ◌∷◌, length, slice_index, option_map, IfNone, IfSome};
 ghost use Rattle.gq_model.specs.texts.Letters.{pieces, lines, without_return};
-ghost use Rattle.gq_model.specs.machine.Program.{text_eq};
 ghost use Rattle.gq_scenario.specs.Text_pieces.{pieces_left, lines_left};
 
-use gq_program::spelling::same_text;
 use memchr::memchr;
-
-/// Whether two texts have the same bytes.
-pub fn same_bytes(a: &[u8], b: &[u8]) -> bool
-    ensures { result ≡ text_eq a.now b.now }
-{
-    same_text(a, b)
-}
 
 // How many bytes are looked at one by one before a search begins.
 const NEAR: usize = 24;

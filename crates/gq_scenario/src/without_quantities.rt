@@ -3,10 +3,7 @@ ghost use Rattle.std.specs.Prelude.{◌≡◌, ◌≤◌, length, IfOk, option_m
 ghost use Rattle.gq_model.specs.machine.Amounts.{amount};
 ghost use Rattle.gq_scenario.specs.Without_quantities.{unsized, without_quanta};
 
-use crate::scenario::{
-    Init, Inputs, Leaf, Node, Nodes, Offers, Parts, Quantum, Route, Scenario, Target,
-};
-use arrayvec::ArrayVec;
+use crate::scenario::{Init, Leaf, Node, Nodes, Offers, Parts, Quantum, Route, Scenario, Target};
 use gq_model::program::Name;
 use std::alloc::{AllocError, Global};
 
@@ -53,18 +50,6 @@ fn copied_routes(alloc: Global, routes: Option<&[Route]>) -> Result<Option<Vec<R
     }
 }
 
-// The same inputs.
-fn copied_inputs(inputs: &[u32]) -> Inputs
-    requires { length inputs.now ≤ 8 }
-    ensures { result.items ≡ inputs.now }
-{
-    let mut copied = ArrayVec::new();
-    if copied.try_extend_from_slice(inputs).is_err() {
-        unreachable!();
-    }
-    copied
-}
-
 // The same offers.
 fn copied_offers(alloc: Global, offers: &[(Name, Name)]) -> Result<Offers, AllocError>
     ensures { IfOk result (λ o. o.items ≡ offers.now) }
@@ -88,7 +73,7 @@ fn unsized_leaf(alloc: Global, leaf: &Leaf) -> Result<Leaf, AllocError>
         source,
         copied_name(leaf.provides()),
         copied_name(leaf.after()),
-        copied_inputs(leaf.inputs()),
+        leaf.copied_inputs(),
         routes,
     ))
 }

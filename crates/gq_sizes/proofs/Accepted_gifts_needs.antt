@@ -9,7 +9,8 @@ use Rattle.gq_model.specs.declared.program.Instruction.TheVariants.{Say, Out, Op
 use Rattle.gq_model.specs.declared.program.Instruction.TheVariants.{Store, Free, Take, Give, Peek, Poke, Open, Upgrade, Call, Close}
 use Rattle.gq_model.specs.machine.Program.{Statements, Done, Do, If, Loop, size, text_eq}
 use Rattle.gq_model.specs.machine.Scenario.{Interface, Interfaces, System, interface_in}
-use Rattle.gq_model.specs.rules.Kinds.{AbstractState, Context, in_main, inside, kind_at, level_of, need_of}
+use Rattle.gq_model.specs.rules.Kinds.{AbstractState, Context, inside, kind_at, need_of}
+use Rattle.gq_model.specs.machine.Sections.{is_own_section, level_of}
 use Rattle.gq_model.specs.rules.Rules.{judged, link_kind}
 use Rattle.gq_model.specs.rules.Flow.{at, later, flow, state_or, body, points}
 use Rattle.gq_model.proofs.Rules_laws.{then_ok, at_ok, later_ok, if_parts, loop_ok}
@@ -22,7 +23,7 @@ use Rattle.gq_sizes.proofs.Flow_under_larger_gifts.{chosen_there}
 use Rattle.gq_sizes.proofs.Statement_point_predicates.{Each, both_each}
 
 -- so is the end of a list
-end_covered : (c : Context) (s u : AbstractState) (list : Statements) → in_main c.section ≡ false → flow c s list ≡ Ok u
+end_covered : (c : Context) (s u : AbstractState) (list : Statements) → is_own_section c.section ≡ false → flow c s list ≡ Ok u
     → Covers c.subject (level_of c.section) s.bank → Covers c.subject (level_of c.section) u.bank
 end_covered c s u Done outside e h = subst (λ (x : AbstractState). Covers c.subject (level_of c.section) x.bank) (ap (state_or s) e) h
 end_covered c s u (Do i rest) outside e h =
@@ -39,7 +40,7 @@ end_covered c s u (Loop n body rest) outside e h =
     let p = loop_ok c s n body rest u e in end_covered c s u rest outside p.2 h
 
 -- each point outside `main` is covered
-pub points_covered : (c : Context) (s u : AbstractState) (list : Statements) → in_main c.section ≡ false → flow c s list ≡ Ok u
+pub points_covered : (c : Context) (s u : AbstractState) (list : Statements) → is_own_section c.section ≡ false → flow c s list ≡ Ok u
     → Covers c.subject (level_of c.section) s.bank → Each (λ (s : AbstractState). Covers c.subject (level_of c.section) s.bank) (points c s list)
 points_covered c s u Done outside e h = (h, tt)
 points_covered c s u (Do i rest) outside e h =

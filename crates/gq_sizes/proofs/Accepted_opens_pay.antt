@@ -4,13 +4,13 @@ use Rattle.std.specs.Prelude.{nat_lt, slice_get, if◌then◌else◌, codes, dec
 use Rattle.std.proofs.lemmas.Bool.Decides.{nat_tests}
 use Rattle.gq_model.specs.machine.Amounts.{Ram}
 use Rattle.gq_model.specs.machine.Accounts.{entry}
-use Rattle.gq_model.specs.declared.program.Section.{Section}
+use Rattle.gq_model.specs.declared.section.Section.{Section}
 use Rattle.gq_model.specs.machine.Program.{Statements, section_in, body_of}
 use Rattle.gq_model.specs.machine.Scenario.{Interface, Component, LeafNode, Scenario, System, system, interface_in}
 use Rattle.gq_model.specs.rules.Kinds.{Subject, need_of}
 use Rattle.gq_model.specs.rules.Flow.{context, body, start_of}
 use Rattle.gq_model.specs.rules.Use.{subject}
-use Rattle.gq_model.specs.texts.Fault_texts.{section_word}
+use Rattle.gq_model.specs.machine.Sections.{section_word}
 use Rattle.gq_laws.specs.Sound_scenarios.{IsSound}
 use Rattle.gq_laws.proofs.verified_programs.Session_costs.{need_first}
 use Rattle.gq_sizes.specs.Unsized_equality.{AreAsOne, ProvideAsOne, ComponentsAsOne, ScenariosAsOne}

@@ -5,13 +5,14 @@ use Rattle.std.specs.Prelude.{nat_le, if◌then◌else◌, is_some, get_or}
 use Rattle.std.specs.Cmp.Lexicographic.{pointwise}
 use Rattle.std.proofs.lemmas.Bool.{and_parts}
 use Rattle.std.proofs.lemmas.Bool.Decides.{nat_tests}
-use Rattle.gq_model.specs.declared.program.Section.{Section}
-use Rattle.gq_model.specs.declared.program.Section.TheVariants.{Main, Opening, Upgrading, Calling, Closing}
+use Rattle.gq_model.specs.declared.section.Section.{Section}
+use Rattle.gq_model.specs.declared.section.Section.TheVariants.{Main, Opening, Upgrading, Calling, Closing}
 use Rattle.gq_model.specs.machine.Amounts.{Resource, Caps}
 use Rattle.gq_model.specs.machine.Lists.{all_of, greatest}
 use Rattle.gq_model.specs.machine.Program.{Statements, text_eq}
 use Rattle.gq_model.specs.machine.Scenario.{Interface, Interfaces, Component, System, interface_in}
-use Rattle.gq_model.specs.rules.Kinds.{Subject, level_of}
+use Rattle.gq_model.specs.rules.Kinds.{Subject}
+use Rattle.gq_model.specs.machine.Sections.{level_of}
 use Rattle.gq_model.specs.rules.Use.{subject}
 use Rattle.gq_model.proofs.Small_facts.{text_is, text_self}
 use Rattle.gq_program.specs.Interfaces.{place_from}

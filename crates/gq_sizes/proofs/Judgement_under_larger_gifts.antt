@@ -8,7 +8,7 @@ use Rattle.gq_model.specs.declared.program.Form.TheVariants.{Block, Slice, Space
 use Rattle.gq_model.specs.declared.program.Form.{Form}
 use Rattle.gq_model.specs.declared.program.OperandSlot.{OperandSlot}
 use Rattle.gq_model.specs.declared.program.OperandSlot.TheVariants.{Own, Shared, Object}
-use Rattle.gq_model.specs.declared.program.Section.{Section}
+use Rattle.gq_model.specs.declared.section.Section.{Section}
 use Rattle.gq_model.specs.declared.program.Width.{Width}
 use Rattle.gq_model.specs.declared.program.Instruction.{Instruction}
 use Rattle.gq_model.specs.declared.program.Instruction.TheVariants.{Say, Out, Operands, Make, MakePool, Load}
@@ -18,7 +18,8 @@ use Rattle.gq_model.specs.machine.Memory.{is_later}
 use Rattle.gq_model.specs.machine.Scenario.{Interface, Interfaces, interface_in, number_of}
 use Rattle.gq_model.specs.declared.fault.Rule.{Rule}
 use Rattle.gq_model.specs.declared.fault.Rule.TheVariants.{OutOfRange}
-use Rattle.gq_model.specs.rules.Kinds.{Kind, Empty_kind, Memory, Pool_kind, Link_kind, AbstractState, Context, in_main, kind_at, with_kind}
+use Rattle.gq_model.specs.rules.Kinds.{Kind, Empty_kind, Memory, Pool_kind, Link_kind, AbstractState, Context, kind_at, with_kind}
+use Rattle.gq_model.specs.machine.Sections.{is_own_section}
 use Rattle.gq_model.specs.rules.Rules.{Judged, Bounded, Limits, limits, bounds_after, with_bounds, must, given, top, pushed, is_empty_kind, is_memory_kind}
 use Rattle.gq_model.specs.rules.Rules.{is_kept, may_change, reach, shared_bytes, pool_kind, fill, freed, link_kind, linked, opened, upgraded, called, closed}
 use Rattle.gq_model.specs.rules.Rules.{pooled}
@@ -121,13 +122,13 @@ module _ (c d : Context) (h : ContextsAsOne c d) where
       → (l : Kind) × (kind_at d t place ≡ Some l) × KindsAsOne xs ys k l
   kind_as_one s t (Own i) k o e = slot_as_one s.own t.own i k o.own e
   kind_as_one s t (Shared i) k o e =
-      subst (λ (x : Section). (l : Kind) × ((if◌then◌else◌ (in_main x) None (slice_get t.bank i)) ≡ Some l) × KindsAsOne xs ys k l) h.section
-      (outside (in_main c.section) (slice_get s.bank i) (slice_get t.bank i) k e (slot_as_one s.bank t.bank i k o.bank))
+      subst (λ (x : Section). (l : Kind) × ((if◌then◌else◌ (is_own_section x) None (slice_get t.bank i)) ≡ Some l) × KindsAsOne xs ys k l) h.section
+      (outside (is_own_section c.section) (slice_get s.bank i) (slice_get t.bank i) k e (slot_as_one s.bank t.bank i k o.bank))
   kind_as_one s t Object k o e =
       let n = number_of c.subject.provided (λ i. i.object) in let m = number_of d.subject.provided (λ i. i.object) in
       let same : n ≡ m = same_number c.subject.provided d.subject.provided (λ i. i.object) h.subject.provided (λ i j a. a.object) in
-      subst (λ (x : Section). (l : Kind) × ((if◌then◌else◌ (in_main x) None (Some (Memory Slice m))) ≡ Some l) × KindsAsOne xs ys k l) h.section
-      (outside (in_main c.section) (Some (Memory Slice n)) (Some (Memory Slice m)) k e
+      subst (λ (x : Section). (l : Kind) × ((if◌then◌else◌ (is_own_section x) None (Some (Memory Slice m))) ≡ Some l) × KindsAsOne xs ys k l) h.section
+      (outside (is_own_section c.section) (Some (Memory Slice n)) (Some (Memory Slice m)) k e
       (λ f. (Memory Slice m, refl, subst (λ y. KindsAsOne xs ys y (Memory Slice m)) (some_same f) (ap (Memory Slice) (sym same)))))
 
   slot_back : (ks ls : List Kind) (i : ℕ) (l : Kind) → BanksAsOne xs ys ks ls → slice_get ls i ≡ Some l
@@ -148,13 +149,13 @@ module _ (c d : Context) (h : ContextsAsOne c d) where
       → (k : Kind) × (kind_at c s place ≡ Some k) × KindsAsOne xs ys k l
   kind_back s t (Own i) l o e = slot_back s.own t.own i l o.own e
   kind_back s t (Shared i) l o e =
-      subst (λ (x : Section). (k : Kind) × ((if◌then◌else◌ (in_main x) None (slice_get s.bank i)) ≡ Some k) × KindsAsOne xs ys k l) (sym h.section)
-      (outside_back (in_main d.section) (slice_get s.bank i) (slice_get t.bank i) l e (slot_back s.bank t.bank i l o.bank))
+      subst (λ (x : Section). (k : Kind) × ((if◌then◌else◌ (is_own_section x) None (slice_get s.bank i)) ≡ Some k) × KindsAsOne xs ys k l) (sym h.section)
+      (outside_back (is_own_section d.section) (slice_get s.bank i) (slice_get t.bank i) l e (slot_back s.bank t.bank i l o.bank))
   kind_back s t Object l o e =
       let n = number_of c.subject.provided (λ i. i.object) in let m = number_of d.subject.provided (λ i. i.object) in
       let same : n ≡ m = same_number c.subject.provided d.subject.provided (λ i. i.object) h.subject.provided (λ i j a. a.object) in
-      subst (λ (x : Section). (k : Kind) × ((if◌then◌else◌ (in_main x) None (Some (Memory Slice n))) ≡ Some k) × KindsAsOne xs ys k l) (sym h.section)
-      (outside_back (in_main d.section) (Some (Memory Slice n)) (Some (Memory Slice m)) l e
+      subst (λ (x : Section). (k : Kind) × ((if◌then◌else◌ (is_own_section x) None (Some (Memory Slice n))) ≡ Some k) × KindsAsOne xs ys k l) (sym h.section)
+      (outside_back (is_own_section d.section) (Some (Memory Slice n)) (Some (Memory Slice m)) l e
       (λ f. (Memory Slice n, refl, subst (λ y. KindsAsOne xs ys (Memory Slice n) y) (some_same f) (ap (Memory Slice) (sym same)))))
 
   pub put_as_one : (s t : AbstractState) (place : OperandSlot) (k l : Kind) → One s t → KindsAsOne xs ys k l → One (with_kind s place k) (with_kind t place l)
@@ -233,7 +234,7 @@ module _ (c d : Context) (h : ContextsAsOne c d) where
   -- WHAT A SLOT ALLOWS
 
   change_so : (place : OperandSlot) → may_change c place ≡ true → may_change d place ≡ true
-  change_so (Own i) e = subst (λ (x : Section). in_main x ≡ true) h.section e
+  change_so (Own i) e = subst (λ (x : Section). is_own_section x ≡ true) h.section e
   change_so (Shared i) e = refl
   change_so Object e = refl
 

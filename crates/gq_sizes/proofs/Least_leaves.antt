@@ -12,7 +12,7 @@ use Rattle.gq_model.specs.machine.Lists.{greatest}
 use Rattle.gq_model.specs.machine.Resource_prices.{chunks, heap_of}
 use Rattle.gq_model.specs.machine.Program.{Statements, Done, body_of, section_in}
 use Rattle.gq_model.specs.machine.Scenario.{Component, Nodes, System}
-use Rattle.gq_model.specs.declared.program.Section.TheVariants.{Main}
+use Rattle.gq_model.specs.declared.section.Section.TheVariants.{Main}
 use Rattle.gq_model.specs.rules.Accept.{Budget, budgets_from}
 use Rattle.gq_model.specs.rules.Budgets.{heap_cost, own}
 use Rattle.gq_model.specs.rules.Flow.{context, points, start_of}

@@ -5,12 +5,13 @@ use Rattle.std.specs.Prelude.{nat_le, slice_index_or, if◌then◌else◌}
 use Rattle.std.proofs.lemmas.Bool.{cases_lt}
 use Rattle.std.proofs.lemmas.Bool.Decides.{nat_tests}
 use Rattle.gq_model.specs.machine.Amounts.{Resource, Ram, Caps, Amount, amount, counted_in, part, counts_caps}
-use Rattle.gq_model.specs.declared.program.Section.{Section}
-use Rattle.gq_model.specs.declared.program.Section.TheVariants.{Main, Opening, Upgrading, Calling, Closing}
+use Rattle.gq_model.specs.declared.section.Section.{Section}
+use Rattle.gq_model.specs.declared.section.Section.TheVariants.{Main, Opening, Upgrading, Calling, Closing}
 use Rattle.gq_model.specs.machine.Lists.{greatest}
 use Rattle.gq_model.specs.machine.Program.{Statements, body_of, section_in, text_eq}
 use Rattle.gq_model.specs.machine.Scenario.{Interface, Interfaces, Component, System, interface_in, service_in, number_of}
-use Rattle.gq_model.specs.rules.Kinds.{AbstractState, Subject, level_of, need_of}
+use Rattle.gq_model.specs.rules.Kinds.{AbstractState, Subject, need_of}
+use Rattle.gq_model.specs.machine.Sections.{level_of}
 use Rattle.gq_model.specs.rules.Kinds as kinds
 use Rattle.gq_model.specs.rules.Rules.{must, over, covered, within_need}
 use Rattle.gq_model.specs.rules.Use.{subject}

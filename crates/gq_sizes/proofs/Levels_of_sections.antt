@@ -3,21 +3,22 @@ use Rattle.std.proofs.Common.{◌≡◌, ℕ, zero, suc, ◌+◌, ◌≤◌, ◌
 use Rattle.std.proofs.Common.{arith}
 use Rattle.std.specs.Prelude.{nat_le, is_some, if◌then◌else◌}
 use Rattle.std.proofs.lemmas.Bool.{and_parts, leb-true}
-use Rattle.gq_model.specs.declared.program.Section.{Section}
-use Rattle.gq_model.specs.declared.program.Section.TheVariants.{Main, Opening, Upgrading, Calling, Closing}
+use Rattle.gq_model.specs.declared.section.Section.{Section}
+use Rattle.gq_model.specs.declared.section.Section.TheVariants.{Main, Opening, Upgrading, Calling, Closing}
 use Rattle.gq_model.specs.machine.Lists.{any_of}
-use Rattle.gq_model.specs.machine.Program.{Statements, all_sections, same_section, section_in}
+use Rattle.gq_model.specs.machine.Program.{Statements, section_in}
+use Rattle.gq_model.specs.machine.Sections.{all_sections, same_section, level_of, is_section, section_number, is_own_section}
 use Rattle.gq_model.specs.machine.Scenario.{Interface}
-use Rattle.gq_model.specs.rules.Kinds.{Subject, in_main, level_of}
+use Rattle.gq_model.specs.rules.Kinds.{Subject}
 use Rattle.gq_model.specs.rules.Verdict.{is_wanted, same_truth, first_unwanted, program_fault}
-use Rattle.gq_model.specs.texts.Code.{is_body, is_section, section_number, are_sections, IsProgram}
+use Rattle.gq_model.specs.texts.Code.{is_body, are_sections, IsProgram}
 use Rattle.gq_model.proofs.Rules_laws.{accepted, same_section_is}
 use Rattle.gq_model.proofs.Small_facts.{none_some, some_none}
 use Rattle.gq_sizes.specs.Size.{is_up_to}
 use Rattle.gq_model.proofs.Section_laws.{in_order}
 
 -- a section that serves sessions of a level up to l
-pub outside_main : (l : ℕ) (section : Section) → is_up_to l section ≡ true → (in_main section ≡ false) × (level_of section ≤ l)
+pub outside_main : (l : ℕ) (section : Section) → is_up_to l section ≡ true → (is_own_section section ≡ false) × (level_of section ≤ l)
 outside_main l Main e = absurd cc
 outside_main l Opening e = (refl, leb-true 0 l e)
 outside_main l (Upgrading k) e = (refl, leb-true k l e)

@@ -7,7 +7,7 @@ use Rattle.gq_model.specs.machine.Accounts.{leaf_count}
 use Rattle.gq_model.specs.machine.Amounts.{Resource, Ram, Caps, Amount, part}
 use Rattle.gq_model.specs.machine.Lists.{or_first}
 use Rattle.gq_model.specs.machine.Program.{text_eq}
-use Rattle.gq_model.specs.declared.program.Section.TheVariants.{Main}
+use Rattle.gq_model.specs.declared.section.Section.TheVariants.{Main}
 use Rattle.gq_model.specs.machine.Scenario.{Component, LeafNode, Nodes, End, Leaf_node, Init_node, Level, Scenario, System, system}
 use Rattle.gq_model.specs.rules.Resolve.{first_handed, handed_out, exceeded, exceeds, first_exceeding, leaf_child, sibling}
 use Rattle.gq_model.specs.rules.Use.{subject}

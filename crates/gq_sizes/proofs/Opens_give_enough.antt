@@ -5,14 +5,14 @@ use Rattle.std.specs.Prelude.{nat_lt, slice_get, if◌then◌else◌, codes, dec
 use Rattle.std.proofs.lemmas.Bool.Decides.{nat_tests}
 use Rattle.gq_model.specs.machine.Amounts.{Ram, Caps, Amount, amount, counts_caps}
 use Rattle.gq_model.specs.machine.Accounts.{entry}
-use Rattle.gq_model.specs.declared.program.Section.{Section}
-use Rattle.gq_model.specs.machine.Program.{Statements, same_section, section_in}
+use Rattle.gq_model.specs.declared.section.Section.{Section}
+use Rattle.gq_model.specs.machine.Program.{Statements, section_in}
+use Rattle.gq_model.specs.machine.Sections.{same_section, level_of, section_word}
 use Rattle.gq_model.specs.machine.Scenario.{Interface, Interfaces, Component, System, interface_in}
-use Rattle.gq_model.specs.rules.Kinds.{Subject, level_of}
+use Rattle.gq_model.specs.rules.Kinds.{Subject}
 use Rattle.gq_model.specs.rules.Flow.{context, start_of}
 use Rattle.gq_model.specs.rules.Use.{subject}
 use Rattle.gq_model.specs.rules.Verdict.{program_fault}
-use Rattle.gq_model.specs.texts.Fault_texts.{section_word}
 use Rattle.gq_model.proofs.Rules_laws.{same_section_is}
 use Rattle.gq_model.proofs.Small_facts.{none_some, some_same, text_self}
 use Rattle.gq_sizes.specs.Size.{Gift, asked_above, gifts, gifts_in, all_gifts, is_named, is_up_to, least_caps, least_gift, least_need, needed, opens_from}

@@ -8,7 +8,7 @@ use Rattle.gq_model.specs.machine.Amounts.{Resource, Ram, Caps, counts_caps}
 use Rattle.gq_model.specs.machine.Lists.{greatest}
 use Rattle.gq_model.specs.machine.Resource_prices.{chunks}
 use Rattle.gq_model.specs.machine.Scenario.{Interfaces, Nodes, End, Leaf_node, Init_node, System}
-use Rattle.gq_model.specs.declared.program.Section.TheVariants.{Main}
+use Rattle.gq_model.specs.declared.section.Section.TheVariants.{Main}
 use Rattle.gq_model.specs.rules.Budgets.{heap_cost, own}
 use Rattle.gq_model.specs.rules.Kinds.{Kind, Empty_kind, Memory, Pool_kind, Link_kind, AbstractState, Subject, kind_places, kinds_cost}
 use Rattle.gq_model.specs.rules.Resolve.{first_handed, handed_out}

@@ -4,7 +4,7 @@ use Rattle.std.proofs.Common.{append_assoc, append-nil}
 use Rattle.std.specs.Prelude.{if◌then◌else◌, Option, Some, option_map, slice_get, sum_by}
 use Rattle.std.proofs.lemmas.Option.{slice_get-get_or, slice_get-map}
 use Rattle.std.proofs.lemmas.List.Sums.{sum_by-cons}
-use Rattle.gq_model.specs.declared.program.Section.{Section}
+use Rattle.gq_model.specs.declared.section.Section.{Section}
 use Rattle.gq_model.specs.machine.Program.{Program, Statements, size, text_eq}
 use Rattle.gq_model.specs.machine.Scenario.{Component, Interfaces, System, interface_in}
 use Rattle.gq_model.proofs.Small_facts.{text_is}

@@ -3,12 +3,13 @@ use Rattle.std.proofs.Common.{append_assoc, ◌++◌, ◌≡◌, ℕ, zero, suc,
 use Rattle.std.proofs.Common.{◌∙◌, subst}
 use Rattle.std.specs.Prelude.{replicate, nat_le, slice_get, is_some, if◌then◌else◌}
 use Rattle.gq_model.specs.declared.program.Form.TheVariants.{Block, Slice, Space}
-use Rattle.gq_model.specs.declared.program.Section.{Section}
-use Rattle.gq_model.specs.declared.program.Section.TheVariants.{Main, Opening, Upgrading, Calling, Closing}
+use Rattle.gq_model.specs.declared.section.Section.{Section}
+use Rattle.gq_model.specs.declared.section.Section.TheVariants.{Main, Opening, Upgrading, Calling, Closing}
 use Rattle.gq_model.specs.declared.program.Instruction.{Instruction}
 use Rattle.gq_model.specs.declared.fault.Rule.{Rule}
 use Rattle.gq_model.specs.declared.fault.Rule.TheVariants.{LeftoverOperand, SessionBankChanged, LinkLeftOpen, ValueTooLarge}
-use Rattle.gq_model.specs.machine.Program.{Program, Statements, Done, size, all_sections, same_section, section_in, body_of}
+use Rattle.gq_model.specs.machine.Program.{Program, Statements, Done, size, section_in, body_of}
+use Rattle.gq_model.specs.machine.Sections.{all_sections, same_section}
 use Rattle.gq_model.specs.machine.Scenario.{Interfaces, Interface, number_of}
 use Rattle.gq_model.specs.rules.Kinds.{Kind, Empty_kind, Memory, Pool_kind, Link_kind, AbstractState, Subject, same_kinds}
 use Rattle.gq_model.specs.rules.Rules.{Judged, must, top, and_then, within_need, is_empty_kind}

@@ -3,12 +3,13 @@ use Rattle.std.proofs.Common.{◌≡◌, ℕ, zero, suc, ◌<◌, true, List, []
 use Rattle.std.specs.Prelude.{nat_le, get_or, slice_get}
 use Rattle.gq_model.proofs.Small_facts.{some_same}
 use Rattle.std.proofs.lemmas.Bool.{and_parts}
-use Rattle.gq_model.specs.declared.program.Section.{Section}
-use Rattle.gq_model.specs.declared.program.Section.TheVariants.{Main, Opening, Upgrading, Calling, Closing}
+use Rattle.gq_model.specs.declared.section.Section.{Section}
+use Rattle.gq_model.specs.declared.section.Section.TheVariants.{Main, Opening, Upgrading, Calling, Closing}
 use Rattle.gq_model.specs.machine.Lists.{all_of}
 use Rattle.gq_model.specs.machine.Program.{Program, Statements}
-use Rattle.gq_model.specs.rules.Kinds.{Subject, level_of}
-use Rattle.gq_model.specs.texts.Code.{IsProgram, is_section}
+use Rattle.gq_model.specs.rules.Kinds.{Subject}
+use Rattle.gq_model.specs.machine.Sections.{level_of, is_section}
+use Rattle.gq_model.specs.texts.Code.{IsProgram}
 use Rattle.gq_rules.proofs.Program_section_facts.{each_section}
 use Rattle.gq_sizes.specs.Needing.{AreLow}
 

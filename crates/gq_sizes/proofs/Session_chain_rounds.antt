@@ -3,11 +3,12 @@ use Rattle.std.proofs.Common.{◌≡◌, ℕ, zero, suc, ◌+◌, ◌-◌, ◌�
 use Rattle.std.proofs.Common.{refl, ap, ap₂, sym, ◌∙◌, append_assoc, length-append, subst, arith}
 use Rattle.std.specs.Prelude.{nat_le, is_some, get_or, if◌then◌else◌}
 use Rattle.std.proofs.lemmas.Bool.{and_parts}
-use Rattle.gq_model.specs.declared.program.Section.{Section}
+use Rattle.gq_model.specs.declared.section.Section.{Section}
 use Rattle.gq_model.specs.machine.Lists.{all_of, any_of}
 use Rattle.gq_model.specs.machine.Program.{Statements, text_eq}
 use Rattle.gq_model.specs.machine.Scenario.{Interface, Interfaces, Component, System, interface_in}
-use Rattle.gq_model.specs.rules.Kinds.{AbstractState, Subject, level_of}
+use Rattle.gq_model.specs.rules.Kinds.{AbstractState, Subject}
+use Rattle.gq_model.specs.machine.Sections.{level_of}
 use Rattle.gq_model.specs.rules.Use.{subject}
 use Rattle.gq_model.proofs.Small_facts.{text_is}
 use Rattle.gq_program.specs.Interfaces.{place_from}

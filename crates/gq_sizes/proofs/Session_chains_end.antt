@@ -9,15 +9,16 @@ use Rattle.std.proofs.lemmas.List.Sums.{sum_by-cons}
 use Rattle.std.proofs.lemmas.Option.{slice_get_within}
 use Rattle.gq_model.specs.machine.Accounts.{leaf_count}
 use Rattle.gq_model.specs.machine.Amounts.{Caps, part, counts_caps}
-use Rattle.gq_model.specs.declared.program.Section.{Section}
-use Rattle.gq_model.specs.declared.program.Section.TheVariants.{Main}
+use Rattle.gq_model.specs.declared.section.Section.{Section}
+use Rattle.gq_model.specs.declared.section.Section.TheVariants.{Main}
 use Rattle.gq_model.specs.declared.program.Form.TheVariants.{Slice}
 use Rattle.gq_model.specs.machine.Lists.{any_of}
 use Rattle.gq_model.specs.machine.Resource_prices.{price_memory}
 use Rattle.gq_model.specs.machine.Program.{Statements, text_eq}
 use Rattle.gq_model.specs.machine.Scenario.{Interface, Interfaces, Component, LeafNode, Nodes, End, Leaf_node, Init_node, Scenario, System, system}
 use Rattle.gq_model.specs.machine.Scenario.{interface_in, service_in, number_of}
-use Rattle.gq_model.specs.rules.Kinds.{Kind, Empty_kind, Memory, Pool_kind, Link_kind, AbstractState, level_of, kind_price, kind_lent, kinds_cost, need_of}
+use Rattle.gq_model.specs.rules.Kinds.{Kind, Empty_kind, Memory, Pool_kind, Link_kind, AbstractState, kind_price, kind_lent, kinds_cost, need_of}
+use Rattle.gq_model.specs.machine.Sections.{level_of}
 use Rattle.gq_model.specs.rules.Kinds as kinds
 use Rattle.gq_model.specs.rules.Use.{subject}
 use Rattle.gq_model.specs.Promises.{EachOf}

@@ -3,11 +3,12 @@ use Rattle.std.proofs.Common.{◌≡◌, ℕ, zero, suc, ◌+◌, ◌-◌, ◌�
 use Rattle.std.proofs.Common.{arith}
 use Rattle.std.specs.Prelude.{slice_get, if◌then◌else◌}
 use Rattle.gq_model.specs.machine.Amounts.{Resource, Ram, Caps, part, counted_in, counts_caps}
-use Rattle.gq_model.specs.declared.program.Section.{Section}
+use Rattle.gq_model.specs.declared.section.Section.{Section}
 use Rattle.gq_model.specs.machine.Lists.{greatest}
 use Rattle.gq_model.specs.machine.Program.{Statements, section_in}
 use Rattle.gq_model.specs.machine.Scenario.{Interface, Component, LeafNode, Scenario, System, system, interface_in, service_in, number_of}
-use Rattle.gq_model.specs.rules.Kinds.{AbstractState, Subject, in_main, level_of, need_of}
+use Rattle.gq_model.specs.rules.Kinds.{AbstractState, Subject, need_of}
+use Rattle.gq_model.specs.machine.Sections.{is_own_section, level_of}
 use Rattle.gq_model.specs.rules.Kinds as kinds
 use Rattle.gq_model.specs.rules.Flow.{context, body, start_of}
 use Rattle.gq_model.specs.rules.Use.{subject}
@@ -101,7 +102,7 @@ module _ (t s : Scenario) (sound : IsSound t) (alike : ScenariosAsOne t s) where
     points_so section = points_free v w s.interfaces (subjects c d o) refl (none_counted s.interfaces d.node.provides) fine section
 
     -- each point of a section outside `main` is covered
-    pub points_paid : (section : Section) (list : Statements) → in_main section ≡ false → section_in section c.node.program.sections ≡ Some list
+    pub points_paid : (section : Section) (list : Statements) → is_own_section section ≡ false → section_in section c.node.program.sections ≡ Some list
         → Each (λ (s : AbstractState). Covers v (level_of section) s.bank) (section_points v section)
     points_paid section list outside there =
         let p = flows_through v section fine in

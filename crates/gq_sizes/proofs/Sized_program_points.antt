@@ -1,6 +1,6 @@
 -- With the least quantities, what is known at the points of a program's sections is the same but for quantities, and so are its requests.
 use Rattle.std.proofs.Common.{◌≡◌, ℕ, List, Option, Some, None, refl, ap, sym, ◌∙◌, subst}
-use Rattle.gq_model.specs.declared.program.Section.{Section}
+use Rattle.gq_model.specs.declared.section.Section.{Section}
 use Rattle.gq_model.specs.declared.program.Instruction.{Instruction}
 use Rattle.gq_model.specs.machine.Program.{Program, Statements, Done, body_of, section_in}
 use Rattle.gq_model.specs.rules.Budgets.{requests, section_requests}

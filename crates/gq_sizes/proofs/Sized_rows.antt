@@ -7,7 +7,7 @@ use Rattle.gq_model.specs.declared.program.Instruction.{Instruction}
 use Rattle.gq_model.specs.declared.program.Instruction.TheVariants.{Make, Open, Close}
 use Rattle.gq_model.specs.declared.program.Form.TheVariants.{Slice}
 use Rattle.gq_model.specs.declared.program.OperandSlot.TheVariants.{Own, Shared}
-use Rattle.gq_model.specs.declared.program.Section.TheVariants.{Main, Opening, Upgrading, Calling, Closing}
+use Rattle.gq_model.specs.declared.section.Section.TheVariants.{Main, Opening, Upgrading, Calling, Closing}
 use Rattle.gq_model.specs.machine.Program.{Done}
 use Rattle.gq_model.specs.machine.Scenario.{Scenario, Interface, Any_child, LeafNode, Nodes, End, Init_node, system}
 use Rattle.gq_model.proofs.Sample_scenarios.{all_do, any_to, init_node, leaf, leaves, main_of, server}

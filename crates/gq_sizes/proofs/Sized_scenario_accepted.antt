@@ -5,8 +5,8 @@ use Rattle.std.specs.Prelude.{slice_get, is_some, if◌then◌else◌, codes}
 use Rattle.std.proofs.lemmas.Bool.Decides.{nat_tests}
 use Rattle.gq_model.specs.machine.Amounts.{Resource, Ram, Caps, Amount, amount, part, counts_caps}
 use Rattle.gq_model.specs.machine.Lists.{or_first}
-use Rattle.gq_model.specs.declared.program.Section.{Section}
-use Rattle.gq_model.specs.declared.program.Section.TheVariants.{Main}
+use Rattle.gq_model.specs.declared.section.Section.{Section}
+use Rattle.gq_model.specs.declared.section.Section.TheVariants.{Main}
 use Rattle.gq_model.specs.machine.Program.{Statements, section_in, text_eq}
 use Rattle.gq_model.specs.machine.Scenario.{Interface, LeafNode, Nodes, End, Leaf_node, Init_node, Level, Component, Scenario, System, components, system}
 use Rattle.gq_model.specs.machine.Scenario.{service_in}

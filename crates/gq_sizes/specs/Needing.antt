@@ -1,11 +1,12 @@
 -- What sessions need, along leaves and along the sections of a program.
 use Rattle.std.specs.Prelude.{◌≡◌, ℕ, max, if◌then◌else◌, nat_le, IsTrue, List, [], ◌∷◌, ◌++◌, Option, Some, None}
-use Rattle.gq_model.specs.declared.program.Section.{Section}
+use Rattle.gq_model.specs.declared.section.Section.{Section}
 use Rattle.gq_model.specs.machine.Amounts.{Resource}
 use Rattle.gq_model.specs.machine.Lists.{all_of, greatest}
 use Rattle.gq_model.specs.machine.Program.{Program, Statements}
 use Rattle.gq_model.specs.machine.Scenario.{Component, Interface, Interfaces}
-use Rattle.gq_model.specs.rules.Kinds.{Subject, level_of}
+use Rattle.gq_model.specs.rules.Kinds.{Subject}
+use Rattle.gq_model.specs.machine.Sections.{level_of}
 use Rattle.gq_model.specs.rules.Verdict.{program_fault}
 use Rattle.gq_verify.specs.Subjects.{subject_of}
 use Rattle.gq_verify.specs.Visits.{Sight, At_statement, At_point}

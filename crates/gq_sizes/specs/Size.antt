@@ -10,18 +10,18 @@ use Rattle.gq_model.specs.machine.Resource_prices.{price_memory}
 use Rattle.gq_model.specs.declared.program.Form.TheVariants.{Slice}
 use Rattle.gq_model.specs.declared.program.Instruction.{Instruction}
 use Rattle.gq_model.specs.declared.program.Instruction.TheVariants.{Open, Upgrade}
-use Rattle.gq_model.specs.declared.program.Section.{Section}
-use Rattle.gq_model.specs.declared.program.Section.TheVariants.{Main}
+use Rattle.gq_model.specs.declared.section.Section.{Section}
+use Rattle.gq_model.specs.declared.section.Section.TheVariants.{Main}
 use Rattle.gq_model.specs.machine.Program.{Statements, Done, Do, If, Loop, size, text_eq}
 use Rattle.gq_model.specs.machine.Scenario.{Interface, Nodes, End, Leaf_node, Init_node, Scenario, Component, System}
 use Rattle.gq_model.specs.machine.Scenario.{interface_in}
 use Rattle.gq_model.specs.rules.Accept.{Refusal}
 use Rattle.gq_model.specs.rules.Budgets.{heap_cost}
 use Rattle.gq_model.specs.rules.Flow.{at, body, context, flow, points, start_of, state_or}
-use Rattle.gq_model.specs.rules.Kinds.{Kind, Link_kind, AbstractState, Subject, Context, inside, kind_at, kind_price, level_of}
+use Rattle.gq_model.specs.rules.Kinds.{Kind, Link_kind, AbstractState, Subject, Context, inside, kind_at, kind_price}
+use Rattle.gq_model.specs.machine.Sections.{level_of, section_word}
 use Rattle.gq_model.specs.rules.Rules.{judged, link_kind}
 use Rattle.gq_model.specs.rules.Use.{subject}
-use Rattle.gq_model.specs.texts.Fault_texts.{section_word}
 use Rattle.gq_scenario.specs.Without_quantities.{unsized}
 use Rattle.gq_load.specs.Unsized_judgement.{unsized_refusal}
 

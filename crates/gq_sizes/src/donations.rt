@@ -1,6 +1,6 @@
 // What statements are to give for sessions, so that they give just what is needed.
 ghost use Rattle.std.specs.Prelude.{◌≡◌, ◌<◌, ◌++◌, ◌∷◌, ℕ, List, [], IsTrue, None, false, IfOk, IfErr, IfSome, get_or, map};
-ghost use Rattle.gq_model.specs.texts.Code.{is_section};
+ghost use Rattle.gq_model.specs.machine.Sections.{is_section};
 ghost use Rattle.gq_model.specs.machine.Scenario as model;
 ghost use Rattle.gq_model.specs.machine.Scenario.{system};
 ghost use Rattle.gq_load.specs.Load_faults.{PrintsFault};
@@ -227,10 +227,10 @@ fn donations_without(alloc: Global, free: &Scenario) -> Result<Donations, LoadEr
     Ok(donations_of(alloc, free, components.as_slice(), &judged)?)
 }
 
-/// What the statements of a scenario are to give, so that each gives just what sessions need.
+/// What each statement of a scenario is to give: an `open` the bytes that a session needs at level 0, an `upgrade` what one of the next level needs more.
 ///
-/// What they need counts what the statements of the servers give. An `open` gives the bytes that a session needs at level 0, an `upgrade` what one of the
-/// next level needs more. Fails with the first fault that no quantity decides, or if the host refuses memory.
+/// What sessions need counts what the statements of their servers give now. Once these give what is reported here, sessions may need more: a caller asks again
+/// until nothing changes. Fails with the first fault that no quantity decides, or if the host refuses memory.
 pub fn least_donations(alloc: Global, scenario: &Scenario) -> Result<Donations, LoadError>
     ensures leaves { IfOk result (λ d. map leaf_list d.leaves.items
         ≡ all_donated (system (unsized scenario.now))) }

@@ -5,7 +5,7 @@ ghost use Rattle.gq_model.specs.machine.Lists.{any_of};
 ghost use Rattle.gq_model.specs.machine.Program.{Statements, section_in};
 ghost use Rattle.gq_model.specs.machine.Scenario.{System};
 ghost use Rattle.gq_model.specs.rules.Use.{subject};
-ghost use Rattle.gq_model.specs.texts.Code.{is_section};
+ghost use Rattle.gq_model.specs.machine.Sections.{is_section};
 ghost use Rattle.gq_sizes.specs.Endless.{holds, leads, leaf_holds};
 ghost use Rattle.gq_sizes.specs.Passing.{chain_rows, endless_rows, held_of, held_rows, passing, test_at};
 ghost use Rattle.gq_sizes.specs.Size.{is_named, is_up_to, section_points};

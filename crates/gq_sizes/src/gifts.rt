@@ -1,14 +1,14 @@
 // What is given for upgrades at least.
 ghost use Rattle.std.specs.Prelude.{◌≡◌, ◌≤◌, ◌+◌, ◌-◌, ◌*◌, ◌^◌, ◌∷◌, [], ℕ, List, IsTrue, IfSome};
-ghost use Rattle.gq_model.specs.texts.Code.{is_section};
+ghost use Rattle.gq_model.specs.machine.Sections.{is_section};
 ghost use Rattle.gq_verify.specs.Visits.{after_all, section_sights};
 ghost use Rattle.gq_sizes.specs.Size.{Gift, gifts_above, gifts_in, least_gift};
 ghost use Rattle.gq_sizes.specs.Needing.{given_at, gift_row, gifts_of, least_of, up_to};
 
 use crate::point_maxima::LEVELS;
+use gq_model::spelling::same_text;
 use gq_program::{Instruction, Name, Section};
 use gq_rules::{AbstractState, Context};
-use gq_scenario::text_pieces::same_bytes;
 use gq_verify::{Verified, Visitor};
 
 /// The least bytes that any statement gives for each level of a service, where one does.
@@ -29,7 +29,7 @@ impl<'a> Giving<'a> {
         ensures level { self.new.level ≡ self.old.level }
         ensures least { self.new.least ≡ least_of self.old.least (least_gift self.old.service.now self.old.level ((service.now, level, given) ∷ [])) }
     {
-        if same_bytes(self.service.as_bytes(), service) && level == self.level {
+        if same_text(self.service.as_bytes(), service) && level == self.level {
             self.least = match self.least {
                 Some(least) => Some(least.min(given)),
                 None => Some(given),

@@ -4,7 +4,7 @@ ghost use Rattle.gq_model.specs.machine.Lists.{all_of};
 ghost use Rattle.gq_model.specs.machine.Scenario as model;
 ghost use Rattle.gq_model.specs.machine.Scenario.{interface_in, number_of};
 ghost use Rattle.gq_model.specs.rules.Use.{subject};
-ghost use Rattle.gq_model.specs.texts.Code.{is_section};
+ghost use Rattle.gq_model.specs.machine.Sections.{is_section};
 ghost use Rattle.gq_load.specs.Load_faults.{PrintsFault};
 ghost use Rattle.gq_load.specs.Unsized_judgement.{unsized_fault};
 ghost use Rattle.gq_scenario.specs.Without_quantities.{unsized};

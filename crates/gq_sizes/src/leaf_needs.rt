@@ -17,9 +17,9 @@ ghost use Rattle.gq_sizes.specs.Saturated_tables.{IsLeast, leasts_from, own_leas
 
 use crate::point_maxima::{LeastGifts, most_own};
 use gq_load::budget::Budget;
+use gq_model::spelling::same_text;
 use gq_resolve::component::Component;
 use gq_scenario::scenario::{Leaf, Node, Nodes};
-use gq_scenario::text_pieces::same_bytes;
 use gq_tariff::Amount;
 use gq_tariff::class::Class;
 use gq_tariff::price::{Held, price_caps};
@@ -86,7 +86,7 @@ fn is_after(component: &Component<'_>, name: &[u8]) -> bool
     ensures { result ≡ is_named name.now component.now.node.after }
 {
     match component.leaf().after() {
-        Some(first) => same_bytes(name, first.as_bytes()),
+        Some(first) => same_text(name, first.as_bytes()),
         None => false,
     }
 }

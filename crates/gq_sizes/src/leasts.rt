@@ -128,7 +128,7 @@ fn least_nodes(
         → IfOk result (λ l. l.items ≡ at_least (root_least_printed all scenario.now.nodes) (children_endless all 0 scenario.now.nodes)
         ∷ nodes_row all 0 scenario.now.nodes) }
 {
-    let _count = scenario.leaf_count();
+    scenario.bounds();
     let leaves = Leaves {
         least: found.leaves.as_slice(),
         endless: found.endless.as_slice(),
@@ -184,7 +184,8 @@ fn leasts_without(alloc: Global, scenario: &Scenario, free: &Scenario) -> Result
 
 /// What each quantity of a scenario is at least, or its first fault that no quantity decides.
 ///
-/// The numbers are those that `size` prints. A scenario that has them is the one with the least quantities (`is_sized`).
+/// A scenario that has these numbers is the one with the least quantities (`is_sized`), and `size` prints them. In version 1 capabilities are not counted:
+/// `size` prints none then, and the scenario has 0 of them, whatever the number here is.
 pub fn least_quantities(alloc: Global, scenario: &Scenario) -> Result<Leasts, LoadError>
     ensures interfaces { IfOk result (λ l. l.interfaces.items ≡ interfaces_least scenario.now) }
     ensures nodes { IfOk result (λ l. l.nodes.items ≡ nodes_least scenario.now) }

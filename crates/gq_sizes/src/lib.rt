@@ -3,7 +3,7 @@
 //! ```rust
 //! use gq_sizes::least_size_laws::{least_laws, size_laws};
 //! use gq_sizes::size::size;
-//! use gq_init::counted::Counted;
+//! use gq_output::counted::Counted;
 //!
 //! let mut out = Counted::new(writer);
 //! // What each interface, leaf and init has, and what it needs at least.

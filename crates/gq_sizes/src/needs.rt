@@ -13,10 +13,9 @@ ghost use Rattle.gq_sizes.specs.Saturated_tables.{AreOf, caps_rows, needed_rows,
 use crate::gifts::{Gifts, given_above, least_gifts};
 use crate::point_maxima::{LEVELS, LeastGifts, most_caps, most_ram};
 use crate::section_levels::levels_are_low;
+use gq_model::spelling::same_text;
 use gq_program::{Interface, Interfaces, Name, Section};
 use gq_resolve::component::Component;
-use gq_rules::session_rules::level_of;
-use gq_scenario::text_pieces::same_bytes;
 use gq_verify::Verified;
 use std::alloc::{AllocError, Global};
 
@@ -29,7 +28,7 @@ pub(crate) fn is_up_to(section: Section, level: u8) -> bool
 {
     match section {
         Section::Main => false,
-        _ => level_of(section) <= level,
+        _ => section.level() <= level,
     }
 }
 
@@ -65,7 +64,7 @@ pub(crate) fn is_provider(component: &Component<'_>, service: &Name) -> bool
     ensures { result ≡ is_named service.now component.now.node.provides }
 {
     match component.leaf().provides() {
-        Some(provided) => same_bytes(service.as_bytes(), provided.as_bytes()),
+        Some(provided) => same_text(service.as_bytes(), provided.as_bytes()),
         None => false,
     }
 }

@@ -201,7 +201,7 @@ impl<'a> Leaves<'a> {
             → (result.ram ≡ (root_least_printed all scenario.now.nodes).ram)
             × (result.caps ≡ unless (children_endless all 0 scenario.now.nodes) (root_least_printed all scenario.now.nodes).caps) }
     {
-        let _leaves = scenario.leaf_count();
+        scenario.bounds();
         let (needed, _after) = least_of_children(scenario.nodes(), self.least, 0);
         let (endless, _after) = of_children(scenario.nodes(), self.endless, 0);
         least_of(root_least(needed), endless)
@@ -220,7 +220,7 @@ pub(crate) fn push_tree(
         ++ root_line scenario.now.version all scenario.now.total scenario.now.nodes
         ++ node_lines scenario.now.version all (codes "init") 0 scenario.now.nodes) }
 {
-    let _leaves = scenario.leaf_count();
+    scenario.bounds();
     let version = scenario.version();
     push_node(
         text,

@@ -1,13 +1,13 @@
 // What is greatest at the points of a walk.
 ghost use Rattle.std.specs.Prelude.{◌≡◌, ◌≤◌, ◌<◌, ◌^◌, ℕ, IsTrue, Some, get_or, sum_by};
 ghost use Rattle.gq_caps.specs.Known.{all_known, known};
-ghost use Rattle.gq_model.specs.declared.program.Section.TheVariants.{Main};
+ghost use Rattle.gq_model.specs.declared.section.Section.TheVariants.{Main};
 ghost use Rattle.gq_model.specs.machine.Amounts.{Ram, Caps};
 ghost use Rattle.gq_model.specs.machine.Lists.{greatest};
 ghost use Rattle.gq_model.specs.machine.Program.{Statements, section_in};
 ghost use Rattle.gq_model.specs.machine.Scenario as model;
 ghost use Rattle.gq_model.specs.rules.Kinds.{kind_places};
-ghost use Rattle.gq_model.specs.texts.Code.{is_section};
+ghost use Rattle.gq_model.specs.machine.Sections.{is_section};
 ghost use Rattle.gq_tariff.specs.Prices.{classes};
 ghost use Rattle.gq_verify.specs.Saturated_numbers.{saturated};
 ghost use Rattle.gq_verify.specs.Visits.{most_shown, section_sights};

@@ -4,17 +4,17 @@ ghost use Rattle.gq_scenario.specs.Given.{source_of};
 ghost use Rattle.gq_scenario.specs.Targets.{target_of};
 
 use gq_model::program::Name;
+use gq_model::spelling::same_text;
 use gq_program::{Counts, Interface};
 use gq_scenario::scenario::{Route, Target, Version};
 use gq_scenario::source::Source;
-use gq_scenario::text_pieces::same_bytes;
 
 /// Whether two names are one.
 pub fn same_name(a: &Name, b: &Name) -> bool
     ensures same { IsTrue result → a.now ≡ b.now }
     ensures only { a.now ≡ b.now → IsTrue result }
 {
-    same_bytes(a.as_bytes(), b.as_bytes())
+    same_text(a.as_bytes(), b.as_bytes())
 }
 
 /// Whether two names are one, or there is neither.
@@ -115,8 +115,8 @@ pub fn same_source(a: &Source, b: &Source) -> bool
     ensures only { source_of a.now ≡ source_of b.now → IsTrue result }
 {
     match (a, b) {
-        (Source::Text(a), Source::Text(b)) => same_bytes(a.as_slice(), b.as_slice()),
-        (Source::Code(a), Source::Code(b)) => same_bytes(a.as_slice(), b.as_slice()),
+        (Source::Text(a), Source::Text(b)) => same_text(a.as_slice(), b.as_slice()),
+        (Source::Code(a), Source::Code(b)) => same_text(a.as_slice(), b.as_slice()),
         _ => false,
     }
 }

@@ -339,7 +339,7 @@ fn is_sized_by(made: &Scenario, scenario: &Scenario, found: &LeastFound) -> bool
     ensures sized { IsTrue result → IsSized made.now scenario.now }
     ensures only { IsSized made.now scenario.now → IsTrue result }
 {
-    let _count = scenario.leaf_count();
+    scenario.bounds();
     let version = scenario.version();
     let leaves = Leaves {
         least: found.leaves.as_slice(),

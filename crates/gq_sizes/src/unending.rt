@@ -4,7 +4,7 @@ ghost use Rattle.gq_model.specs.machine.Accounts.{leaf_count};
 ghost use Rattle.gq_model.specs.machine.Scenario as model;
 ghost use Rattle.gq_model.specs.rules.Use.{subject};
 ghost use Rattle.gq_model.specs.machine.Lists.{any_of};
-ghost use Rattle.gq_model.specs.declared.program.Section.TheVariants.{Main};
+ghost use Rattle.gq_model.specs.declared.section.Section.TheVariants.{Main};
 ghost use Rattle.gq_scenario.specs.Component_trees.{nodes_of};
 ghost use Rattle.gq_sizes.specs.Endless.{endless_at};
 ghost use Rattle.gq_sizes.specs.Endless.{at_start, children_endless, leads, leaf_endless};

@@ -1,8 +1,8 @@
 -- What a leaf that looks for a request finds.
 use Rattle.std.proofs.Common.{◌≡◌, ◌⊎◌, ◌↔◌, ℕ, Bool, true, false, cond, inl, inr, List, get_or, map, Option, Some, None, sym, ap, ◌∙◌, subst}
-use Rattle.std.specs.Prelude.{is_some, IfNone, IfOk, IfSome, IsErrOf, Result, Ok, Err}
+use Rattle.std.specs.Prelude.{is_some, IfNone, IfOk, IfSome, IsErrOf, IsTrue, Result, Ok, Err}
 use Rattle.std.proofs.lemmas.Bool.{cases_Bool}
-use Rattle.gq_model.specs.declared.program.Section.{Section}
+use Rattle.gq_model.specs.declared.section.Section.{Section}
 use Rattle.gq_model.specs.declared.fault.Wrong.{Wrong}
 use Rattle.gq_model.specs.declared.fault.Wrong.TheVariants.{ExceededQuota, MissingSection}
 use Rattle.gq_model.specs.machine.Program.{section_in}
@@ -16,7 +16,7 @@ use Rattle.gq_trade.specs.Numbers.{IsTaken}
 use Rattle.gq_trade.specs.declared.requests.Ask.TheVariants.{Open}
 use Rattle.gq_trade.specs.declared.requests.Request.{Request}
 use Rattle.gq_trade.specs.Queues.{oldest_to}
-use Rattle.gq_trade.specs.Seen_requests.{request_seen}
+use Rattle.gq_trade.specs.Seen_requests.{ask_seen, request_seen}
 use Rattle.gq_contents.specs.declared.content.Content.TheVariants.{Empty}
 use Rattle.gq_trade.specs.Trading.{IsOfOldest, LacksBytes, LacksCaps, object_size, server_of, session_at}
 use Rattle.gq_slots.specs.Slots.{AreSound, Frame, Slots, memory_of, world_seen}
@@ -24,8 +24,10 @@ use Rattle.gq_slots.specs.Session_calls.{TakesOldest}
 use Rattle.gq_statements.specs.Systems.{AreLawful}
 use Rattle.gq_statements.proofs.Unpaid_object_world.{unpaid_beginning, unpaid_beginning_caps}
 use Rattle.gq_statements.proofs.Seen_slot_content.{unmade_oldest}
-use Rattle.gq_statements.specs.Serving.{AreSections, Begins, IsSection, place, taken}
-use Rattle.gq_statements.specs.internal.Beginning.{can_pay, section_of}
+use Rattle.gq_statements.specs.Serving.{AreSections, Begins, taken}
+use Rattle.gq_statements.specs.internal.Beginning.{can_pay}
+use Rattle.gq_model.specs.machine.Step.{section_asked}
+use Rattle.gq_model.specs.machine.Sections.{is_section, section_number}
 use Rattle.gq_statements.proofs.Serving_begun.{begun_paid, lacks_some}
 use Rattle.gq_statements.proofs.Taken_request_world.{b, begun_now, missing, refused}
 
@@ -49,7 +51,7 @@ module _ (d : Doing) (e : Frame) (s : Slots) (x : ℕ) (is : d.x ≡ x) (same : 
   unmade = unmade_oldest s.trades.trading.sessions x s.trades.trading.requests r others sound.unmade first
 
   abbrev has : Bool
-  has = is_some (section_in (section_of r.ask (session_at s.trades.trading k).level) d.component.node.program.sections)
+  has = is_some (section_in (section_asked (ask_seen r.ask) (session_at s.trades.trading k).level) d.component.node.program.sections)
 
   -- the server can't pay for what the request makes
   lacking : LacksBytes r.ask s.trades.trading k ⊎ LacksCaps r.ask s.trades.trading k
@@ -108,7 +110,9 @@ takes_oldest s t x r others (Some p) first none takes =
 
 -- the program has the section of a request where its place reports so
 pub has_is : (d : Doing) (bs : List Bool) (s : Slots) (r : Request) (section : Section) (level : ℕ) (b : Bool) → AreSections bs d.component
-    → IsSection section → section ≡ section_of r.ask level → level ≡ (session_at s.trades.trading r.session).level → b ≡ get_or bs (place section) false
-    → is_some (section_in (section_of r.ask (session_at s.trades.trading r.session).level) d.component.node.program.sections) ≡ b
+    → IsTrue (is_section section) → section ≡ section_asked (ask_seen r.ask) level → level ≡ (session_at s.trades.trading r.session).level
+    → b ≡ get_or bs (section_number section) false
+    → is_some (section_in (section_asked (ask_seen r.ask) (session_at s.trades.trading r.session).level) d.component.node.program.sections) ≡ b
 has_is d bs s r section level b sections is at low reports =
-    ap (λ y. is_some (section_in y d.component.node.program.sections)) (sym (at ∙ ap (section_of r.ask) low)) ∙ (sym (sections section is) ∙ sym reports)
+    ap (λ y. is_some (section_in y d.component.node.program.sections)) (sym (at ∙ ap (section_asked (ask_seen r.ask)) low))
+    ∙ (sym (sections section is) ∙ sym reports)

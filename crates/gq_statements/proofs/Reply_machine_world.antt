@@ -4,7 +4,7 @@ use Rattle.std.specs.Prelude.{slice_get, Ok, Err}
 use Rattle.gq_model.specs.machine.World as world
 use Rattle.gq_model.specs.machine.Doing.{Doing, Quiet, Stepped, pop, standing, when}
 use Rattle.gq_model.specs.declared.fault.Wrong.TheVariants.{WrongKind}
-use Rattle.gq_model.specs.declared.program.Section.TheVariants.{Opening, Calling}
+use Rattle.gq_model.specs.declared.section.Section.TheVariants.{Opening, Calling}
 use Rattle.gq_model.specs.machine.Memory.{buffer_of}
 use Rattle.gq_model.specs.machine.Step as step
 use Rattle.gq_model.specs.machine.Step.{replied, reply, serving}

@@ -26,7 +26,7 @@ use Rattle.gq_slots.proofs.Slot_change_worlds.{session_there}
 use Rattle.gq_statements.specs.Systems.{AreLawful}
 use Rattle.gq_statements.proofs.Lawful_worlds_paid.{all_paid}
 use Rattle.gq_statements.specs.Serving.{Begins, IsBegun, begun_leaf}
-use Rattle.gq_statements.specs.internal.Beginning.{section_of}
+use Rattle.gq_model.specs.machine.Step.{section_asked}
 use Rattle.gq_statements.proofs.Closed_session_reply.{still_of}
 
 -- REQUESTS IN THE WORLD
@@ -58,7 +58,8 @@ module _ (d : Doing) (e : Frame) (s : Slots) (x : ℕ) (is : d.x ≡ x) (same : 
 
   -- THE SECTION
 
-  section_is : (system : System) (a : Ask) (q : world.Session) → section_for (ask_seen a) (accepted_as system (ask_seen a) q).level ≡ section_of a q.level
+  section_is : (system : System) (a : Ask) (q : world.Session)
+      → section_for (ask_seen a) (accepted_as system (ask_seen a) q).level ≡ section_asked (ask_seen a) q.level
   section_is system Open q = refl
   section_is system Upgrade q = refl
   section_is system Close q = refl
@@ -130,7 +131,7 @@ module _ (d : Doing) (e : Frame) (s : Slots) (x : ℕ) (is : d.x ≡ x) (same : 
         ∙ sym (ap (begun_at (record (world_seen g s) { requests = rest }) k r.ask n) session_now)
 
     abbrev body : Option Statements
-    body = section_in (section_of r.ask (session_at s.trades.trading k).level) d.component.node.program.sections
+    body = section_in (section_asked (ask_seen r.ask) (session_at s.trades.trading k).level) d.component.node.program.sections
 
     abbrev going : world.Session → Stepped
     going old =

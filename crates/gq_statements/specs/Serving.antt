@@ -1,12 +1,12 @@
 -- Requests that are taken and replied to, and leaves that end.
 use Rattle.std.specs.Prelude.{◌≡◌, ℕ, ◌<◌, ◌≤◌, ◌+◌, Bool, false, List, [], get_or, is_some, length, nat_eq, not}
-use Rattle.std.specs.Prelude.{replicate, Option, Some, None, Result, Ok, Err}
+use Rattle.std.specs.Prelude.{replicate, Option, Some, None, Result, Ok, Err, IsTrue}
 use Rattle.gq_model.specs.machine.World as world
 use Rattle.gq_model.specs.machine.Doing.{Doing, Finished, Idle, Quiet, Stepped, standing}
 use Rattle.gq_model.specs.machine.Step.{accepted_as, all_released, beginning, first_operands, oldest, section_for, serving, unblocked}
 use Rattle.gq_model.specs.machine.Program.{Done, body_of, section_in}
-use Rattle.gq_model.specs.declared.program.Section.{Section}
-use Rattle.gq_model.specs.declared.program.Section.TheVariants.{Main, Opening, Upgrading, Calling, Closing}
+use Rattle.gq_model.specs.declared.section.Section.{Section}
+use Rattle.gq_model.specs.machine.Sections.{is_section, section_number}
 use Rattle.gq_model.specs.machine.Scenario.{Component, System, interface_in, number_of}
 use Rattle.gq_model.specs.declared.phase.Phase.TheVariants.{Exited}
 use Rattle.gq_model.specs.declared.fault.Wrong.{Wrong}
@@ -48,14 +48,6 @@ pub record Closes (old new : Slots) (k : ℕ) : Type 0 where
 
 -- REQUESTS
 
--- a program's sections have levels of 0 to 3
-abbrev pub IsSection : Section → Type 0
-IsSection Main = Unit {0}
-IsSection Opening = Unit {0}
-IsSection (Upgrading level) = (1 ≤ level) × (level ≤ 3)
-IsSection (Calling level) = level ≤ 3
-IsSection (Closing level) = level ≤ 3
-
 -- The oldest request to the leaf x: it is of a session to x that is there, and for a level that there is.
 pub record IsNextRequest (s : Slots) (x : ℕ) (r : Request) : Type 0 where
   pub oldest : IsOldest x s.trades.trading.requests r
@@ -69,17 +61,10 @@ pub record KnowsService (s : Slots) (k size : ℕ) (counts : Bool) : Type 0 wher
   pub small : size ≤ 67108864
   pub counted : counts ≡ not (nat_eq s.trades.trading.ledger.price 0)
 
--- the place of a section among all
-abbrev pub place : Section → ℕ
-place Main = 0
-place Opening = 1
-place (Upgrading level) = 1 + level
-place (Calling level) = 5 + level
-place (Closing level) = 9 + level
-
 -- these report which sections the program of a component has, by their places
 abbrev pub AreSections : List Bool → Component → Type 0
-AreSections bs c = (section : Section) → IsSection section → get_or bs (place section) false ≡ is_some (section_in section c.node.program.sections)
+AreSections bs c =
+    (section : Section) → IsTrue (is_section section) → get_or bs (section_number section) false ≡ is_some (section_in section c.node.program.sections)
 
 -- the objects of the sessions to each service have as many bytes as its interface says
 abbrev pub HaveObjects : System → Frame → Slots → Type 0

@@ -6,7 +6,8 @@ ghost use Rattle.gq_slots.specs.Slots.{IsSlotId, Slots, holder};
 ghost use Rattle.gq_slots.specs.Slot_addresses.{place_seen};
 ghost use Rattle.gq_statements.specs.Slot_statements.{IsCurrent, current_seen};
 
-use gq_model::program::{OperandSlot, Section};
+use gq_model::program::OperandSlot;
+use gq_model::section::Section;
 use gq_trade::SlotId;
 
 /// The session of the current request of a leaf, and the section that it does for it.
@@ -14,6 +15,17 @@ use gq_trade::SlotId;
 pub struct Current {
     pub session: usize,
     pub section: Section,
+}
+
+/// The section that a leaf is in: `main` where it has no current request.
+#[inline(always)]
+pub fn section_of(current: Option<Current>) -> Section
+    ensures { result ≡ world.section_of (current_seen current) }
+{
+    match current {
+        None => Section::Main,
+        Some(current) => current.section,
+    }
 }
 
 /// A leaf that does a statement, with its current request: nothing in `main`.

@@ -3,7 +3,7 @@ ghost use Rattle.std.specs.Prelude.{◌≡◌, ℕ, ◌<◌, ◌∷◌, List, On
 ghost use Rattle.gq_model.specs.machine.World as world;
 ghost use Rattle.gq_model.specs.machine.Doing.{Doing, Quiet};
 ghost use Rattle.gq_model.specs.machine.Step as step;
-ghost use Rattle.gq_model.specs.declared.program.Section.TheVariants as section;
+ghost use Rattle.gq_model.specs.declared.section.Section.TheVariants as section;
 ghost use Rattle.gq_trade.specs.declared.session.SlotId.TheVariants.{InObject};
 ghost use Rattle.gq_trade.specs.Trading.{AreOfOthers};
 ghost use Rattle.gq_contents.specs.declared.content.Content.TheVariants as content;

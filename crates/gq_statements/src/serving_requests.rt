@@ -1,20 +1,23 @@
 // Requests that a serving leaf takes.
-ghost use Rattle.std.specs.Prelude.{◌≡◌, ◌<◌, ◌≤◌, ◌+◌, if◌then◌else◌, false, not, nat_eq, OnErr, OnOk, get_or};
+ghost use Rattle.std.specs.Prelude.{◌≡◌, ◌<◌, ◌≤◌, ◌+◌, if◌then◌else◌, false, not, nat_eq, OnErr, OnOk, IsTrue, get_or};
+ghost use Rattle.gq_model.specs.machine.Sections.{is_section, section_number};
 ghost use Rattle.gq_model.specs.machine.World as world;
 ghost use Rattle.gq_model.specs.machine.Doing.{Doing};
 ghost use Rattle.gq_model.specs.machine.Step as step;
+ghost use Rattle.gq_model.specs.machine.Step.{section_asked};
+ghost use Rattle.gq_trade.specs.Seen_requests.{ask_seen};
 ghost use Rattle.gq_trade.specs.declared.requests.Ask.TheVariants as asks;
 ghost use Rattle.gq_slots.specs.Slots.{Frame, memory_of, world_seen};
 ghost use Rattle.gq_slots.specs.Session_calls.{TakesOldest};
-ghost use Rattle.gq_statements.specs.Serving.{AreSections, Begins, IsNextRequest, IsSection, KnowsService, found, place, taken};
+ghost use Rattle.gq_statements.specs.Serving.{AreSections, Begins, IsNextRequest, KnowsService, found, taken};
 ghost use Rattle.gq_trade.specs.Trading.{store_of};
 ghost use Rattle.gq_trade.specs.Trades.{IsLive};
-ghost use Rattle.gq_statements.specs.internal.Beginning.{can_pay, has_some, section_of};
+ghost use Rattle.gq_statements.specs.internal.Beginning.{can_pay, has_some};
 ghost use Rattle.gq_model.specs.declared.fault.Wrong.TheVariants as wrong;
 
 use crate::paid_laws::lawful;
 use gq_model::fault::Wrong;
-use gq_model::program::Section;
+use gq_model::section::Section;
 use gq_slots::{Slots, sessions};
 use gq_tariff::round_up;
 use gq_trade::{Ask, Request, Trades};
@@ -31,10 +34,10 @@ pub struct Provider<'a> {
 impl<'a> Provider<'a> {
     // Whether the program has a section.
     fn has(&self, section: Section) -> bool
-        requires { IsSection section }
-        ensures { result ≡ get_or self.now.sections.now (place section) false }
+        requires { IsTrue (is_section section) }
+        ensures { result ≡ get_or self.now.sections.now (section_number section) false }
     {
-        self.sections[place(section)]
+        self.sections[section.number()]
     }
 
     // What is wrong where the program has no section for a request: it can't be paid for, or the section is missing.
@@ -81,27 +84,12 @@ impl<'a> Provider<'a> {
     }
 }
 
-// The place of a section in `Section::ALL`.
-fn place(section: Section) -> usize
-    requires { IsSection section }
-    ensures is { result ≡ place section }
-    ensures below { result < 13 }
-{
-    match section {
-        Section::Main => 0,
-        Section::Opening => 1,
-        Section::Upgrading(level) => 1 + usize::from(level),
-        Section::Calling(level) => 5 + usize::from(level),
-        Section::Closing(level) => 9 + usize::from(level),
-    }
-}
-
-// The section that a request to a session of a level starts.
-fn section_of(ask: Ask, level: u8) -> Section
-    requires level { level ≤ 3 }
-    requires upgrade { ask ≡ asks.Upgrade → level < 3 }
-    ensures is { result ≡ section_of ask level }
-    ensures section { IsSection result }
+/// The section that a request to a session of a level starts.
+#[inline(always)]
+pub fn section_asked(ask: Ask, level: u8) -> Section
+    requires { level ≤ 3 }
+    ensures is { result ≡ section_asked (ask_seen ask) level }
+    ensures section { (ask ≡ asks.Upgrade → level < 3) → IsTrue (is_section result) }
 {
     match ask {
         Ask::Open => Section::Opening,
@@ -134,7 +122,7 @@ pub fn accept(
     lawful(slots);
     slots.laws();
     let level = slots.trades().level(request.session);
-    let section = section_of(request.ask, level);
+    let section = section_asked(request.ask, level);
     if !provider.has(section) {
         return Err(provider.wrong_without(slots, server, request.ask));
     }

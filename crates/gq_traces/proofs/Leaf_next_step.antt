@@ -5,11 +5,11 @@ use Rattle.gq_model.specs.declared.phase.Phase.{Phase}
 use Rattle.gq_model.specs.declared.phase.Phase.TheVariants.{Running, Serving, Handling}
 use Rattle.gq_model.specs.machine.Scenario.{Component, Scenario, components}
 use Rattle.gq_model.specs.machine.Step.{oldest}
-use Rattle.gq_model.specs.machine.World.{Leaf, Request, World}
+use Rattle.gq_model.specs.machine.World.{Leaf, Request, World, section_of}
 use Rattle.gq_model.proofs.Small_facts.{none_some, some_same}
 use Rattle.gq_machine.specs.Readers.{asked_in, requested}
 use Rattle.gq_machine.specs.declared.world_reads.Asked.{Asked}
-use Rattle.gq_traces.specs.Step_positions.{Ahead, ahead, at_request, body_in, first_request, next_place, past, place, place_in, request_place, section_at}
+use Rattle.gq_traces.specs.Step_positions.{Ahead, ahead, at_request, body_in, first_request, next_place, past, place, place_in, request_place}
 use Rattle.gq_traces.specs.Step_positions.{stepped}
 use Rattle.gq_traces.specs.Trace.{Due, due_by, due_in}
 use Rattle.gq_traces.specs.declared.numbered_program.NumberedProgram.{NumberedProgram as Entries}
@@ -56,7 +56,7 @@ module _ (s : Scenario) (w : World) (x : ℕ) (less : x < length (components s))
 
     -- a leaf that takes steps of its own
     pub own_due : (d : stated.Due) → StepPrinted programs stands s w x d
-        → place_of d ≡ next_place p.component (section_at p.leaf.current) p.ahead.todo p.ahead.loops
+        → place_of d ≡ next_place p.component (section_of p.leaf.current) p.ahead.todo p.ahead.loops
     own_due d reported = reported p.component p.leaf ts p.ahead p.component_is p.leaf_is aheads p.ahead_is
 
     -- one that takes a request

@@ -11,8 +11,8 @@ use Rattle.gq_model.specs.machine.World.{Empty, Current, Leaf, Link, Request, Ro
 use Rattle.gq_model.specs.machine.Doing.{Doing, Event, Quiet, settled, standing}
 use Rattle.gq_model.specs.machine.Sums.{paid}
 use Rattle.gq_model.specs.declared.fault.Wrong.TheVariants.{WrongKind, ExceededQuota}
-use Rattle.gq_model.specs.declared.program.Section.{Section}
-use Rattle.gq_model.specs.declared.program.Section.TheVariants.{Main, Opening, Upgrading, Calling, Closing}
+use Rattle.gq_model.specs.declared.section.Section.{Section}
+use Rattle.gq_model.specs.declared.section.Section.TheVariants.{Main, Opening, Upgrading, Calling, Closing}
 use Rattle.gq_model.specs.machine.Step.{accept, accept_oldest, active_again, body_ended, oldest, next, perform, step_in, step_of, all_empty, all_released}
 use Rattle.gq_model.specs.machine.Step.{exited, instruct, is_named, main_ended, released, replied, reply, reply_close, resumed, section_ended, serving}
 use Rattle.gq_model.specs.machine.Step.{unblocked}

@@ -1,7 +1,7 @@
 -- Where all leaves stand.
 use Rattle.std.proofs.Common.{◌≡◌, ◌∙◌, ℕ, zero, suc, ◌+◌, ◌<◌, List, [], ◌∷◌, ◌++◌, length, map, get_or, take, Option, Some, None, refl, ap, sym, subst, arith}
 use Rattle.std.specs.Prelude.{IfSome, slice_get, slice_set}
-use Rattle.gq_model.specs.declared.program.Section.TheVariants.{Main}
+use Rattle.gq_model.specs.declared.section.Section.TheVariants.{Main}
 use Rattle.gq_model.specs.machine.Program.{Program, Statements}
 use Rattle.gq_model.specs.machine.Scenario.{Component}
 use Rattle.gq_model.proofs.Small_facts.{none_some, some_same}

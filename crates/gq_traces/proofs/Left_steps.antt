@@ -9,7 +9,7 @@ use Rattle.gq_model.specs.machine.Doing.{Doing, Quiet, pop, settled, standing}
 use Rattle.gq_model.specs.machine.Program.{Statements, Done, Do, If, Loop, ◌then◌, size}
 use Rattle.gq_model.specs.machine.Scenario.{Component, System}
 use Rattle.gq_model.specs.machine.Step.{accept, accept_oldest, accepted_as, active_again, all_released, body_ended, exited, instruct, main_ended}
-use Rattle.gq_model.specs.machine.Step.{chosen, oldest, perform, section_ended, section_for, serving, step_in, unblocked}
+use Rattle.gq_model.specs.machine.Step.{chosen, level_then, oldest, perform, section_ended, section_for, serving, step_in, unblocked}
 use Rattle.gq_model.specs.machine.World.{Ask, Ask_call, Ask_close, Ask_open, Ask_upgrade, Current, Leaf, Request, Round, Session, Slot, SlotId, World}
 use Rattle.gq_model.specs.machine.World.{session_at}
 use Rattle.gq_model.specs.machine.World.{with_leaf, with_slot}
@@ -17,7 +17,7 @@ use Rattle.gq_model.proofs.Small_facts.{none_some, some_same}
 use Rattle.gq_laws.proofs.step_shapes.Step_end_shapes.{Ends as Ended, fails, gives, need_found, when_ends}
 use Rattle.gq_laws.proofs.step_shapes.Step_change_shapes.{accept_by, plain_instruct_by, section_by, slot_by}
 use Rattle.gq_laws.proofs.step_shapes.Step_end_worlds.{begun, section_taken}
-use Rattle.gq_machine.specs.Readers.{level_in, level_then, requested}
+use Rattle.gq_machine.specs.Readers.{level_in, requested}
 use Rattle.gq_views.specs.Listing.{instruction_text}
 use Rattle.gq_traces.specs.Remaining_text.{left_in, left_loop, left_to, unnumbered, unnumbered_loop, without_numbers}
 use Rattle.gq_traces.specs.Step_positions.{Ahead, Chooses, Does, Ends, Entered, NumberedStatements, StepPosition, Repeats, after_round, ahead, at_request}

@@ -11,7 +11,7 @@ use Rattle.gq_model.specs.machine.Doing.{Event, Idle, Quiet, Finished, Line}
 use Rattle.gq_model.specs.machine.Run.{line_of, label_at}
 use Rattle.gq_model.specs.machine.Scenario.{Component, Scenario, System, system}
 use Rattle.gq_model.specs.machine.World.{World}
-use Rattle.gq_model.specs.texts.Fault_texts.{section_word}
+use Rattle.gq_model.specs.machine.Sections.{section_word}
 use Rattle.gq_traces.specs.Lines_of.{begins}
 use Rattle.gq_traces.specs.Step_positions.{StepPosition}
 use Rattle.gq_traces.specs.Trace.{Standing, PrintedSession, account_change, account_changes, amount_text, changes, head_line, leaf_label, parties_text}

@@ -3,12 +3,12 @@ use Rattle.std.proofs.Common.{◌≡◌, ◌∙◌, ◌<◌, ℕ, true, true≢f
 use Rattle.std.specs.Prelude.{slice_get, slice_set}
 use Rattle.gq_model.specs.declared.phase.Phase.{Phase}
 use Rattle.gq_model.specs.declared.phase.Phase.TheVariants.{Pending, Running, Blocked, Serving, Handling, Exited}
-use Rattle.gq_model.specs.declared.program.Section.{Section}
+use Rattle.gq_model.specs.declared.section.Section.{Section}
 use Rattle.gq_model.specs.machine.Scenario.{Scenario, components}
-use Rattle.gq_model.specs.machine.World.{Leaf}
+use Rattle.gq_model.specs.machine.World.{Leaf, section_of}
 use Rattle.gq_model.proofs.Small_facts.{some_same}
 use Rattle.gq_world.specs.World_between_turns.{World}
-use Rattle.gq_traces.specs.Step_positions.{Ahead, next_place, past, place_in, section_at, stepped}
+use Rattle.gq_traces.specs.Step_positions.{Ahead, next_place, past, place_in, stepped}
 use Rattle.gq_traces.specs.Trace.{Due, due_by}
 use Rattle.gq_traces.specs.declared.noted.Use.{Use}
 use Rattle.gq_traces.specs.declared.numbered_program.NumberedProgram.{NumberedProgram as Entries}
@@ -49,7 +49,7 @@ module _ (w : World) (x : ℕ) (u : Use) (is : IsUse w.scenario w.world x u) (ow
     abbrev own_step : Due
     own_step = record {
       component = p.component;
-      place = next_place p.component (section_at p.leaf.current) p.ahead.todo p.ahead.loops;
+      place = next_place p.component (section_of p.leaf.current) p.ahead.todo p.ahead.loops;
       ahead = past p.leaf.operands p.ahead.todo p.ahead.loops;
     }
 
@@ -77,7 +77,7 @@ module _ (w : World) (x : ℕ) (u : Use) (is : IsUse w.scenario w.world x u) (ow
 
   -- it is reported, by its section
   pub own_due : (due : stated.Due) (section : Section) → PlacePrinted programs stands x section due
-      → ((l : Leaf) → slice_get w.world.leaves x ≡ Some l → section ≡ section_at l.current)
+      → ((l : Leaf) → slice_get w.world.leaves x ≡ Some l → section ≡ section_of l.current)
       → PrintsDue programs stands w.scenario w.world x (Some due)
   own_due due section reported at ts aheads =
       let q = p ts aheads in

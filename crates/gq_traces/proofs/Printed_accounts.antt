@@ -3,7 +3,7 @@ use Rattle.std.proofs.Common.{◌≡◌, ◌∙◌, ℕ, zero, suc, true, false,
 use Rattle.std.specs.Prelude.{if◌then◌else◌, slice_get}
 use Rattle.gq_model.specs.machine.Accounts.{Account, account_line}
 use Rattle.gq_model.proofs.Small_facts.{none_some, some_same}
-use Rattle.gq_init.specs.Account_values.{AccountValues, reported_of}
+use Rattle.gq_output.specs.Account_values.{AccountValues, reported_of}
 use Rattle.gq_traces.specs.Trace.{account_change, same_standing, standing_of}
 use Rattle.gq_traces.specs.internal.Noted.{standing_in}
 

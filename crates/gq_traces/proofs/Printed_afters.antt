@@ -5,7 +5,7 @@ use Rattle.gq_model.specs.machine.Scenario.{Component, Scenario, components, sys
 use Rattle.gq_resolve.specs.NodeTables.{LeafRow, leaf_rows}
 use Rattle.gq_resolve.proofs.Node_table_rows.{row_at}
 use Rattle.gq_prepared.proofs.Planned_nodes.{after_within, reported}
-use Rattle.gq_init.specs.declared.counted.Counted.{Counted}
+use Rattle.gq_output.specs.declared.counted.Counted.{Counted}
 use Rattle.gq_traces.specs.Account_state.{after_text, before, component_at}
 use Rattle.gq_traces.specs.internal.Printed_steps.{Goes}
 

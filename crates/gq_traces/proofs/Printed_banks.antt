@@ -7,7 +7,7 @@ use Rattle.gq_model.specs.declared.program.OperandSlot.TheVariants.{Object, Shar
 use Rattle.gq_model.specs.machine.Scenario.{system}
 use Rattle.gq_model.specs.machine.World.{Leaf, Session, Slot, World, leaf_slot, session_at, session_object, session_slot, slot_at}
 use Rattle.gq_model.proofs.Small_facts.{none_some, some_same}
-use Rattle.gq_init.specs.declared.counted.Counted.{Counted}
+use Rattle.gq_output.specs.declared.counted.Counted.{Counted}
 use Rattle.gq_machine.specs.Machines.{Machine}
 use Rattle.gq_machine.specs.Readers.{HasSlotId}
 use Rattle.gq_trade.specs.Seen_sessions.{slot_id_seen}

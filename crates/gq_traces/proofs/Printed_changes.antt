@@ -5,8 +5,8 @@ use Rattle.std.specs.Prelude.{if◌then◌else◌, slice_get}
 use Rattle.gq_model.specs.machine.Accounts.{Account}
 use Rattle.gq_model.specs.machine.Scenario.{Scenario, system}
 use Rattle.gq_model.specs.machine.World as model
-use Rattle.gq_init.specs.Account_values.{AccountValues}
-use Rattle.gq_init.specs.declared.counted.Counted.{Counted}
+use Rattle.gq_output.specs.Account_values.{AccountValues}
+use Rattle.gq_output.specs.declared.counted.Counted.{Counted}
 use Rattle.gq_world.specs.Account_lines.{all_accounts}
 use Rattle.gq_world.specs.World_between_turns.{World}
 use Rattle.gq_traces.specs.Trace.{Standing, account_change, account_changes, same_printed, session_change, session_changes, session_line, printed_session}

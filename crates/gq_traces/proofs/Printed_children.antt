@@ -5,7 +5,7 @@ use Rattle.std.specs.Prelude.{option_map, slice_get}
 use Rattle.gq_model.specs.machine.Amounts.{Amount}
 use Rattle.gq_model.specs.machine.Scenario.{Component, Scenario, components, system}
 use Rattle.gq_model.specs.machine.World.{Leaf, Slot}
-use Rattle.gq_init.specs.declared.counted.Counted.{Counted}
+use Rattle.gq_output.specs.declared.counted.Counted.{Counted}
 use Rattle.gq_machine.specs.Machines.{Machine}
 use Rattle.gq_resolve.specs.NodeTables.{IsNodeOf, NodeRow, node_rows}
 use Rattle.gq_views.specs.Listing.{indent}

@@ -6,9 +6,9 @@ use Rattle.gq_model.specs.declared.phase.Phase.{Phase}
 use Rattle.gq_model.specs.machine.Scenario.{Component, Scenario, components, system}
 use Rattle.gq_model.specs.machine.World as model
 use Rattle.gq_model.specs.machine.World.{Leaf}
-use Rattle.gq_model.specs.texts.Fault_texts.{section_word}
-use Rattle.gq_init.specs.Writer_failures.{Writes}
-use Rattle.gq_init.specs.declared.counted.Counted.{Counted}
+use Rattle.gq_model.specs.machine.Sections.{section_word}
+use Rattle.gq_output.specs.Writer_failures.{Writes}
+use Rattle.gq_output.specs.declared.counted.Counted.{Counted}
 use Rattle.gq_machine.specs.Machines.{Machine}
 use Rattle.gq_resolve.specs.NodeTables.{NodeRow, node_rows}
 use Rattle.gq_views.specs.Listing.{line}

@@ -5,7 +5,7 @@ use Rattle.std.specs.Prelude.{slice_get}
 use Rattle.gq_model.specs.machine.Accounts.{Account, account_line, accounts}
 use Rattle.gq_model.specs.machine.World as model
 use Rattle.gq_model.specs.rules.Accept.{budgets, step_budgets}
-use Rattle.gq_init.specs.declared.counted.Counted.{Counted}
+use Rattle.gq_output.specs.declared.counted.Counted.{Counted}
 use Rattle.gq_machine.specs.Machines.{Machine}
 use Rattle.gq_resolve.specs.NodeTables.{NodeRow, node_rows}
 use Rattle.gq_world.specs.Account_lines.{accounts_by, all_accounts}

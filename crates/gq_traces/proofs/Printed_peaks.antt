@@ -3,7 +3,7 @@ use Rattle.std.proofs.Common.{◌≡◌, ◌∙◌, ◌<◌, ◌≤◌, ◌+◌,
 use Rattle.std.proofs.Common.{Option, Some, append_assoc, get_or, refl, ap, sym, subst, arith}
 use Rattle.std.specs.Prelude.{slice_get, true}
 use Rattle.std.proofs.lemmas.Bool.{cases_Bool}
-use Rattle.gq_init.specs.declared.counted.Counted.{Counted}
+use Rattle.gq_output.specs.declared.counted.Counted.{Counted}
 use Rattle.gq_model.proofs.Small_facts.{some_same}
 use Rattle.gq_model.specs.machine.Accounts.{entry}
 use Rattle.gq_model.specs.machine.Run.{Ran, Acts, label_at, run}

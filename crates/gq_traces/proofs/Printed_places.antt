@@ -4,14 +4,14 @@ use Rattle.std.specs.Prelude.{nat_lt, decimal, codes, slice_get, slice_set}
 use Rattle.gq_model.specs.declared.phase.Phase.{Phase}
 use Rattle.gq_model.specs.declared.phase.Phase.TheVariants.{Pending, Running, Blocked, Serving, Handling, Exited}
 use Rattle.gq_model.specs.declared.program.Instruction.{Instruction}
-use Rattle.gq_model.specs.declared.program.Section.{Section}
-use Rattle.gq_model.specs.declared.program.Section.TheVariants.{Main, Opening, Upgrading, Calling, Closing}
+use Rattle.gq_model.specs.declared.section.Section.{Section}
+use Rattle.gq_model.specs.declared.section.Section.TheVariants.{Main, Opening, Upgrading, Calling, Closing}
 use Rattle.gq_model.specs.machine.Lists.{all_of}
-use Rattle.gq_model.specs.machine.Program.{Statements, Done, Do, If, Loop, body_of, same_section, section_in, size}
+use Rattle.gq_model.specs.machine.Program.{Statements, Done, Do, If, Loop, body_of, section_in, size}
+use Rattle.gq_model.specs.machine.Sections.{same_section, section_word}
 use Rattle.gq_model.specs.machine.Scenario.{Component}
 use Rattle.gq_model.specs.machine.Step.{oldest}
-use Rattle.gq_model.specs.machine.World.{Leaf, Request, World}
-use Rattle.gq_model.specs.texts.Fault_texts.{section_word}
+use Rattle.gq_model.specs.machine.World.{Leaf, Request, World, section_of}
 use Rattle.gq_model.specs.texts.Operands.{in_range, operands}
 use Rattle.gq_laws.specs.Shapes.{Each}
 use Rattle.gq_laws.specs.internal.Remaining_instructions.{AllAre}
@@ -19,7 +19,7 @@ use Rattle.gq_machine.specs.Readers.{requested}
 use Rattle.gq_views.specs.Listing.{loop_text}
 use Rattle.gq_traces.specs.Step_positions.{Ahead, Entered, NumberedStatements, Ends, Does, Chooses, Repeats, StepPosition, after_body, after_round, ahead}
 use Rattle.gq_traces.specs.Step_positions.{at_request, body_in, chosen}
-use Rattle.gq_traces.specs.Step_positions.{end_place, first_request, next_place, numbered, past, place_in, request_place, section_at, start_aheads, stepped}
+use Rattle.gq_traces.specs.Step_positions.{end_place, first_request, next_place, numbered, past, place_in, request_place, start_aheads, stepped}
 use Rattle.gq_traces.proofs.Printed_instructions.{instruction_printed}
 use Rattle.gq_traces.proofs.Printed_numbers.{IsPrinted, both, number_printed}
 
@@ -141,8 +141,8 @@ request_printed w None = tt
 request_printed w (Some r) = refl
 
 pub place_printed : (w : World) (x : ℕ) (c : Component) (leaf : Leaf) (a : Ahead) (phase : Phase) → AreAhead a → IsPlace (place_in w x c leaf a phase)
-place_printed w x c leaf a Running h = next_printed c (section_at leaf.current) a.todo a.loops h.todo
-place_printed w x c leaf a Handling h = next_printed c (section_at leaf.current) a.todo a.loops h.todo
+place_printed w x c leaf a Running h = next_printed c (section_of leaf.current) a.todo a.loops h.todo
+place_printed w x c leaf a Handling h = next_printed c (section_of leaf.current) a.todo a.loops h.todo
 place_printed w x c leaf a Serving h = request_printed w (first_request (oldest w x w.requests))
 place_printed w x c leaf a Pending h = tt
 place_printed w x c leaf a Blocked h = tt

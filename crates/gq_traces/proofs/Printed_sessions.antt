@@ -4,7 +4,7 @@ use Rattle.std.proofs.Common.{◌==◌, true, IfSome, codes, cond, eq-eqb}
 use Rattle.std.specs.Prelude.{slice_get}
 use Rattle.gq_model.specs.machine.Scenario.{Scenario, system}
 use Rattle.gq_model.specs.machine.World.{Session, joined, session_at}
-use Rattle.gq_init.specs.declared.counted.Counted.{Counted}
+use Rattle.gq_output.specs.declared.counted.Counted.{Counted}
 use Rattle.gq_machine.specs.Machines.{Machine}
 use Rattle.gq_machine.specs.Readers.{IsReportedOf}
 use Rattle.gq_machine.specs.declared.world_reads.SessionState.{SessionState}

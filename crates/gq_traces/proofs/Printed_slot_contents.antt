@@ -5,7 +5,7 @@ use Rattle.std.specs.Prelude.{slice_get, slice_index}
 use Rattle.gq_tariff.specs.Prices.{classes}
 use Rattle.gq_model.specs.machine.World.{Leaf}
 use Rattle.gq_model.proofs.Small_facts.{none_some, some_same}
-use Rattle.gq_init.specs.declared.counted.Counted.{Counted}
+use Rattle.gq_output.specs.declared.counted.Counted.{Counted}
 use Rattle.gq_machine.specs.Machines.{Machine}
 use Rattle.gq_traces.specs.Account_state.{items_text, place_items, places_items}
 use Rattle.gq_traces.specs.internal.Slot_items.{Prints_items}

@@ -3,13 +3,14 @@ use Rattle.std.proofs.Common.{◌≡◌, ◌∙◌, ◌==◌, true, Option, Some
 use Rattle.std.proofs.lemmas.Bool.{and_parts, eqb-true, false≢true}
 use Rattle.gq_model.specs.declared.phase.Phase.{Phase}
 use Rattle.gq_model.specs.declared.phase.Phase.TheVariants.{Pending, Running, Blocked, Serving, Handling, Exited}
-use Rattle.gq_model.specs.declared.program.Section.{Section}
-use Rattle.gq_model.specs.declared.program.Section.TheVariants.{Main, Opening, Upgrading, Calling, Closing}
+use Rattle.gq_model.specs.declared.section.Section.{Section}
+use Rattle.gq_model.specs.declared.section.Section.TheVariants.{Main, Opening, Upgrading, Calling, Closing}
 use Rattle.gq_model.specs.machine.Accounts.{Account}
 use Rattle.gq_model.specs.machine.Amounts.{Amount, same_amount}
-use Rattle.gq_model.specs.machine.Program.{same_section, text_eq}
+use Rattle.gq_model.specs.machine.Program.{text_eq}
+use Rattle.gq_model.specs.machine.Sections.{same_section}
 use Rattle.gq_model.proofs.Small_facts.{text_is}
-use Rattle.gq_init.specs.Account_values.{AccountValues, reported_of}
+use Rattle.gq_output.specs.Account_values.{AccountValues, reported_of}
 use Rattle.gq_traces.specs.Trace.{Standing, PrintedSession, Using, same_phase, same_requested, same_standing, same_printed, same_using, standing_of}
 use Rattle.gq_traces.specs.declared.session_lines.Requested.{Requested}
 use Rattle.gq_traces.specs.declared.session_lines.Requested.TheVariants.{Nothing, Waits, AtHand}

@@ -10,8 +10,8 @@ use Rattle.rand_pcg.specs.Pcg.{pcg32}
 use Rattle.gq_model.specs.machine.Scenario.{Component, System}
 use Rattle.gq_model.specs.machine.World.{World}
 use Rattle.gq_laws.specs.Turn_effects.{can_run}
-use Rattle.gq_init.specs.Writes.{IsPrefix}
-use Rattle.gq_init.proofs.Written_byte_facts.{appends_nothing}
+use Rattle.gq_output.specs.Writes.{IsPrefix}
+use Rattle.gq_output.proofs.Written_byte_facts.{appends_nothing}
 use Rattle.gq_traces.specs.Schedule.{Taken, able, choice, choices, drawn, no_turns, reported_turns, where_some, while_can}
 use Rattle.gq_traces.specs.internal.Takes.{turns_text}
 use Rattle.gq_traces.proofs.Turn_text_parts.{drop_all, drop_at, prefix_joined, written_both}

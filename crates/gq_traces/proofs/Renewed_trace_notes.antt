@@ -10,7 +10,7 @@ use Rattle.gq_model.specs.machine.Scenario.{Scenario}
 use Rattle.gq_model.specs.machine.World as model
 use Rattle.gq_model.proofs.Small_facts.{none_some}
 use Rattle.gq_laws.proofs.session_links.Written_world_links.{set_else}
-use Rattle.gq_init.specs.Account_values.{AccountValues}
+use Rattle.gq_output.specs.Account_values.{AccountValues}
 use Rattle.gq_world.specs.Account_lines.{accounts_by, all_accounts}
 use Rattle.gq_world.specs.World_between_turns.{World}
 use Rattle.gq_traces.specs.Trace.{standing_of, reported_in, printed_session}

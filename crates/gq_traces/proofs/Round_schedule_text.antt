@@ -6,8 +6,8 @@ use Rattle.std.specs.Io.KnownBytes.{Appends}
 use Rattle.gq_model.specs.machine.Scenario.{Component, System}
 use Rattle.gq_model.specs.machine.World.{World}
 use Rattle.gq_laws.specs.Turn_effects.{can_run}
-use Rattle.gq_init.specs.Writes.{IsPrefix}
-use Rattle.gq_init.proofs.Written_byte_facts.{appends_nothing}
+use Rattle.gq_output.specs.Writes.{IsPrefix}
+use Rattle.gq_output.proofs.Written_byte_facts.{appends_nothing}
 use Rattle.gq_traces.specs.Schedule.{Taken, and_further, round, rounds, some_can, reported_turns, while_can}
 use Rattle.gq_traces.specs.internal.Takes.{turns_text}
 use Rattle.gq_traces.proofs.Turn_text_parts.{drop_all, drop_at, prefix_joined, written_both}

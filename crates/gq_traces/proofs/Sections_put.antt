@@ -5,10 +5,11 @@ use Rattle.std.specs.Prelude.{sum_by, nat_le, nat_lt, ◌==◌}
 use Rattle.std.proofs.lemmas.Bool.{and_parts, leb-true}
 use Rattle.std.proofs.lemmas.Bool.Decides.{nat_tests}
 use Rattle.std.proofs.lemmas.List.Sums.{sum_by-cons}
-use Rattle.gq_model.specs.declared.program.Section.{Section}
+use Rattle.gq_model.specs.declared.section.Section.{Section}
 use Rattle.gq_model.specs.machine.Lists.{all_of, between}
-use Rattle.gq_model.specs.machine.Program.{Program, Statements, Done, Do, If, Loop, same_section, section_in, body_of, size}
-use Rattle.gq_model.specs.texts.Code.{IsProgram, are_sections, greatest_statements, is_body, is_section, section_number}
+use Rattle.gq_model.specs.machine.Program.{Program, Statements, Done, Do, If, Loop, section_in, body_of, size}
+use Rattle.gq_model.specs.machine.Sections.{same_section, is_section, section_number}
+use Rattle.gq_model.specs.texts.Code.{IsProgram, are_sections, greatest_statements, is_body}
 use Rattle.gq_model.specs.texts.Operands.{greatest_number, in_range, operands}
 use Rattle.gq_traces.specs.Step_positions.{Ends, NumberedStatements, numbered}
 use Rattle.gq_traces.specs.declared.numbered_program.NumberedProgram.{NumberedProgram as Entries}

@@ -1,9 +1,9 @@
 -- Texts that are written one after the other, up to the first write that fails.
 use Rattle.std.proofs.Common.{◌≡◌, ◌∙◌, ℕ, Bool, true, false, List, [], ◌∷◌, ◌++◌, Option, refl, ap, sym, subst, append_assoc, append-nil, true≢false}
-use Rattle.gq_init.specs.Writer_failures.{failures_of, written_to}
-use Rattle.gq_init.specs.Writes.{IsPrefix, IsRaised}
-use Rattle.gq_init.specs.declared.counted.Counted.{Counted}
-use Rattle.gq_init.proofs.Written_byte_facts.{appends_both, appends_nothing}
+use Rattle.gq_output.specs.Writer_failures.{failures_of, written_to}
+use Rattle.gq_output.specs.Writes.{IsPrefix, IsRaised}
+use Rattle.gq_output.specs.declared.counted.Counted.{Counted}
+use Rattle.gq_output.proofs.Written_byte_facts.{appends_both, appends_nothing}
 use Rattle.gq_world.proofs.Line_text_prefixes.{prefix_after}
 use Rattle.gq_traces.specs.declared.step_output.Progress.{Progress}
 use Rattle.gq_traces.specs.internal.Printed_steps.{Goes, Reports, has_begun, more_printed}

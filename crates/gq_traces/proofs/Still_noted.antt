@@ -16,7 +16,7 @@ use Rattle.gq_model.specs.machine.World as model
 use Rattle.gq_laws.specs.Stands.{Stands}
 use Rattle.gq_scenario.specs.Sizes.{leaf_places}
 use Rattle.gq_scenario.proofs.Preorder_leaves.{components-count}
-use Rattle.gq_init.specs.Account_values.{AccountValues}
+use Rattle.gq_output.specs.Account_values.{AccountValues}
 use Rattle.gq_machine.specs.Machines.{Machine}
 use Rattle.gq_world.specs.Account_lines.{accounts_by, all_accounts}
 use Rattle.gq_world.specs.World_between_turns.{World}

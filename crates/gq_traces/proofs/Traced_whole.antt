@@ -2,9 +2,9 @@
 use Rattle.std.proofs.Common.{◌≡◌, ◌∙◌, ◌+◌, ℕ, Bool, true, false, List, [], ◌++◌, arith, Option, Result, Ok, Err, codes, decimal, refl, ap, sym, subst}
 use Rattle.std.proofs.Common.{append_assoc, append-nil}
 use Rattle.std.specs.Io.KnownBytes.{Appends}
-use Rattle.gq_init.specs.Writer_failures.{Writes, written_to}
-use Rattle.gq_init.specs.declared.counted.Counted.{Counted}
-use Rattle.gq_init.proofs.Written_byte_facts.{appends_both, appends_nothing}
+use Rattle.gq_output.specs.Writer_failures.{Writes, written_to}
+use Rattle.gq_output.specs.declared.counted.Counted.{Counted}
+use Rattle.gq_output.proofs.Written_byte_facts.{appends_both, appends_nothing}
 use Rattle.gq_model.specs.machine.Accounts.{account_lines, accounts}
 use Rattle.gq_model.specs.machine.Run.{Acts}
 use Rattle.gq_model.specs.machine.Scenario.{Scenario, system}

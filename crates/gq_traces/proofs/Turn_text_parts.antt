@@ -2,8 +2,8 @@
 use Rattle.std.proofs.Common.{◌≡◌, ◌∙◌, ℕ, zero, suc, ◌<◌, List, [], ◌∷◌, ◌++◌, length, drop, Option, refl, ap, sym, subst, arith, append_assoc}
 use Rattle.std.specs.Io.KnownBytes.{Appends}
 use Rattle.gq_model.specs.machine.Scenario.{Component}
-use Rattle.gq_init.specs.Writes.{IsPrefix}
-use Rattle.gq_init.proofs.Written_byte_facts.{appends_both}
+use Rattle.gq_output.specs.Writes.{IsPrefix}
+use Rattle.gq_output.proofs.Written_byte_facts.{appends_both}
 use Rattle.gq_world.proofs.Line_text_prefixes.{prefix_after}
 use Rattle.gq_traces.specs.Schedule.{turn_line}
 use Rattle.gq_traces.specs.internal.Takes.{turns_text}

@@ -1,6 +1,6 @@
 -- Turns that are reported one after the other.
 use Rattle.std.proofs.Common.{◌≡◌, ◌∙◌, ◌+◌, ℕ, Bool, true, List, [], ◌∷◌, ◌++◌, refl, sym, subst, arith, Option}
-use Rattle.gq_init.specs.declared.counted.Counted.{Counted}
+use Rattle.gq_output.specs.declared.counted.Counted.{Counted}
 use Rattle.gq_world.specs.World_between_turns.{World}
 use Rattle.gq_model.specs.declared.act.Act.{Act}
 use Rattle.gq_model.specs.machine.Run.{Acts}

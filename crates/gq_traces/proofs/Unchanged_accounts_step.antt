@@ -11,18 +11,18 @@ use Rattle.gq_model.specs.machine.Accounts.{node_accounts}
 use Rattle.gq_model.specs.machine.Amounts.{Resource, Ram, Caps, Amount, part, same_amount, counts_caps}
 use Rattle.gq_model.specs.declared.phase.Phase.{Phase}
 use Rattle.gq_model.specs.declared.phase.Phase.TheVariants.{Pending, Running, Blocked, Serving, Handling, Exited}
-use Rattle.gq_model.specs.declared.program.Section.{Section}
-use Rattle.gq_model.specs.declared.program.Section.TheVariants.{Main, Opening, Upgrading, Calling, Closing}
+use Rattle.gq_model.specs.declared.section.Section.{Section}
+use Rattle.gq_model.specs.declared.section.Section.TheVariants.{Main, Opening, Upgrading, Calling, Closing}
 use Rattle.gq_model.specs.machine.Resource_prices.{heap}
-use Rattle.gq_model.specs.machine.Program.{same_section}
+use Rattle.gq_model.specs.machine.Sections.{same_section}
 use Rattle.gq_model.specs.machine.Scenario.{Component, Nodes, End, Leaf_node, Init_node, Scenario, System, below, components, system}
-use Rattle.gq_model.specs.machine.Step.{section_for}
+use Rattle.gq_model.specs.machine.Step.{section_asked}
 use Rattle.gq_model.specs.machine.Sums.{bank_price, donated, from_leaf, handed, held, lent, quota, received, slot_price, to_leaf}
 use Rattle.gq_model.specs.machine.World.{Current, Leaf, Request, Session, World, joined, session_at}
 use Rattle.gq_model.proofs.Small_facts.{equal_self, text_self}
 use Rattle.gq_laws.specs.Session_links.{Stance, stance_in}
 use Rattle.gq_laws.proofs.quota_payment.Init_quanta_bounded.{spent_same}
-use Rattle.gq_machine.specs.Readers.{level_in, level_then, request_of, requested}
+use Rattle.gq_machine.specs.Readers.{level_in, request_of, requested}
 use Rattle.gq_traces.specs.Trace.{Standing, PrintedSession, Using, account_changes, at_hand, at_server, request_in, same_phase}
 use Rattle.gq_traces.specs.Trace.{same_requested, same_standing, same_printed, same_using, session_change, session_changes, session_line, standing_of}
 use Rattle.gq_traces.specs.Trace.{reported_in}
@@ -218,7 +218,7 @@ module _ (w : World) (x : ℕ) (new : World) (h : LeavesAll w x new) where
 
   requested_same : (r : Request) → requested new r ≡ requested w r
   requested_same r =
-      ap (λ n. section_for r.ask (level_then r.ask n)) (level_same (session_at w r.session) (session_at new r.session) (h.sessions r.session))
+      ap (section_asked r.ask) (level_same (session_at w r.session) (session_at new r.session) (h.sessions r.session))
 
   current_of : Option Stance → Option Current
   current_of None = None

@@ -5,8 +5,8 @@ use Rattle.std.proofs.Common.{append-nil, append_assoc}
 use Rattle.gq_model.specs.machine.Scenario.{Component, Scenario, components, system}
 use Rattle.gq_model.specs.machine.World.{World, start}
 use Rattle.gq_model.specs.texts.Turns.{greatest_turns}
-use Rattle.gq_init.specs.Writes.{IsPrefix}
-use Rattle.gq_init.proofs.Written_byte_facts.{appends_both, appends_nothing}
+use Rattle.gq_output.specs.Writes.{IsPrefix}
+use Rattle.gq_output.proofs.Written_byte_facts.{appends_both, appends_nothing}
 use Rattle.gq_world.proofs.Line_text_prefixes.{prefix_after}
 use Rattle.gq_views.specs.Listing.{joined}
 use Rattle.rand_core.specs.Pcg32Seed.{pcg32_seed}

@@ -17,7 +17,7 @@ use Rattle.gq_model.specs.machine.Scenario.{Component, Scenario, System, compone
 use Rattle.gq_model.specs.machine.Sums.{slot_price}
 use Rattle.gq_model.specs.machine.World.{Slot, Empty, Bytes, Pool, Link, Waiting, Leaf, Session, World, session_at}
 use Rattle.gq_model.specs.rules.Accept.{budgets, step_budgets}
-use Rattle.gq_model.specs.texts.Fault_texts.{section_word}
+use Rattle.gq_model.specs.machine.Sections.{section_word}
 use Rattle.gq_machine.specs.Readers.{request_of}
 use Rattle.gq_resolve.specs.NodeTables.{NodeRow, node_rows, number_named}
 use Rattle.gq_views.specs.Listing.{line, place_text}

@@ -1,12 +1,12 @@
 -- Where a leaf stands in the text of its program: its section and the number of its next statement.
 use Rattle.std.specs.Prelude.{ℕ, zero, suc, ◌+◌, nat_lt, Bool, true, false, List, [], ◌∷◌, ◌++◌, Option, Some, None, codes}
-use Rattle.gq_model.specs.declared.program.Section.{Section}
-use Rattle.gq_model.specs.declared.program.Section.TheVariants.{Main}
+use Rattle.gq_model.specs.declared.section.Section.{Section}
+use Rattle.gq_model.specs.declared.section.Section.TheVariants.{Main}
 use Rattle.gq_model.specs.declared.phase.Phase.{Phase}
 use Rattle.gq_model.specs.declared.phase.Phase.TheVariants.{Pending, Running, Blocked, Serving, Handling, Exited}
 use Rattle.gq_model.specs.machine.Program.{Statements, Done, Do, If, Loop, size, section_in, body_of}
 use Rattle.gq_model.specs.machine.Scenario.{Component}
-use Rattle.gq_model.specs.machine.World.{Request, Current, Leaf, World}
+use Rattle.gq_model.specs.machine.World.{Request, Leaf, World, section_of}
 use Rattle.gq_model.specs.machine.Step.{oldest}
 use Rattle.gq_machine.specs.Readers.{requested}
 use Rattle.gq_views.specs.Listing.{instruction_text, loop_text}
@@ -109,10 +109,6 @@ pub record StepPosition : Type 0 where
 abbrev pub place : Section → ℕ → List ℕ → StepPosition
 place section k statement = record { section = section; number = k; statement = statement }
 
-abbrev pub section_at : Option Current → Section
-section_at None = Main
-section_at (Some current) = current.section
-
 -- at the end of a body of a loop the loop itself is next
 abbrev pub end_place : Component → Section → List Entered → StepPosition
 end_place c section [] = place section (suc (size (body_in c section))) []
@@ -130,8 +126,8 @@ request_place w (Some r) = Some (place (requested w r) 0 [])
 
 -- the place of the next step of the x-th leaf, if it can take one
 abbrev pub place_in : World → ℕ → Component → Leaf → Ahead → Phase → Option StepPosition
-place_in w x c leaf a Running = Some (next_place c (section_at leaf.current) a.todo a.loops)
-place_in w x c leaf a Handling = Some (next_place c (section_at leaf.current) a.todo a.loops)
+place_in w x c leaf a Running = Some (next_place c (section_of leaf.current) a.todo a.loops)
+place_in w x c leaf a Handling = Some (next_place c (section_of leaf.current) a.todo a.loops)
 place_in w x c leaf a Serving = request_place w (first_request (oldest w x w.requests))
 place_in w x c leaf a Pending = None
 place_in w x c leaf a Blocked = None

@@ -8,13 +8,13 @@ use Rattle.gq_model.specs.declared.phase.Phase.TheVariants.{Pending, Running, Bl
 use Rattle.gq_model.specs.machine.Accounts.{Account, LeafAccount, account_line, account_lines, accounts, entry, reported}
 use Rattle.gq_model.specs.machine.Amounts.{Amount, same_amount}
 use Rattle.gq_model.specs.machine.Doing.{Event, Stepped}
-use Rattle.gq_model.specs.machine.Program.{same_section, text_eq}
+use Rattle.gq_model.specs.machine.Program.{text_eq}
+use Rattle.gq_model.specs.machine.Sections.{same_section, section_word}
 use Rattle.gq_model.specs.machine.Run.{Acts, line_of, label_at, set_input}
 use Rattle.gq_model.specs.machine.Scenario.{Component, Scenario, System, system}
 use Rattle.gq_model.specs.machine.Step.{next}
 use Rattle.gq_model.specs.machine.World.{Current, Leaf, Request, Session, World, session_at, start}
 use Rattle.gq_model.specs.rules.Accept.{budgets, step_budgets}
-use Rattle.gq_model.specs.texts.Fault_texts.{section_word}
 use Rattle.gq_machine.specs.Readers.{request_of, requested}
 use Rattle.gq_traces.specs.Step_positions.{Ahead, StepPosition, place_in, start_aheads, stepped}
 use Rattle.gq_traces.specs.declared.session_lines.Requested.{Requested}

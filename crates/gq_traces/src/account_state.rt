@@ -4,7 +4,7 @@ ghost use Rattle.gq_model.specs.machine.Accounts.{Account, account_line};
 ghost use Rattle.gq_model.specs.machine.Scenario.{Component, components, system};
 ghost use Rattle.gq_model.specs.machine.World as model;
 ghost use Rattle.gq_model.specs.machine.World.{start};
-ghost use Rattle.gq_init.specs.Writer_failures.{Writes};
+ghost use Rattle.gq_output.specs.Writer_failures.{Writes};
 ghost use Rattle.gq_resolve.specs.NodeTables.{NodeRow, node_rows};
 ghost use Rattle.gq_world.specs.Account_lines.{all_accounts};
 ghost use Rattle.gq_reports.specs.Command_outcomes.{WritesAs};
@@ -29,12 +29,12 @@ use crate::step_lines::write_statement;
 use crate::step_output::write_on;
 use crate::tracker::{Due, next_due};
 use arrayvec::ArrayVec;
-use gq_init::account_line::account_line;
-use gq_init::counted::{Counted, WriteFault};
 use gq_init::turns::{TurnsError, read_items};
 use gq_init::{NodeTable, TurnItem};
 use gq_machine::machine::Machine;
 use gq_model::phase::Phase;
+use gq_output::account_line::account_line;
+use gq_output::counted::{Counted, WriteFault};
 use gq_reports::RunFault;
 use gq_scenario::node_numbers::NodeNo;
 use gq_scenario::scenario::LeafNo;
@@ -229,7 +229,7 @@ fn write_given<W: Write>(machine: &Machine, leaf: LeafNo, going: bool, out: &mut
         (item 1 Given c.node.quantum (inputs_behind (inputs_of c l)) ∷ []) }
 {
     let table = machine.table();
-    let count = table.scenario().leaf(leaf).inputs().len();
+    let count = table.inputs(leaf).len();
     let line = inputs_line(&machine.inputs(leaf)[..count]);
     let quantum = quantum_of(table, table.node(leaf));
     write_amount(

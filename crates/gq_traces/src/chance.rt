@@ -3,14 +3,14 @@ ghost use Rattle.std.specs.Prelude.{◌≡◌, ◌<◌, ◌≤◌, false, length
 ghost use Rattle.gq_model.specs.machine.Scenario.{components, system};
 ghost use Rattle.gq_model.specs.machine.World.{start};
 ghost use Rattle.gq_model.specs.texts.Turns.{greatest_turns};
-ghost use Rattle.gq_init.specs.Writer_failures.{Writes};
+ghost use Rattle.gq_output.specs.Writer_failures.{Writes};
 ghost use Rattle.gq_traces.specs.Schedule.{able, chosen, chosen_turns, drawn, next_choice, reported_turns};
 ghost use Rattle.gq_traces.specs.internal.Takes.{turns_text};
 
 use crate::schedule::{can_take, take_turns, write_taken};
 use arrayvec::ArrayVec;
-use gq_init::counted::{Counted, WriteFault};
 use gq_model::limits::{GREATEST_LEAVES, GREATEST_TURNS};
+use gq_output::counted::{Counted, WriteFault};
 use gq_scenario::scenario::LeafNo;
 use gq_world::world::World;
 use rand_core::SeedableRng;

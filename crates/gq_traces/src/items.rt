@@ -25,11 +25,11 @@ use crate::session_lines::{
 use crate::step_output::write_on;
 use arrayvec::ArrayVec;
 use gq_init::NodeTable;
-use gq_init::counted::Counted;
 use gq_machine::machine::Machine;
 use gq_machine::world_reads::{Holding, SessionState};
 use gq_model::limits::{OWN_SLOTS, SESSION_SLOTS};
 use gq_model::program::{Form, OperandSlot};
+use gq_output::counted::Counted;
 use gq_scenario::scenario::{LeafNo, Version};
 use gq_tariff::{
     Amount, Class, Held, price_block, price_caps, price_class, price_pool_table, price_slice,

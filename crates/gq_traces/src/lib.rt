@@ -7,7 +7,7 @@
 //! use gq_traces::step_output::Reporting;
 //! use gq_traces::trace::trace;
 //! use gq_traces::turn_schedule::turns;
-//! use gq_init::counted::Counted;
+//! use gq_output::counted::Counted;
 //!
 //! let mut out = Counted::new(writer);
 //! // The turns that leaves take in rounds, until none can take one.

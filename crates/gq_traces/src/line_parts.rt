@@ -1,11 +1,11 @@
 // Words and numbers that are put at the end of a line.
 ghost use Rattle.std.specs.Prelude.{◌≡◌, ◌≤◌, ◌+◌, ◌++◌, length, codes, decimal};
-ghost use Rattle.gq_model.specs.texts.Fault_texts.{section_word};
+ghost use Rattle.gq_model.specs.machine.Sections.{section_word};
 ghost use Rattle.gq_scenario.specs.Component_trees.{version_number};
 ghost use Rattle.gq_traces.specs.Trace.{amount_text};
 
 use arrayvec::ArrayVec;
-use gq_model::program::Section;
+use gq_model::section::Section;
 use gq_scenario::scenario::Version;
 use gq_tariff::Amount;
 use itoa::Buffer;
@@ -66,12 +66,10 @@ pub(crate) fn extend_section(line: &mut TraceLine, section: Section)
     ensures bytes { line.new.items ≡ line.old.items ++ section_word section }
     ensures long { length line.new.items ≤ length line.old.items + 26 }
 {
-    match section {
-        Section::Main => extend(line, b"main"),
-        Section::Opening => extend(line, b"open"),
-        Section::Upgrading(level) => extend_entry(line, b"up", u64::from(level)),
-        Section::Calling(level) => extend_entry(line, b"call", u64::from(level)),
-        Section::Closing(level) => extend_entry(line, b"close", u64::from(level)),
+    let kind = section.kind();
+    match kind.levels() {
+        None => extend(line, kind.word().as_bytes()),
+        Some(_) => extend_entry(line, kind.word().as_bytes(), u64::from(section.level())),
     }
 }
 

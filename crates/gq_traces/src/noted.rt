@@ -8,9 +8,10 @@ ghost use Rattle.gq_traces.specs.Trace.{same_phase, same_standing, same_using, s
 ghost use Rattle.gq_traces.specs.internal.Noted.{AreNoted, CanRenew, IsReported, IsUse, standing_in};
 
 use crate::session_lines::{PrintedSession, printed_session, same_amount};
-use gq_init::account_report::{AccountReport, LeafAccount};
 use gq_machine::machine::Machine;
+use gq_model::limits::GREATEST_SESSIONS;
 use gq_model::phase::Phase;
+use gq_output::account_report::{AccountReport, LeafAccount};
 use gq_scenario::node_numbers::NodeNo;
 use gq_scenario::scenario::LeafNo;
 use gq_tariff::Amount;
@@ -18,7 +19,7 @@ use gq_world::world::World;
 use std::alloc::{AllocError, Global};
 
 /// How many sessions there are at most, by their numbers.
-pub(crate) const ROOM: usize = 16449;
+pub(crate) const ROOM: usize = GREATEST_SESSIONS;
 
 /// What is noted of a world: the account of each node, and what is reported of each session, with room for all. No call but `new` allocates host memory.
 #[derive(Drop)]

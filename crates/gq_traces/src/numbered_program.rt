@@ -1,14 +1,14 @@
 // The statements of a program with their numbers, each with where a leaf goes on after it.
 ghost use Rattle.std.specs.Prelude.{◌≡◌, ◌<◌, ◌≤◌, ◌∷◌, [], List, IsTrue, OnOk, IfOk};
-ghost use Rattle.gq_model.specs.declared.program.Section.{Section};
+ghost use Rattle.gq_model.specs.declared.section.Section.{Section};
 ghost use Rattle.gq_model.specs.machine.Program.{Statements, body_of, section_in, size};
 ghost use Rattle.gq_model.specs.texts.Code.{is_body};
 ghost use Rattle.gq_program.specs.Statement_trees.{tree_of};
 ghost use Rattle.gq_views.specs.Listing.{instruction_text};
 ghost use Rattle.gq_traces.specs.internal.Flat.{AreParts, ArePrograms, IsPart, IsProgramOf, Puts, PutsEntry, PutsSection, programs_of};
 
-use crate::session_lines::same_section;
-use gq_model::program::{Instruction, Section};
+use gq_model::program::Instruction;
+use gq_model::section::{Section, same_section};
 use gq_program::program_tree::{Body, Program, Statement};
 use gq_resolve::NodeTable;
 use gq_views::instruction_text::push_instruction;

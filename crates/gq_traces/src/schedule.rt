@@ -4,16 +4,16 @@ ghost use Rattle.gq_model.specs.machine.Scenario.{components, system};
 ghost use Rattle.gq_model.specs.machine.World.{start};
 ghost use Rattle.gq_model.specs.texts.Turns.{greatest_turns};
 ghost use Rattle.gq_laws.specs.Turn_effects.{can_run};
-ghost use Rattle.gq_init.specs.Writer_failures.{Writes};
+ghost use Rattle.gq_output.specs.Writer_failures.{Writes};
 ghost use Rattle.gq_traces.specs.Schedule.{round, scheduled, some_can, reported_turns, turn_line, while_can};
 ghost use Rattle.gq_traces.specs.internal.Takes.{TakesTurn, turns_text};
 
 use arrayvec::ArrayVec;
 use gq_init::NodeTable;
-use gq_init::counted::{Counted, WriteFault, put};
 use gq_laws::turn_step_laws::turn_laws;
 use gq_model::limits::GREATEST_TURNS;
 use gq_model::phase::Phase;
+use gq_output::counted::{Counted, WriteFault, put};
 use gq_scenario::scenario::LeafNo;
 use gq_world::world::World;
 use itoa::Buffer;

@@ -2,7 +2,7 @@
 ghost use Rattle.std.specs.Prelude.{◌≡◌, ◌<◌, ◌≤◌, ◌+◌, ◌++◌, Some, codes, decimal, length, option_map, slice_get};
 ghost use Rattle.gq_machine.specs.Readers.{IsReportedOf, request_of};
 ghost use Rattle.gq_model.specs.machine.Run.{label_at};
-ghost use Rattle.gq_model.specs.machine.Program.{same_section};
+ghost use Rattle.gq_model.specs.machine.Sections.{same_section};
 ghost use Rattle.gq_model.specs.machine.Scenario.{components, system};
 ghost use Rattle.gq_traces.specs.Trace.{at_server, leaf_label, parties_text, request_in, requested_text, same_requested, same_printed, session_line};
 ghost use Rattle.gq_model.specs.machine.Amounts.{same_amount};
@@ -13,9 +13,9 @@ use arrayvec::ArrayVec;
 use gq_init::NodeTable;
 use gq_machine::machine::Machine;
 use gq_machine::world_reads::SessionState;
-use gq_model::program::Section;
+use gq_model::section::{Section, same_section};
+use gq_model::spelling::same_text;
 use gq_scenario::scenario::LeafNo;
-use gq_scenario::text_pieces::same_bytes;
 use gq_tariff::Amount;
 
 /// The request of a session.
@@ -229,19 +229,6 @@ fn same_requested(a: Requested, b: Requested) -> bool
     }
 }
 
-// Whether two sections are one.
-pub(crate) fn same_section(a: Section, b: Section) -> bool
-    ensures { result ≡ same_section a b }
-{
-    match (a, b) {
-        (Section::Main, Section::Main) | (Section::Opening, Section::Opening) => true,
-        (Section::Upgrading(a), Section::Upgrading(b))
-        | (Section::Calling(a), Section::Calling(b))
-        | (Section::Closing(a), Section::Closing(b)) => a == b,
-        _ => false,
-    }
-}
-
 // Whether the same is reported of two sessions that are there.
 fn same_session(table: &NodeTable, a: &PrintedSession, b: &PrintedSession) -> bool
     requires known { IsKnown table.now a.now × IsKnown table.now b.now }
@@ -249,7 +236,7 @@ fn same_session(table: &NodeTable, a: &PrintedSession, b: &PrintedSession) -> bo
 {
     a.client == b.client
         && a.server == b.server
-        && same_bytes(
+        && same_text(
             service_name(table, a.service),
             service_name(table, b.service),
         )

@@ -2,7 +2,7 @@
 ghost use Rattle.std.specs.Prelude.{◌<◌};
 ghost use Rattle.gq_traces.specs.internal.Printed_steps.{Goes};
 
-use gq_init::counted::{Counted, put};
+use gq_output::counted::{Counted, put};
 use std::io::Write;
 
 /// Which steps are reported.

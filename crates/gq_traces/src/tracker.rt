@@ -4,7 +4,8 @@ ghost use Rattle.std.specs.Prelude.{IfOk, IfNone, IfSome};
 ghost use Rattle.gq_model.specs.machine.Scenario.{Component, components};
 ghost use Rattle.gq_statements.specs.Slot_statements.{current_seen};
 ghost use Rattle.gq_traces.specs.declared.numbered_program.NumberedStatement.{NumberedStatement};
-ghost use Rattle.gq_traces.specs.Step_positions.{chosen, place, section_at, start_aheads};
+ghost use Rattle.gq_traces.specs.Step_positions.{chosen, place, start_aheads};
+ghost use Rattle.gq_model.specs.machine.World.{section_of};
 ghost use Rattle.gq_traces.specs.declared.tracker.Ahead as places;
 ghost use Rattle.gq_traces.specs.internal.Alone_positions.{IsStraight};
 ghost use Rattle.gq_traces.specs.internal.Flat.{AllStand, AreAheads, ArePrograms, Passes, Stands, another_round, plain_after, plain_ahead, programs_of};
@@ -18,9 +19,9 @@ use gq_machine::machine::Machine;
 use gq_machine::world_reads::Asked;
 use gq_model::limits::GREATEST_DEPTH;
 use gq_model::phase::Phase;
-use gq_model::program::Section;
+use gq_model::section::Section;
 use gq_scenario::scenario::LeafNo;
-use gq_statements::Current;
+use gq_statements::actor::section_of;
 use std::alloc::{AllocError, Global};
 
 /// A loop that was entered: the place of its entry, and the round in which it is, from 0.
@@ -294,16 +295,6 @@ fn statement_of(way: &Way) -> TrackedStatement<'_>
         Way::Plain(text, _) => TrackedStatement::Plain(text.as_slice()),
         Way::If(_, _) => TrackedStatement::If,
         Way::Loop(count, _, _) => TrackedStatement::Loop(*count),
-    }
-}
-
-/// The section that a leaf is in.
-pub(crate) fn section_of(current: Option<Current>) -> Section
-    ensures { result ≡ section_at (current_seen current) }
-{
-    match current {
-        None => Section::Main,
-        Some(current) => current.section,
     }
 }
 

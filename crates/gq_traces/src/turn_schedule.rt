@@ -3,7 +3,7 @@ ghost use Rattle.std.specs.Prelude.{◌≡◌, ◌≤◌, true, false, IfOk, OnO
 ghost use Rattle.gq_model.specs.machine.Scenario.{components, system};
 ghost use Rattle.gq_model.specs.machine.World.{start};
 ghost use Rattle.gq_model.specs.texts.Turns.{greatest_turns};
-ghost use Rattle.gq_init.specs.Writer_failures.{Writes, written_to};
+ghost use Rattle.gq_output.specs.Writer_failures.{Writes, written_to};
 ghost use Rattle.gq_reports.specs.Command_outcomes.{WritesAs};
 ghost use Rattle.gq_traces.specs.Rest_runs.{WritesToRest};
 ghost use Rattle.gq_traces.specs.Schedule.{cut_lines, schedule_text, scheduled_by};
@@ -15,8 +15,8 @@ use crate::chance::write_choices;
 use crate::schedule::{extend, some_can, write_rounds};
 use crate::schedule_laws::turns_laws;
 use arrayvec::ArrayVec;
-use gq_init::counted::{Counted, WriteFault, put};
 use gq_model::limits::GREATEST_TURNS;
+use gq_output::counted::{Counted, WriteFault, put};
 use gq_reports::RunFault;
 use gq_world::world::World;
 use itoa::Buffer;

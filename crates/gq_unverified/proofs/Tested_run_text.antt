@@ -13,8 +13,8 @@ use Rattle.gq_load.specs.Unverified.{unverified}
 use Rattle.gq_load.specs.Load_faults.{Refuses}
 use Rattle.gq_load.specs.declared.load_fault.LoadError.{LoadError}
 use Rattle.gq_load.specs.declared.load_fault.LoadError.TheVariants as error
-use Rattle.gq_init.specs.Writes.{IsPrefix}
-use Rattle.gq_init.proofs.Written_byte_facts.{appends_both}
+use Rattle.gq_output.specs.Writes.{IsPrefix}
+use Rattle.gq_output.proofs.Written_byte_facts.{appends_both}
 use Rattle.gq_world.specs.Account_lines.{accounts_by}
 use Rattle.gq_reports.specs.Command_outcomes.{run_fault_of}
 use Rattle.gq_reports.specs.Whole.{refused_with, turn_fault_text}

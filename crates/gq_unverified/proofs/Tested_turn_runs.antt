@@ -11,8 +11,8 @@ use Rattle.gq_model.specs.machine.Run.{Ran, Acts, after_step, turn_from, turns_o
 use Rattle.gq_model.specs.machine.Scenario.{Scenario, System, system}
 use Rattle.gq_model.specs.machine.Step.{next}
 use Rattle.gq_model.specs.machine.World.{World}
-use Rattle.gq_init.specs.Writes.{IsPrefix}
-use Rattle.gq_init.proofs.Written_byte_facts.{appends_nothing, appends_both}
+use Rattle.gq_output.specs.Writes.{IsPrefix}
+use Rattle.gq_output.proofs.Written_byte_facts.{appends_nothing, appends_both}
 use Rattle.gq_world.specs.World_between_turns.{line_reported}
 use Rattle.gq_world.specs.internal.Act_transitions.{going}
 use Rattle.gq_world.proofs.Turn_sequence_runs.{joined}

@@ -3,9 +3,9 @@ use Rattle.std.specs.Prelude.{◌≡◌, ℕ, List, Option, Result, Ok, Err, IfO
 use Rattle.std.specs.Io.KnownBytes.{Appends}
 use Rattle.gq_model.specs.declared.fault.Wrong.{Wrong}
 use Rattle.gq_load.specs.Load_faults.{load_fault_text}
-use Rattle.gq_init.specs.Writer_failures.{failures_of, written_to}
-use Rattle.gq_init.specs.Writes.{IsPrefix, IsRaised}
-use Rattle.gq_init.specs.declared.counted.Counted.{Counted}
+use Rattle.gq_output.specs.Writer_failures.{failures_of, written_to}
+use Rattle.gq_output.specs.Writes.{IsPrefix, IsRaised}
+use Rattle.gq_output.specs.declared.counted.Counted.{Counted}
 use Rattle.gq_reports.specs.Command_outcomes.{IsBefore}
 use Rattle.gq_reports.specs.Whole.{refused_with, turn_fault_text}
 use Rattle.gq_reports.specs.declared.run_fault.RunFault.{RunFault}

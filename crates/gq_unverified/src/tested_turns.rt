@@ -3,17 +3,17 @@ ghost use Rattle.std.specs.Prelude.{◌≡◌, ◌<◌, length, IfOk, IfSome, On
 ghost use Rattle.gq_model.specs.machine.Run.{act_on, turns_of, run_on};
 ghost use Rattle.gq_model.specs.machine.Scenario.{components, system};
 ghost use Rattle.gq_model.specs.texts.Turns.{turns_given};
-ghost use Rattle.gq_init.specs.Writer_failures.{written_to};
+ghost use Rattle.gq_output.specs.Writer_failures.{written_to};
 ghost use Rattle.gq_world.specs.internal.Act_transitions.{AreBelow};
 ghost use Rattle.gq_unverified.specs.internal.Taking.{CountsFailures, HasCome, HasRoom, IsCut, IsNear, turns_in};
 
 use arrayvec::ArrayVec;
-use gq_init::counted::{Counted, WriteFault};
 use gq_laws::turn_step_laws::turn_laws;
 use gq_machine::event::Event;
 use gq_machine::machine::Machine;
 use gq_model::act::Act;
 use gq_model::fault::Wrong;
+use gq_output::counted::{Counted, WriteFault};
 use gq_scenario::scenario::LeafNo;
 use gq_world::leaf_lines::write_line;
 use std::io::Write;

@@ -2,7 +2,7 @@
 use Rattle.std.proofs.Common.{◌≡◌, ◌<◌, ◌+◌, ℕ, List, [], ◌∷◌, drop, length, get_or, refl, ap, sym, subst, ◌∙◌, Ok, Err}
 use Rattle.std.proofs.Common.{◌-◌, ◌*◌, ◌^◌, min, arith, Result, OnOk}
 use Rattle.gq_model.specs.machine.Program.{Statements, Done, Do, If, Loop, size}
-use Rattle.gq_model.specs.declared.program.Section.{Section}
+use Rattle.gq_model.specs.declared.section.Section.{Section}
 use Rattle.gq_model.specs.declared.program.Instruction.{Instruction}
 use Rattle.gq_model.specs.declared.fault.Rule.{Rule}
 use Rattle.gq_model.specs.declared.fault.Rule.TheVariants.{LeftoverOperand}

@@ -1,7 +1,7 @@
 -- The sections of a program without a fault.
 use Rattle.std.proofs.Common.{◌≡◌, ap, sym, subst, Some, None}
 use Rattle.gq_model.specs.machine.Program.{Statements, section_in, body_of}
-use Rattle.gq_model.specs.declared.program.Section.{Section}
+use Rattle.gq_model.specs.declared.section.Section.{Section}
 use Rattle.gq_model.specs.rules.Kinds.{AbstractState, Context, Subject}
 use Rattle.gq_model.specs.rules.Flow.{context, start_of}
 use Rattle.gq_model.specs.rules.Verdict.{program_fault}

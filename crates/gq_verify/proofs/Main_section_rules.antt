@@ -3,7 +3,7 @@ use Rattle.std.proofs.Common.{◌≡◌, ℕ, suc, ◌+◌, Result, arith, List,
 use Rattle.std.proofs.Common.{Some, None, Ok, Err}
 use Rattle.gq_model.specs.machine.Lists.{greatest}
 use Rattle.gq_model.specs.declared.fault.Rule.{Rule}
-use Rattle.gq_model.specs.declared.program.Section.TheVariants.{Main}
+use Rattle.gq_model.specs.declared.section.Section.TheVariants.{Main}
 use Rattle.gq_model.specs.rules.Rules.{Judged}
 use Rattle.gq_model.specs.machine.Program.{Statements, size, section_in, body_of}
 use Rattle.gq_model.specs.rules.Kinds.{AbstractState, Subject, own_empty}

@@ -1,8 +1,9 @@
 -- Of requests that are not for a service nothing is reported that is asked of it.
 use Rattle.std.proofs.Common.{◌≡◌, ◌≤◌, ◌*◌, ℕ, arith, Bool, false, List, [], ◌∷◌, ◌++◌, drop, ap}
 use Rattle.std.specs.Prelude.{if◌then◌else◌, ◌&&◌, ◌||◌}
-use Rattle.gq_model.specs.machine.Program.{text_eq, same_section}
-use Rattle.gq_model.specs.declared.program.Section.{Section}
+use Rattle.gq_model.specs.machine.Program.{text_eq}
+use Rattle.gq_model.specs.machine.Sections.{same_section}
+use Rattle.gq_model.specs.declared.section.Section.{Section}
 use Rattle.gq_verify.specs.declared.asked.Asker.{Asker}
 use Rattle.gq_verify.specs.Requested.{Requested, is_asked, requests_for}
 use Rattle.gq_verify.specs.Askers.{askers_of}

@@ -2,10 +2,11 @@
 use Rattle.std.proofs.Common.{◌≡◌, ℕ, zero, suc, ◌+◌, ◌<◌, true, List, [], ◌∷◌, length, Some, refl, subst, drop}
 use Rattle.std.specs.Prelude.{get_or, slice_get}
 use Rattle.std.proofs.lemmas.Bool.{and_parts}
-use Rattle.gq_model.specs.declared.program.Section.{Section}
+use Rattle.gq_model.specs.declared.section.Section.{Section}
 use Rattle.gq_model.specs.machine.Lists.{all_of}
 use Rattle.gq_model.specs.machine.Program.{Program, Statements, section_in}
-use Rattle.gq_model.specs.texts.Code.{IsProgram, is_section}
+use Rattle.gq_model.specs.texts.Code.{IsProgram}
+use Rattle.gq_model.specs.machine.Sections.{is_section}
 use Rattle.gq_model.proofs.Section_laws.{section_found}
 use Rattle.gq_rules.proofs.Program_section_facts.{each_section}
 use Rattle.gq_verify.specs.Named_sections.{AreThere, IsThere}

@@ -3,7 +3,7 @@ use Rattle.std.proofs.Common.{◌≡◌, ◌<◌, ◌≤◌, ◌+◌, ◌-◌, �
 use Rattle.std.proofs.Common.{refl, ap, sym, ◌∙◌, add-one}
 use Rattle.std.specs.Prelude.{slice_set}
 use Rattle.gq_model.specs.machine.Program.{text_eq}
-use Rattle.gq_model.specs.declared.program.Section.{Section}
+use Rattle.gq_model.specs.declared.section.Section.{Section}
 use Rattle.gq_model.specs.rules.Budgets.{is_one}
 use Rattle.gq_model.proofs.Small_facts.{text_is}
 use Rattle.gq_program.proofs.Skipped_list_ends.{not_both}

@@ -10,13 +10,14 @@ use Rattle.gq_model.specs.declared.program.Instruction.TheVariants.{Say, Out, Op
 use Rattle.gq_model.specs.declared.program.Instruction.TheVariants.{Store, Free, Take, Give, Peek, Poke, Open, Upgrade, Call, Close}
 use Rattle.gq_model.specs.declared.program.OperandSlot.{OperandSlot}
 use Rattle.gq_model.specs.declared.program.OperandSlot.TheVariants.{Own, Shared, Object}
-use Rattle.gq_model.specs.declared.program.Section.{Section}
-use Rattle.gq_model.specs.declared.program.Section.TheVariants.{Main, Opening, Upgrading, Calling, Closing}
+use Rattle.gq_model.specs.declared.section.Section.{Section}
+use Rattle.gq_model.specs.declared.section.Section.TheVariants.{Main, Opening, Upgrading, Calling, Closing}
 use Rattle.gq_model.specs.machine.Amounts.{Resource, amount, part, plus}
 use Rattle.gq_model.specs.machine.Program.{Statements, Do, Done}
 use Rattle.gq_model.specs.machine.Scenario.{Interface, interface_in}
 use Rattle.gq_model.specs.rules.Budgets.{asks, requests}
-use Rattle.gq_model.specs.rules.Kinds.{Kind, Empty_kind, Memory, Pool_kind, Link_kind, AbstractState, Context, kind_at, with_kind, level_of, need_of}
+use Rattle.gq_model.specs.rules.Kinds.{Kind, Empty_kind, Memory, Pool_kind, Link_kind, AbstractState, Context, kind_at, with_kind, need_of}
+use Rattle.gq_model.specs.machine.Sections.{level_of}
 use Rattle.gq_model.specs.rules.Kinds.{session_cost}
 use Rattle.gq_model.specs.rules.Rules.{Judged, must, given, fill, freed, opened, upgraded, closed, judge, judged, and_then, covered, over, within_need}
 use Rattle.gq_model.specs.rules.Rules.{is_empty_kind, is_memory_kind, is_heap_kind, is_shared, is_kept, may_change, link_kind}

@@ -5,8 +5,9 @@ use Rattle.std.specs.Prelude.{if◌then◌else◌, ◌&&◌, slice_set}
 use Rattle.std.proofs.Math.ListN.{drop_of_length-le}
 use Rattle.std.proofs.lemmas.List.{drop_more}
 use Rattle.std.proofs.lemmas.Bool.{and_parts}
-use Rattle.gq_model.specs.machine.Program.{text_eq, same_section}
-use Rattle.gq_model.specs.declared.program.Section.{Section}
+use Rattle.gq_model.specs.machine.Program.{text_eq}
+use Rattle.gq_model.specs.machine.Sections.{same_section}
+use Rattle.gq_model.specs.declared.section.Section.{Section}
 use Rattle.gq_model.specs.rules.Budgets.{is_one}
 use Rattle.gq_model.proofs.Small_facts.{text_is}
 use Rattle.gq_model.proofs.Rules_laws.{same_section_is}

@@ -1,8 +1,8 @@
 -- The sections of a program, each found by its name.
 use Rattle.std.specs.Prelude.{◌≡◌, IsTrue, List, [], ◌∷◌, Some}
-use Rattle.gq_model.specs.declared.program.Section.{Section}
+use Rattle.gq_model.specs.declared.section.Section.{Section}
 use Rattle.gq_model.specs.machine.Program.{Statements, section_in}
-use Rattle.gq_model.specs.texts.Code.{is_section}
+use Rattle.gq_model.specs.machine.Sections.{is_section}
 
 -- a section is one that there may be, and is found by its name
 pub record IsThere (p : Section × Statements) (sections : List (Section × Statements)) : Type 0 where

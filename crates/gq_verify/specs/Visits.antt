@@ -1,7 +1,7 @@
 -- What a visitor is shown of a section, one after the other.
 use Rattle.std.specs.Prelude.{◌≡◌, ℕ, ◌+◌, max, List, [], ◌∷◌, ◌++◌, Option, Some, None}
 use Rattle.gq_model.specs.declared.program.Instruction.{Instruction}
-use Rattle.gq_model.specs.declared.program.Section.{Section}
+use Rattle.gq_model.specs.declared.section.Section.{Section}
 use Rattle.gq_model.specs.machine.Lists.{greatest}
 use Rattle.gq_model.specs.machine.Program.{Statements, Done, Do, If, Loop, size, section_in}
 use Rattle.gq_model.specs.rules.Flow.{at, context, flow, start_of, state_or}

@@ -9,9 +9,9 @@ ghost use Rattle.gq_verify.specs.internal.Request_sums.{Adds, Raises, IsAt};
 ghost use Rattle.gq_verify.specs.internal.Service_keys.{IsOutside};
 
 use crate::service::Service;
+use gq_model::spelling::same_text;
 use gq_program::Section;
 use gq_program::key_index::KeyIndex;
-use gq_program::spelling::same_text;
 use smallvec::SmallVec;
 use std::alloc::{AllocError, Global};
 use std::marker::Model;

@@ -1,6 +1,6 @@
 // How many requests statements make at most, of all sections of all services at once.
 ghost use Rattle.std.specs.Prelude.{◌≡◌, ◌≤◌, ◌+◌, ◌-◌, ◌*◌, ◌∷◌, [], max, IsTrue, IfOk, OnOk, List, ℕ, length};
-ghost use Rattle.gq_model.specs.declared.program.Section.{Section};
+ghost use Rattle.gq_model.specs.declared.section.Section.{Section};
 ghost use Rattle.gq_model.specs.machine.Program.{size, Done, Do, If, Loop};
 ghost use Rattle.gq_model.specs.rules.Budgets.{by_link, asks, requests};
 ghost use Rattle.gq_model.specs.rules.Kinds.{AbstractState, kind_at, inside};

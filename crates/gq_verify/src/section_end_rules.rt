@@ -1,6 +1,6 @@
 // The rules for the ends of sections.
 ghost use Rattle.std.specs.Prelude.{◌≡◌, ◌≤◌, IsTrue};
-ghost use Rattle.gq_model.specs.texts.Code.{is_section};
+ghost use Rattle.gq_model.specs.machine.Sections.{is_section};
 ghost use Rattle.gq_model.specs.rules.Flow.{has_link, bank_is_empty, main_end, opening_end, calling_end, section_end, bank_at};
 ghost use Rattle.gq_caps.specs.Known.{all_known};
 ghost use Rattle.gq_rules.specs.Judging.{after};

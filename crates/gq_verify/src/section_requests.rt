@@ -1,7 +1,7 @@
 // How many requests the sections of a program make at most.
 ghost use Rattle.std.specs.Prelude.{◌≡◌, None, IsTrue, IfOk, List, ℕ};
-ghost use Rattle.gq_model.specs.declared.program.Section.{Section};
-ghost use Rattle.gq_model.specs.texts.Code.{is_section};
+ghost use Rattle.gq_model.specs.declared.section.Section.{Section};
+ghost use Rattle.gq_model.specs.machine.Sections.{is_section};
 ghost use Rattle.gq_model.specs.rules.Verdict.{program_fault};
 ghost use Rattle.gq_model.specs.rules.Budgets.{section_requests};
 ghost use Rattle.gq_verify.specs.Saturated_numbers.{saturated};

@@ -1,7 +1,7 @@
 // The rules for sections and for programs.
 ghost use Rattle.std.specs.Prelude.{◌≡◌, ◌≤◌, option_map, option_copied, IsTrue};
 ghost use Rattle.gq_model.specs.machine.Program.{size};
-ghost use Rattle.gq_model.specs.texts.Code.{is_section};
+ghost use Rattle.gq_model.specs.machine.Sections.{is_section};
 ghost use Rattle.gq_model.specs.rules.Flow.{section_flow};
 ghost use Rattle.gq_model.specs.rules.Verdict.{is_wanted, first_unwanted, cost_fault, fault_of, first_fault, program_fault};
 ghost use Rattle.gq_verify.specs.internal.Starting.{IsStarts};

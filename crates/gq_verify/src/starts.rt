@@ -4,7 +4,7 @@ ghost use Rattle.gq_caps.specs.Measured.{AreFew};
 ghost use Rattle.gq_rules.specs.List_maxima.{Peaks};
 ghost use Rattle.gq_verify.specs.internal.Mains.{MostWhereRight};
 ghost use Rattle.gq_model.specs.machine.Program.{size};
-ghost use Rattle.gq_model.specs.texts.Code.{is_section};
+ghost use Rattle.gq_model.specs.machine.Sections.{is_section};
 ghost use Rattle.gq_model.specs.rules.Flow.{context, flow, body, first_bounds, own_after, bank_by, bank_at, start_of, points};
 ghost use Rattle.gq_caps.specs.Known.{all_known};
 ghost use Rattle.gq_rules.specs.Flowing.{flowed};

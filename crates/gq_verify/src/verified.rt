@@ -1,8 +1,8 @@
 // What is said of a program before it runs.
 ghost use Rattle.std.specs.Prelude.{◌≡◌, ℕ, List, IfOk, IfErr, IsTrue, None, Ok, Err, option_copied};
 ghost use Rattle.gq_model.specs.machine.Amounts.{Ram, Caps};
-ghost use Rattle.gq_model.specs.declared.program.Section.{Section};
-ghost use Rattle.gq_model.specs.texts.Code.{is_section};
+ghost use Rattle.gq_model.specs.declared.section.Section.{Section};
+ghost use Rattle.gq_model.specs.machine.Sections.{is_section};
 ghost use Rattle.gq_model.specs.rules.Budgets.{own, section_requests};
 ghost use Rattle.gq_model.specs.rules.Verdict.{verdict, verified, program_fault};
 ghost use Rattle.gq_verify.specs.Saturated_numbers.{saturated};

@@ -3,14 +3,14 @@ use Rattle.std.proofs.Common.{◌≡◌, ℕ, zero, suc, ◌+◌, ◌-◌, ◌<�
 use Rattle.std.specs.Prelude.{◌&&◌, nat_le, nat_lt, ◌==◌, if◌then◌else◌, decimal, codes}
 use Rattle.std.proofs.lemmas.Bool.{and_parts, eqb-true, leb-true}
 use Rattle.gq_model.specs.declared.program.Instruction.{Instruction}
-use Rattle.gq_model.specs.declared.program.Section.{Section}
-use Rattle.gq_model.specs.declared.program.Section.TheVariants.{Main, Opening, Upgrading, Calling, Closing}
+use Rattle.gq_model.specs.declared.section.Section.{Section}
+use Rattle.gq_model.specs.declared.section.Section.TheVariants.{Main, Opening, Upgrading, Calling, Closing}
 use Rattle.gq_model.specs.machine.Lists.{all_of, between}
 use Rattle.gq_model.specs.machine.Program.{Program, Statements, Done, Do, If, Loop}
 use Rattle.gq_model.specs.texts.Operands.{greatest_number, in_range, operands}
-use Rattle.gq_model.specs.texts.Code.{IsProgram, are_sections, greatest_statements, is_body, is_section, section_number}
+use Rattle.gq_model.specs.texts.Code.{IsProgram, are_sections, greatest_statements, is_body}
+use Rattle.gq_model.specs.machine.Sections.{is_section, section_number, section_word}
 use Rattle.gq_model.specs.texts.Text.{assembled}
-use Rattle.gq_model.specs.texts.Fault_texts.{section_word}
 use Rattle.gq_views.specs.Listing.{indent, indented, instruction_text, listing, locals_lines, loop_text, operands_text, other_lines, sections_lines}
 use Rattle.gq_views.specs.Listing.{statements_lines}
 use Rattle.gq_views.proofs.Listed_numbers.{all_append}
@@ -18,7 +18,8 @@ use Rattle.gq_views.proofs.Listed_lines.{AllPrinted, both_printed, decimal_solid
 use Rattle.gq_views.proofs.Listed_operands.{word_printed}
 use Rattle.gq_views.proofs.Listed_instructions.{keyword, plain, plain_from}
 use Rattle.gq_views.proofs.Listed_reads.{spelled_back}
-use Rattle.gq_views.proofs.Listed_sections.{Sections, first_of}
+use Rattle.gq_model.proofs.Section_laws.{first_of}
+use Rattle.gq_views.proofs.Listed_sections.{Sections}
 use Rattle.gq_views.proofs.Listed_programs.{read_back, total}
 
 decimal_printed : (n : ℕ) → n < 2 ^ 64 → all_of is_printed (decimal n) ≡ true

@@ -6,23 +6,24 @@ use Rattle.std.proofs.lemmas.Bool.{and_from, and_parts, cases_Bool, leb-true, le
 use Rattle.std.proofs.lemmas.Bool.Decides.{nat_tests}
 use Rattle.std.proofs.lemmas.List.Sums.{sum_by-cons}
 use Rattle.gq_model.specs.declared.fault.TextFault.TheVariants as fault
-use Rattle.gq_model.specs.declared.program.Section.{Section}
-use Rattle.gq_model.specs.declared.program.Section.TheVariants.{Main, Opening, Upgrading, Calling, Closing}
+use Rattle.gq_model.specs.declared.section.Section.{Section}
+use Rattle.gq_model.specs.declared.section.Section.TheVariants.{Main, Opening, Upgrading, Calling, Closing}
 use Rattle.gq_model.specs.machine.Lists.{all_of, between}
 use Rattle.gq_model.specs.machine.Program.{Program, Statements, Done, ◌then◌, size, section_in}
 use Rattle.gq_model.specs.texts.Letters.{number_in, words}
 use Rattle.gq_model.specs.texts.Operands.{greatest_number}
-use Rattle.gq_model.specs.texts.Code.{IsProgram, are_sections, greatest_statements, is_section, section_number}
+use Rattle.gq_model.specs.texts.Code.{IsProgram, are_sections, greatest_statements}
+use Rattle.gq_model.specs.machine.Sections.{is_section, section_number, section_word}
 use Rattle.gq_model.specs.texts.Spelling.{found}
 use Rattle.gq_model.specs.texts.Text.{Reading, Read, Section_block, assembled, at_end, heading, limit_of, limit_or_greatest}
 use Rattle.gq_model.specs.texts.Text.{limits_from, line_read, lines_read, numbered, once}
-use Rattle.gq_model.specs.texts.Fault_texts.{section_word}
 use Rattle.gq_views.specs.Listing.{listing, listing_lines, locals_lines, sections_lines, statements_lines}
 use Rattle.gq_views.proofs.Listed_numbers.{number_of_32}
 use Rattle.gq_views.proofs.Listed_lines.{AllPrinted, is_solid, lines_joined, word_alone, word_first}
 use Rattle.gq_views.proofs.Listed_operands.{number_word}
 use Rattle.gq_views.proofs.Statement_lines_read_back.{LeadsAt, at, leads_both, leads_none, leads_one, leads_to, opened, statements_lead}
-use Rattle.gq_views.proofs.Listed_sections.{Sections, differ, first_of, onto, sections_back}
+use Rattle.gq_model.proofs.Section_laws.{differ, first_of}
+use Rattle.gq_views.proofs.Listed_sections.{Sections, onto, sections_back}
 
 -- SECTIONS
 

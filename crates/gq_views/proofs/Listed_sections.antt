@@ -4,79 +4,21 @@ use Rattle.std.proofs.Common.{refl, ap, ap₂, sym, subst, arith, get_or, inl, i
 use Rattle.std.specs.Prelude.{◌&&◌, nat_le, ◌==◌, if◌then◌else◌}
 use Rattle.std.proofs.lemmas.Bool.{and_from, and_parts, cases_Bool, leb-true, le-leb}
 use Rattle.std.proofs.lemmas.Bool.Decides.{nat_tests}
-use Rattle.gq_model.specs.declared.program.Section.{Section}
-use Rattle.gq_model.specs.declared.program.Section.TheVariants.{Main, Opening, Upgrading, Calling, Closing}
+use Rattle.gq_model.specs.declared.section.Section.{Section}
+use Rattle.gq_model.specs.declared.section.Section.TheVariants.{Main, Opening, Upgrading, Calling, Closing}
 use Rattle.gq_model.specs.machine.Lists.{or_first}
-use Rattle.gq_model.specs.machine.Program.{Statements, ◌then◌, all_sections, same_section, section_in}
-use Rattle.gq_model.specs.texts.Code.{are_sections, is_body, is_section, section_number}
+use Rattle.gq_model.specs.machine.Program.{Statements, ◌then◌, section_in}
+use Rattle.gq_model.specs.machine.Sections.{all_sections, same_section, is_section, section_number}
+use Rattle.gq_model.specs.texts.Code.{are_sections, is_body}
 use Rattle.gq_model.specs.texts.Text.{in_order, section_entry}
 use Rattle.gq_model.proofs.Decoded_programs.{InOrder, all_in_order}
 use Rattle.gq_model.proofs.Rules_laws.{same_section_is}
+use Rattle.gq_model.proofs.Section_laws.{at_number, differ, first_of, number_below, same_number, same_self}
 
 abbrev pub Sections : Type 0
 Sections = List (Section × Statements)
 
 -- ORDER
-
-at_number : (s : Section) → is_section s ≡ true → get_or all_sections (section_number s) Main ≡ s
-at_number Main h = refl
-at_number Opening h = refl
-at_number (Upgrading zero) h = cc h
-at_number (Upgrading (suc zero)) h = refl
-at_number (Upgrading (suc (suc zero))) h = refl
-at_number (Upgrading (suc (suc (suc zero)))) h = refl
-at_number (Upgrading (suc (suc (suc (suc l))))) h =
-    let n = suc (suc (suc (suc l))) in let k = leb-true n 3 ((and_parts (nat_le 1 n) (nat_le n 3) h).1) in absurd (omega (arith, k))
-at_number (Calling zero) h = refl
-at_number (Calling (suc zero)) h = refl
-at_number (Calling (suc (suc zero))) h = refl
-at_number (Calling (suc (suc (suc zero)))) h = refl
-at_number (Calling (suc (suc (suc (suc l))))) h = let k = leb-true (suc (suc (suc (suc l)))) 3 h in absurd (omega (arith, k))
-at_number (Closing zero) h = refl
-at_number (Closing (suc zero)) h = refl
-at_number (Closing (suc (suc zero))) h = refl
-at_number (Closing (suc (suc (suc zero)))) h = refl
-at_number (Closing (suc (suc (suc (suc l))))) h = let k = leb-true (suc (suc (suc (suc l)))) 3 h in absurd (omega (arith, k))
-
-same_number : (s t : Section) → is_section s ≡ true → is_section t ≡ true → section_number s ≡ section_number t → s ≡ t
-same_number s t h k e = sym (at_number s h) ∙ (ap (λ n. get_or all_sections n Main) e ∙ at_number t k)
-
-number_below : (s : Section) → is_section s ≡ true → section_number s ≤ 12
-number_below Main h = omega arith
-number_below Opening h = omega arith
-number_below (Upgrading l) h = let k = leb-true l 3 ((and_parts (nat_le 1 l) (nat_le l 3) h).1) in omega (arith, k)
-number_below (Calling l) h = let k = leb-true l 3 h in omega (arith, k)
-number_below (Closing l) h = let k = leb-true l 3 h in omega (arith, k)
-
-self : (n : ℕ) → (n == n) ≡ true
-self n = grind (arith, nat_tests)
-
-same_self : (s : Section) → same_section s s ≡ true
-same_self Main = refl
-same_self Opening = refl
-same_self (Upgrading l) = self l
-same_self (Calling l) = self l
-same_self (Closing l) = self l
-
-pub differ : (s t : Section) → (section_number s ≡ section_number t → ⊥) → same_section s t ≡ false
-differ s t other = elim (cases_Bool (same_section s t)) [
-  | inl e ↦ absurd (other (ap section_number (same_section_is s t e)))
-  | inr e ↦ e
-]
-
-pub record First (n : ℕ) (p : Section × Statements) (others : Sections) : Type 0 where
-  pub section : is_section p.0 ≡ true
-  pub at : n ≤ section_number p.0
-  pub body : is_body 4 p.1 ≡ true
-  pub rest : are_sections (1 + section_number p.0) others ≡ true
-
-pub first_of : (n : ℕ) (p : Section × Statements) (rest : Sections) → are_sections n (p ∷ rest) ≡ true → First n p rest
-first_of n p rest h =
-    let k = section_number p.0 in
-    let a = and_parts (is_section p.0 && nat_le n k && is_body 4 p.1) (are_sections (1 + k) rest) h in
-    let b = and_parts (is_section p.0 && nat_le n k) (is_body 4 p.1) a.0 in
-    let c = and_parts (is_section p.0) (nat_le n k) b.0 in
-    record { section = c.0; at = leb-true n k c.1; body = b.1; rest = a.1 }
 
 later : (n : ℕ) (p : Section × Statements) (rest : Sections) → are_sections n (p ∷ rest) ≡ true → n < section_number p.0 → are_sections (suc n) (p ∷ rest)
     ≡ true

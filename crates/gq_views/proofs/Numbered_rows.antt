@@ -3,10 +3,10 @@ use Rattle.std.proofs.Common.{◌≡◌, ◌∙◌, ℕ, zero, suc, ◌+◌, ◌
 use Rattle.std.proofs.Common.{append_assoc, append-nil, codes, Some, None, Bool, true, false, true≢false, cond, eqb, map, subst}
 use Rattle.std.specs.Prelude.{decimal, slice_index}
 use Rattle.std.proofs.Math.Seq.{drop-cons}
-use Rattle.gq_model.specs.declared.program.Section.{Section}
+use Rattle.gq_model.specs.declared.section.Section.{Section}
 use Rattle.gq_model.specs.machine.Program.{Program, Statements, Done, Do, size}
 use Rattle.gq_model.specs.machine.Program as program
-use Rattle.gq_model.specs.texts.Fault_texts.{section_word}
+use Rattle.gq_model.specs.machine.Sections.{section_word}
 use Rattle.gq_model.specs.texts.Operands.{greatest_number}
 use Rattle.gq_program.specs.Statement_trees.{tree_of}
 use Rattle.gq_program.specs.declared.program_tree.Statement.{Statement}

@@ -2,9 +2,9 @@
 use Rattle.std.proofs.Common.{◌≡◌, ◌∙◌, ℕ, suc, ◌+◌, ◌<◌, ◌≤◌, List, [], ◌∷◌, ◌++◌, length, get_or, drop, ap, sym, arith, append_assoc}
 use Rattle.std.proofs.Common.{codes, add-one, drop-cons}
 use Rattle.std.proofs.lemmas.List.Sums.{sum_by-cons}
-use Rattle.gq_model.specs.declared.program.Section.{Section}
+use Rattle.gq_model.specs.declared.section.Section.{Section}
 use Rattle.gq_model.specs.machine.Program.{Program, Statements, size}
-use Rattle.gq_model.specs.texts.Fault_texts.{section_word}
+use Rattle.gq_model.specs.machine.Sections.{section_word}
 use Rattle.gq_views.specs.internal.Section_statement_counts.{total}
 use Rattle.gq_views.specs.Listing.{joined, line, listing, locals_lines, sections_lines, statements_lines}
 use Rattle.gq_views.proofs.Printed_statements.{joined_append}

@@ -3,11 +3,11 @@ use Rattle.std.specs.Prelude.{ℕ, zero, suc, ◌==◌, if◌then◌else◌, Lis
 use Rattle.gq_model.specs.declared.program.Instruction.{Instruction}
 use Rattle.gq_model.specs.declared.program.OperandSlot.{OperandSlot}
 use Rattle.gq_model.specs.declared.program.OperandSlot.TheVariants.{Own, Shared, Object}
-use Rattle.gq_model.specs.declared.program.Section.{Section}
+use Rattle.gq_model.specs.declared.section.Section.{Section}
 use Rattle.gq_model.specs.machine.Program.{Statements, Done, Do, If, Loop, Program}
 use Rattle.gq_model.specs.texts.Operands.{Operand, Number, Slot, Bytes, Text, Service, greatest_number, opcode, operands}
 use Rattle.gq_model.specs.texts.Spelling.{spellings, word_of_opcode}
-use Rattle.gq_model.specs.texts.Fault_texts.{section_word}
+use Rattle.gq_model.specs.machine.Sections.{section_word}
 
 -- STATEMENTS
 

@@ -151,7 +151,7 @@ impl<'a> Drawn<'a> {
         ensures all { result.now ≡ model.components self.now }
         ensures few { length result.now ≤ 64 }
     {
-        let _leaves = self.scenario.leaf_count();
+        self.scenario.bounds();
         self.components.as_slice()
     }
 

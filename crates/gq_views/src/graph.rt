@@ -21,11 +21,11 @@ use crate::tree::push_caps;
 use crate::view_words::{
     end_line, push_amount, push_amounts, push_entry, push_indent, push_line, push_number,
 };
-use gq_init::counted::Counted;
 use gq_load::accepted::Accepted;
 use gq_load::budget::Budget;
 use gq_load::load_fault::LoadError;
 use gq_model::program::Name;
+use gq_output::counted::Counted;
 use gq_reports::RunFault;
 use gq_reports::command_text::put_text;
 use gq_scenario::node_numbers::NodeNo;
@@ -416,8 +416,7 @@ fn push_root(text: &mut Vec<u8>, drawn: &Drawn<'_>) -> Result<(), AllocError>
         (node_boxes drawn.now.version (accept.budgets drawn.now) 2 1 0 drawn.now.nodes)) }
 {
     let scenario = drawn.scenario();
-    let _leaves = scenario.leaf_count();
-    let _nodes = scenario.node_count();
+    scenario.bounds();
     let root = PreorderPlaces { node: 0, leaf: 0 };
     push_cluster(
         text,

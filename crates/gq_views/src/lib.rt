@@ -4,7 +4,7 @@
 //! use gq_views::list::list;
 //! use gq_views::margin::Margin;
 //! use gq_views::tree::tree;
-//! use gq_init::counted::Counted;
+//! use gq_output::counted::Counted;
 //!
 //! let mut out = Counted::new(writer);
 //! // The program of a leaf, one statement a line.

@@ -8,10 +8,10 @@ ghost use Rattle.gq_reports.specs.Command_outcomes.{IsBefore, IsFaultOf, WritesA
 use crate::listing::listing;
 use crate::margin::Margin;
 use crate::numbered_listing::numbered_listing;
-use gq_init::counted::Counted;
 use gq_load::leaf_programs::read_program;
 use gq_load::load_fault::{LoadError, LoadFault};
 use gq_load::named::leaf_named;
+use gq_output::counted::Counted;
 use gq_program::program_tree::Program;
 use gq_reader::reader::read_scenario;
 use gq_reports::RunFault;

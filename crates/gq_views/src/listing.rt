@@ -2,14 +2,15 @@
 ghost use Rattle.std.specs.Prelude.{◌≡◌, ◌≤◌, ◌+◌, ◌++◌, ◌∷◌, [], OnOk, IfOk};
 ghost use Rattle.gq_model.specs.machine.Program.{size};
 ghost use Rattle.gq_model.specs.texts.Code.{greatest_statements};
-ghost use Rattle.gq_model.specs.texts.Fault_texts.{section_word};
+ghost use Rattle.gq_model.specs.machine.Sections.{section_word};
 ghost use Rattle.gq_program.specs.Statement_trees.{tree_of};
 ghost use Rattle.gq_views.specs.internal.Section_statement_counts.{total};
 ghost use Rattle.gq_views.specs.Listing.{instruction_text, joined, line, listing, locals_lines, loop_text, other_lines, sections_lines, statements_lines};
 
 use crate::instruction_text::push_instruction;
 use crate::view_words::{end_line, push_amount, push_indent, push_line, push_number};
-use gq_model::program::{Instruction, Section};
+use gq_model::program::Instruction;
+use gq_model::section::Section;
 use gq_program::program_tree::{Body, Program, Statement};
 use std::alloc::{AllocError, Global};
 
@@ -87,20 +88,13 @@ fn push_body(text: &mut Vec<u8>, depth: usize, body: &Body) -> Result<(), AllocE
 pub fn push_heading(text: &mut Vec<u8>, section: Section) -> Result<(), AllocError>
     ensures { OnOk result (text.new.items ≡ text.old.items ++ section_word section) }
 {
-    match section {
-        Section::Main => text.extend_from_slice(b"main"),
-        Section::Opening => text.extend_from_slice(b"open"),
-        Section::Upgrading(level) => {
-            text.extend_from_slice(b"up ")?;
-            push_number(text, u64::from(level))
-        }
-        Section::Calling(level) => {
-            text.extend_from_slice(b"call ")?;
-            push_number(text, u64::from(level))
-        }
-        Section::Closing(level) => {
-            text.extend_from_slice(b"close ")?;
-            push_number(text, u64::from(level))
+    let kind = section.kind();
+    text.extend_from_slice(kind.word().as_bytes())?;
+    match kind.levels() {
+        None => Ok(()),
+        Some(_) => {
+            text.push(b' ')?;
+            push_number(text, u64::from(section.level()))
         }
     }
 }

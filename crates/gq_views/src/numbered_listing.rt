@@ -9,7 +9,7 @@ ghost use Rattle.gq_views.specs.Numbered.{blanks, local_rows, margin, numbered_l
 
 use crate::listing::{push_heading, push_local, push_loop, push_plain};
 use crate::view_words::{end_line, push_line};
-use gq_model::program::Section;
+use gq_model::section::Section;
 use gq_program::program_tree::{Body, Program, Statement};
 use itoa::Buffer;
 use std::alloc::{AllocError, Global};

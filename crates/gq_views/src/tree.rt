@@ -17,11 +17,11 @@ ghost use Rattle.gq_reports.specs.Command_outcomes.{WritesAs};
 use crate::drawn::{Drawn, Opened};
 use crate::left::left_of;
 use crate::view_words::{end_line, push_amounts, push_entry, push_indent};
-use gq_init::counted::Counted;
 use gq_load::accepted::Accepted;
 use gq_load::budget::Budget;
 use gq_load::load_fault::LoadError;
 use gq_model::program::Name;
+use gq_output::counted::Counted;
 use gq_reports::RunFault;
 use gq_reports::command_text::put_text;
 use gq_scenario::scenario::{Init, Leaf, Node, Nodes, Quantum, Version};
@@ -280,8 +280,7 @@ fn drawn_text(alloc: Global, drawn: &Drawn<'_>) -> Result<Vec<u8>, AllocError>
     ensures { IfOk result (λ text. text.items ≡ tree_text drawn.now) }
 {
     let scenario = drawn.scenario();
-    let _leaves = scenario.leaf_count();
-    let _nodes = scenario.node_count();
+    scenario.bounds();
     let mut text = Vec::new(alloc);
     push_init(
         &mut text,

@@ -1,7 +1,7 @@
 -- The points of the sections of a level.
 use Rattle.std.proofs.Common.{◌≡◌, ℕ, ◌+◌, ◌<◌, Bool, true, false, List, [], ◌++◌, Option, Some, None, length, get_or, drop, refl, ap, sym, ◌∙◌}
 use Rattle.std.specs.Prelude.{if◌then◌else◌, option_map}
-use Rattle.gq_model.specs.declared.program.Section.{Section}
+use Rattle.gq_model.specs.declared.section.Section.{Section}
 use Rattle.gq_model.specs.machine.Amounts.{Resource}
 use Rattle.gq_model.specs.machine.Program.{Statements, section_in}
 use Rattle.gq_model.specs.rules.Flow.{body, context, start_of}

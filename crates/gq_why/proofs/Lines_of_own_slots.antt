@@ -3,7 +3,7 @@ use Rattle.std.proofs.Common.{◌≡◌, ◌≢◌, ℕ, zero, suc, ◌<◌, Lis
 use Rattle.std.proofs.Common.{append_assoc, arith, codes}
 use Rattle.std.specs.Prelude.{decimal, option_map}
 use Rattle.gq_tariff.specs.Prices.{classes}
-use Rattle.gq_model.specs.declared.program.Section.TheVariants.{Main}
+use Rattle.gq_model.specs.declared.section.Section.TheVariants.{Main}
 use Rattle.gq_model.specs.machine.Amounts.{Resource}
 use Rattle.gq_model.specs.rules.Budgets.{own}
 use Rattle.gq_model.specs.rules.Kinds.{Subject}

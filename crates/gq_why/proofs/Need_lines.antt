@@ -4,7 +4,7 @@ use Rattle.std.proofs.Common.{codes, arith}
 use Rattle.std.specs.Prelude.{decimal, if◌then◌else◌, option_map}
 use Rattle.std.proofs.lemmas.Bool.Decides.{nat_tests}
 use Rattle.gq_model.specs.declared.program.Form.TheVariants.{Slice}
-use Rattle.gq_model.specs.declared.program.Section.{Section}
+use Rattle.gq_model.specs.declared.section.Section.{Section}
 use Rattle.gq_model.specs.machine.Accounts as accounts
 use Rattle.gq_model.specs.machine.Amounts.{Amount, Resource, Ram, Caps, part}
 use Rattle.gq_model.specs.machine.Scenario.{Interface}

@@ -3,12 +3,13 @@ use Rattle.std.proofs.Common.{◌≡◌, ℕ, zero, suc, ◌≤◌, mul-le-mul_r
 use Rattle.std.proofs.Common.{sym, ◌∙◌, arith}
 use Rattle.std.specs.Prelude.{slice_get, if◌then◌else◌}
 use Rattle.std.proofs.lemmas.Bool.{true≢false}
-use Rattle.gq_model.specs.declared.program.Section.{Section}
-use Rattle.gq_model.specs.declared.program.Section.TheVariants.{Main, Opening, Upgrading, Calling, Closing}
+use Rattle.gq_model.specs.declared.section.Section.{Section}
+use Rattle.gq_model.specs.declared.section.Section.TheVariants.{Main, Opening, Upgrading, Calling, Closing}
 use Rattle.gq_model.specs.machine.Program.{Statements}
 use Rattle.gq_model.specs.machine.Scenario.{System, Component}
 use Rattle.gq_model.specs.machine.Routes.{server_of}
-use Rattle.gq_model.specs.rules.Kinds.{Subject, in_main}
+use Rattle.gq_model.specs.rules.Kinds.{Subject}
+use Rattle.gq_model.specs.machine.Sections.{is_own_section}
 use Rattle.gq_model.specs.rules.Budgets.{section_requests}
 use Rattle.gq_model.specs.rules.Use.{subject, is_there, from_sections, from_leaves, asked_of, provided_by, times}
 use Rattle.gq_model.specs.rules.Resolve.{cycle_fault}
@@ -48,7 +49,7 @@ main_once zero system x = refl
 main_once (suc d) system x = refl
 
 -- `main` apart, a section runs as often as it is asked for by chains that are one use shorter
-pub times_asked : (d : ℕ) (system : System) (x : ℕ) (section : Section) → in_main section ≡ false
+pub times_asked : (d : ℕ) (system : System) (x : ℕ) (section : Section) → is_own_section section ≡ false
     → times (suc d) system x section ≡ asked_of (times d system) system x section (provided_by (slice_get system.components x))
 times_asked d system x Main e = absurd (true≢false e)
 times_asked d system x Opening e = refl
@@ -89,7 +90,7 @@ module _ (system : System) where
 
   -- so a section but `main` runs as often as all ask for it
   pub adds_up : cycle_fault system 0 system.components ≡ None → (x : ℕ) (c : Component) (service : List ℕ) (section : Section)
-      → slice_get system.components x ≡ Some c → c.node.provides ≡ Some service → in_main section ≡ false
+      → slice_get system.components x ≡ Some c → c.node.provides ≡ Some service → is_own_section section ≡ false
       → from_leaves (times (length system.components) system) system x service section 0 system.components
       ≡ times (length system.components) system x section
   adds_up resolved x c service section there provides outside =

@@ -1,7 +1,7 @@
 -- The points of the walk are what visitors are shown.
 use Rattle.std.proofs.Common.{◌≡◌, ℕ, suc, ◌+◌, List, ◌∷◌, ◌++◌, map, refl, ap, sym, ◌∙◌, Some, arith}
 use Rattle.std.proofs.lemmas.List.{map-append}
-use Rattle.gq_model.specs.declared.program.Section.{Section}
+use Rattle.gq_model.specs.declared.section.Section.{Section}
 use Rattle.gq_model.specs.machine.Program.{Statements, Done, Do, If, Loop, size, section_in, body_of}
 use Rattle.gq_model.specs.rules.Flow.{at, context, flow, start_of, state_or}
 use Rattle.gq_model.specs.rules.Kinds.{AbstractState, Subject, Context, inside}

@@ -7,10 +7,11 @@ use Rattle.std.proofs.lemmas.Bool.Decides.{nat_tests}
 use Rattle.gq_model.specs.declared.fault.Rule.TheVariants.{BudgetTooLarge}
 use Rattle.gq_model.specs.declared.program.Instruction.{Instruction}
 use Rattle.gq_model.specs.declared.program.Instruction.TheVariants.{Open, Upgrade, Call, Close}
-use Rattle.gq_model.specs.declared.program.Section.{Section}
-use Rattle.gq_model.specs.declared.program.Section.TheVariants.{Main, Opening, Upgrading, Calling, Closing}
+use Rattle.gq_model.specs.declared.section.Section.{Section}
+use Rattle.gq_model.specs.declared.section.Section.TheVariants.{Main, Opening, Upgrading, Calling, Closing}
 use Rattle.gq_model.specs.machine.Amounts.{Amount}
-use Rattle.gq_model.specs.machine.Program.{Statements, Done, Do, If, Loop, body_of, same_section, section_in, size, text_eq}
+use Rattle.gq_model.specs.machine.Program.{Statements, Done, Do, If, Loop, body_of, section_in, size, text_eq}
+use Rattle.gq_model.specs.machine.Sections.{same_section}
 use Rattle.gq_model.specs.machine.Scenario.{Component}
 use Rattle.gq_model.specs.rules.Accept.{Budget, steps_refusal, Over_steps}
 use Rattle.gq_model.specs.rules.Budgets.{asks, by_link, cost, is_one, requests, section_cost, section_requests}

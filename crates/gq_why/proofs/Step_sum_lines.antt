@@ -5,14 +5,14 @@ use Rattle.std.specs.Prelude.{decimal, slice_get, if◌then◌else◌}
 use Rattle.std.proofs.lemmas.Bool.{and_parts, true≢false}
 use Rattle.std.proofs.lemmas.List.{drop_more}
 use Rattle.std.proofs.lemmas.Option.{get_or_from_slice_get, slice_get_within}
-use Rattle.gq_model.specs.declared.program.Section.{Section}
+use Rattle.gq_model.specs.declared.section.Section.{Section}
 use Rattle.gq_model.specs.machine.Lists.{any_of}
 use Rattle.gq_model.specs.machine.Program.{Statements, text_eq}
 use Rattle.gq_model.specs.machine.Routes.{server_of}
 use Rattle.gq_model.specs.machine.Scenario.{Component, System}
 use Rattle.gq_model.specs.rules.Budgets.{section_cost, section_requests}
 use Rattle.gq_model.specs.rules.Use.{is_there, services, step_budget, subject}
-use Rattle.gq_model.specs.texts.Fault_texts.{section_word}
+use Rattle.gq_model.specs.machine.Sections.{section_word}
 use Rattle.gq_laws.proofs.verified_programs.Opened_links.{opens_only}
 use Rattle.gq_why.specs.Why.{asker_line, asker_lines, askers, often, product, section_lines, steps_part}
 use Rattle.gq_why.specs.internal.Step_parts.{user_lines}

@@ -2,13 +2,14 @@
 use Rattle.std.specs.Prelude.{◌≡◌, ℕ, ◌+◌, ◌*◌, false, List, [], ◌∷◌, Option, Some, None, slice_get, sum_by}
 use Rattle.gq_tariff.specs.Prices.{classes}
 use Rattle.gq_model.specs.declared.program.Form.TheVariants.{Slice}
-use Rattle.gq_model.specs.declared.program.Section.{Section}
-use Rattle.gq_model.specs.declared.program.Section.TheVariants.{Main}
+use Rattle.gq_model.specs.declared.section.Section.{Section}
+use Rattle.gq_model.specs.declared.section.Section.TheVariants.{Main}
 use Rattle.gq_model.specs.machine.Amounts.{Resource}
 use Rattle.gq_model.specs.machine.Program.{Statements}
 use Rattle.gq_model.specs.machine.Scenario.{Interface, Scenario, System, Component, system}
 use Rattle.gq_model.specs.rules.Budgets.{own, section_cost}
-use Rattle.gq_model.specs.rules.Kinds.{Kind, Memory, AbstractState, Subject, in_main, kind_price, kinds_cost, session_cost}
+use Rattle.gq_model.specs.rules.Kinds.{Kind, Memory, AbstractState, Subject, kind_price, kinds_cost, session_cost}
+use Rattle.gq_model.specs.machine.Sections.{is_own_section}
 use Rattle.gq_model.specs.rules.Use.{from_leaves, step_budget}
 use Rattle.gq_scenario.specs.Without_quantities.{unsized}
 use Rattle.gq_load.specs.Unsized_judgement.{unsized_fault}
@@ -47,4 +48,4 @@ StepsAddUp = (all : System) (x : ℕ) (c : Component) →
 abbrev pub TimesAddUp : Type 0
 TimesAddUp = (s : Scenario) → unsized_fault (unsized s) ≡ None → let all = system (unsized s) in
     (x : ℕ) (c : Component) (service : List ℕ) (section : Section) → slice_get all.components x ≡ Some c → c.node.provides ≡ Some service →
-    in_main section ≡ false → from_leaves (often all) all x service section 0 all.components ≡ often all x section
+    is_own_section section ≡ false → from_leaves (often all) all x service section 0 all.components ≡ often all x section

@@ -1,8 +1,8 @@
 -- The first points at which numbers are greatest, as visitors keep them.
 use Rattle.std.specs.Prelude.{◌≡◌, ℕ, ◌<◌, ◌≤◌, ◌^◌, nat_lt, if◌then◌else◌, List, Option, Some, None, option_map, get_or}
 use Rattle.gq_model.specs.machine.Amounts.{Resource}
-use Rattle.gq_model.specs.declared.program.Section.{Section}
-use Rattle.gq_model.specs.declared.program.Section.TheVariants.{Main}
+use Rattle.gq_model.specs.declared.section.Section.{Section}
+use Rattle.gq_model.specs.declared.section.Section.TheVariants.{Main}
 use Rattle.gq_model.specs.rules.Kinds.{Kind, AbstractState, kinds_cost}
 use Rattle.gq_caps.specs.Known.{all_known}
 use Rattle.gq_verify.specs.Visits.{Sight, At_statement, At_point}

@@ -4,8 +4,8 @@ use Rattle.std.specs.Prelude.{Option, Some, None, decimal, codes, slice_get}
 use Rattle.gq_tariff.specs.Prices.{classes}
 use Rattle.gq_model.specs.declared.program.Form.{Form}
 use Rattle.gq_model.specs.declared.program.Form.TheVariants.{Block, Slice, Space}
-use Rattle.gq_model.specs.declared.program.Section.{Section}
-use Rattle.gq_model.specs.declared.program.Section.TheVariants.{Main}
+use Rattle.gq_model.specs.declared.section.Section.{Section}
+use Rattle.gq_model.specs.declared.section.Section.TheVariants.{Main}
 use Rattle.gq_model.specs.machine.Accounts.{reported}
 use Rattle.gq_model.specs.machine.Amounts.{Amount, Resource, Ram, Caps, part}
 use Rattle.gq_model.specs.machine.Resource_prices.{chunks}
@@ -16,11 +16,11 @@ use Rattle.gq_model.specs.rules.Budgets.{own, section_cost, section_requests}
 use Rattle.gq_model.specs.rules.Flow.{at, body, context, flow, start_of, state_or}
 use Rattle.gq_model.specs.rules.Kinds.{Kind, Empty_kind, Memory, Pool_kind, Link_kind, AbstractState, Subject, Context, inside, kind_lent, kind_places}
 use Rattle.gq_model.specs.rules.Kinds.{kind_price}
-use Rattle.gq_model.specs.rules.Kinds.{kinds_cost, level_of, need_of}
+use Rattle.gq_model.specs.rules.Kinds.{kinds_cost, need_of}
+use Rattle.gq_model.specs.machine.Sections.{level_of, section_word}
 use Rattle.gq_model.specs.rules.Kinds.{session_cost}
 use Rattle.gq_model.specs.rules.Rules.{judged}
 use Rattle.gq_model.specs.rules.Use.{is_there, step_budget, subject, times}
-use Rattle.gq_model.specs.texts.Fault_texts.{section_word}
 use Rattle.gq_scenario.specs.Without_quantities.{unsized}
 
 -- POINTS

@@ -2,9 +2,9 @@
 ghost use Rattle.std.specs.Prelude.{◌≡◌, ◌≤◌, ◌^◌, ℕ, ◌<◌, IsTrue, None, get_or, if◌then◌else◌, nat_lt, option_map};
 ghost use Rattle.gq_tariff.specs.Prices.{classes};
 ghost use Rattle.gq_caps.specs.Known.{all_known};
-ghost use Rattle.gq_model.specs.declared.program.Section.TheVariants.{Main};
+ghost use Rattle.gq_model.specs.declared.section.Section.TheVariants.{Main};
 ghost use Rattle.gq_model.specs.machine.Amounts.{Ram, Caps};
-ghost use Rattle.gq_model.specs.texts.Code.{is_section};
+ghost use Rattle.gq_model.specs.machine.Sections.{is_section};
 ghost use Rattle.gq_verify.specs.Visits.{after_all, section_sights};
 ghost use Rattle.gq_why.specs.First_maxima.{IsCounted, or_higher, picked_session, top_in, top_own};
 ghost use Rattle.gq_why.specs.Why.{highest, places_at, points_of};

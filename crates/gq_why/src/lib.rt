@@ -2,7 +2,7 @@
 //!
 //! ```rust
 //! use gq_why::why::why;
-//! use gq_init::counted::Counted;
+//! use gq_output::counted::Counted;
 //!
 //! let mut out = Counted::new(writer);
 //! // Each number, with the point where it is greatest, what is held there, and who asks how often.

@@ -12,7 +12,7 @@ use crate::point_lines::{push_object, push_of, push_point, push_slots};
 use gq_model::program::Name;
 use gq_program::{Interface, Section};
 use gq_resolve::component::Component;
-use gq_rules::session_rules::{level_of, need_of, session_cost};
+use gq_rules::session_rules::{need_of, session_cost};
 use gq_scenario::scenario::{Scenario, Version};
 use gq_tariff::{Amount, Resource};
 use gq_verify::Verified;
@@ -68,7 +68,7 @@ fn is_of_level(section: Section, level: u8) -> bool
 {
     match section {
         Section::Main => false,
-        _ => level_of(section) == level,
+        _ => section.level() == level,
     }
 }
 

@@ -7,7 +7,7 @@ ghost use Rattle.gq_model.specs.machine.Scenario as model;
 ghost use Rattle.gq_model.specs.machine.Scenario.{system};
 ghost use Rattle.gq_model.specs.rules.Accept as accept;
 ghost use Rattle.gq_model.specs.rules.Use.{is_there, services};
-ghost use Rattle.gq_model.specs.texts.Fault_texts.{section_word};
+ghost use Rattle.gq_model.specs.machine.Sections.{section_word};
 ghost use Rattle.gq_resolve.specs.Served.{AreServers};
 ghost use Rattle.gq_load.specs.Unsized_judgement.{unsized_fault};
 ghost use Rattle.gq_load.specs.internal.Surveys.{AreSurveys};
@@ -235,7 +235,7 @@ pub(crate) fn push_steps(
     ensures { (c : model.Component) → slice_get components.now leaf ≡ Some c →
         OnOk result (text.new.items ≡ text.old.items ++ steps_part (system free.now) leaf c) }
 {
-    let _count = free.leaf_count();
+    free.bounds();
     let place = leaf.index();
     let steps = found.budgets[place].steps();
     let counted = found.surveys.counted.as_slice();

@@ -14,16 +14,16 @@ ghost use Rattle.gq_why.specs.Why_written.{leaf_number, why_from, why_of, why_wr
 use crate::need::push_needs;
 use crate::own_lines::push_owns;
 use crate::step_sums::push_steps;
-use gq_init::counted::Counted;
 use gq_load::load_fault::{LoadError, LoadFault};
 use gq_load::unsized_scenarios::{Unsized, judge_unsized, verified};
+use gq_model::spelling::same_text;
+use gq_output::counted::Counted;
 use gq_reader::reader::read_scenario;
 use gq_reports::RunFault;
 use gq_reports::command_text::put_text;
 use gq_resolve::component::{Component, components};
 use gq_scenario::scenario::{LeafNo, Scenario};
 use gq_scenario::scenario_fault::ScenarioError;
-use gq_scenario::text_pieces::same_bytes;
 use gq_scenario::without_quantities::without_quantities;
 use std::alloc::{AllocError, Global};
 use std::io::Write;
@@ -34,7 +34,7 @@ fn numbered(scenario: &Scenario, name: &[u8]) -> Option<LeafNo>
 {
     for place in 0..scenario.leaf_count() {
         let leaf = LeafNo::new(place as u32);
-        if same_bytes(name, scenario.leaf(leaf).name().as_bytes()) {
+        if same_text(name, scenario.leaf(leaf).name().as_bytes()) {
             return Some(leaf);
         }
     }

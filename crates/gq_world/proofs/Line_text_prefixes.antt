@@ -5,8 +5,8 @@ use Rattle.std.specs.Io.KnownBytes.{Appends}
 use Rattle.std.proofs.lemmas.List.{take-append-drop}
 use Rattle.std.proofs.Math.Seq.{take-append_seam, take-length}
 use Rattle.gq_model.specs.machine.Accounts.{Account, account_line, account_lines}
-use Rattle.gq_init.specs.Writes.{IsPrefix}
-use Rattle.gq_init.proofs.Written_byte_facts.{appends_both}
+use Rattle.gq_output.specs.Writes.{IsPrefix}
+use Rattle.gq_output.proofs.Written_byte_facts.{appends_both}
 use Rattle.gq_world.proofs.World_account_lines.{lines_next}
 
 -- what a text begins with is a prefix of it

@@ -8,7 +8,7 @@ use Rattle.gq_model.specs.declared.fault.Wrong.{Wrong}
 use Rattle.gq_model.specs.machine.Run.{Ran, Acts, run, run_on}
 use Rattle.gq_model.specs.rules.Accept.{budgets, step_budgets}
 use Rattle.gq_model.specs.machine.Accounts.{accounts, account_lines, text_of}
-use Rattle.gq_init.specs.Writes.{IsPrefix}
+use Rattle.gq_output.specs.Writes.{IsPrefix}
 use Rattle.gq_world.specs.World_between_turns.{World}
 use Rattle.gq_world.specs.internal.Act_transitions.{going, HasRun, IsCut}
 use Rattle.gq_world.specs.Account_lines.{accounts_by, all_accounts, accounts_text}
@@ -25,7 +25,7 @@ use Rattle.gq_reports.specs.Command_outcomes.{IsFaultOf, IsWhole, GivesOf}
 use Rattle.gq_reports.specs.Whole.{Written, whole_of, refused_with, with_scenario, written_turns, run_written}
 use Rattle.gq_world.specs.internal.Act_transitions.{AreBelow, turns_written}
 use Rattle.gq_world.proofs.Turns_name_leaves.{AreBelowIn, turned_below}
-use Rattle.gq_init.proofs.Written_byte_facts.{appends_both}
+use Rattle.gq_output.proofs.Written_byte_facts.{appends_both}
 use Rattle.gq_world.proofs.Line_text_prefixes.{prefix_by, prefix_after}
 
 -- the text of what ran, and the rest of the whole

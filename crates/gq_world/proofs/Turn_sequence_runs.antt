@@ -14,11 +14,11 @@ use Rattle.gq_model.specs.machine.Step.{next}
 use Rattle.gq_model.specs.machine.Run.{Ran, Acts, label_at, line_of, after_step, turn_from, turns_of, set_input, set_from, act_on, run_on}
 use Rattle.gq_machine.proofs.Many_machine_turns.{turns_then}
 use Rattle.gq_world.specs.World_between_turns.{World}
-use Rattle.gq_init.specs.Writes.{IsPrefix}
-use Rattle.gq_init.specs.declared.counted.Counted.{Counted}
-use Rattle.gq_init.specs.Writer_failures.{written_to}
+use Rattle.gq_output.specs.Writes.{IsPrefix}
+use Rattle.gq_output.specs.declared.counted.Counted.{Counted}
+use Rattle.gq_output.specs.Writer_failures.{written_to}
 use Rattle.gq_world.specs.internal.Act_transitions.{going, AreBelow, HasRun, HasLeft, IsCut, RunsThrough}
-use Rattle.gq_init.proofs.Written_byte_facts.{appends_nothing, appends_both}
+use Rattle.gq_output.proofs.Written_byte_facts.{appends_nothing, appends_both}
 
 -- TEXTS GROW
 

@@ -17,7 +17,7 @@ use Rattle.gq_scenario.specs.Sizes.{node_count}
 use Rattle.gq_resolve.specs.NodeTables.{NodeRow, leaf_node, rows_of, node_rows}
 use Rattle.gq_laws.specs.Stands.{Stands}
 use Rattle.gq_world.specs.World_between_turns as worlds
-use Rattle.gq_init.specs.Account_values.{AccountValues, reported_of, with_label}
+use Rattle.gq_output.specs.Account_values.{AccountValues, reported_of, with_label}
 use Rattle.gq_world.specs.Account_lines.{ReportsOf, accounts_by, all_accounts, accounts_text}
 
 -- LEAVES

@@ -8,7 +8,7 @@ use Rattle.gq_model.specs.machine.Step.{next}
 use Rattle.gq_model.specs.machine.Run.{Acts, label_at, line_of}
 use Rattle.gq_machine.specs.declared.event.Event.{Event}
 use Rattle.gq_machine.specs.declared.event.Event.TheVariants as events
-use Rattle.gq_init.specs.Writes.{IsPrefix}
+use Rattle.gq_output.specs.Writes.{IsPrefix}
 
 -- an accepted scenario, the world of the abstract machine, and whether a turn has stopped it
 pub record World : Type 0 where

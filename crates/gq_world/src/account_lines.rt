@@ -4,15 +4,15 @@ ghost use Rattle.gq_model.specs.machine.Accounts.{account_line, account_lines};
 ghost use Rattle.gq_model.specs.machine.Scenario.{components};
 ghost use Rattle.gq_model.specs.rules.Accept.{step_budgets};
 ghost use Rattle.gq_resolve.specs.NodeTables.{node_rows};
-ghost use Rattle.gq_init.specs.Writer_failures.{Writes};
+ghost use Rattle.gq_output.specs.Writer_failures.{Writes};
 ghost use Rattle.gq_world.specs.Account_lines.{accounts_by};
 
 use crate::node_accounts::account_of;
-use gq_init::account_line::account_line;
-use gq_init::counted::{Counted, WriteFault, put};
-use gq_init::line::Line;
 use gq_load::budget::Budget;
 use gq_machine::machine::Machine;
+use gq_output::account_line::account_line;
+use gq_output::counted::{Counted, WriteFault, put};
+use gq_output::line::Line;
 use gq_scenario::node_numbers::NodeNo;
 use std::io::Write;
 

@@ -2,12 +2,12 @@
 ghost use Rattle.std.specs.Prelude.{◌<◌, ◌≤◌, length};
 ghost use Rattle.gq_model.specs.machine.Doing as doing;
 ghost use Rattle.gq_model.specs.machine.Scenario.{components};
-ghost use Rattle.gq_init.specs.Writer_failures.{Writes};
+ghost use Rattle.gq_output.specs.Writer_failures.{Writes};
 ghost use Rattle.gq_world.specs.World_between_turns.{line_reported};
 
 use gq_init::NodeTable;
-use gq_init::counted::{Counted, WriteFault, put};
-use gq_init::leaf_line::text_line;
+use gq_output::counted::{Counted, WriteFault, put};
+use gq_output::leaf_line::text_line;
 use gq_scenario::scenario::LeafNo;
 use std::io::Write;
 

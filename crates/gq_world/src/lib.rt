@@ -2,7 +2,7 @@
 //!
 //! ```rust
 //! use gq_world::world::World;
-//! use gq_init::counted::Counted;
+//! use gq_output::counted::Counted;
 //!
 //! let mut world = World::load(alloc, scenario)?;
 //! let mut out = Counted::new(writer);
@@ -19,7 +19,7 @@ mod node_accounts;
 pub mod run;
 pub mod world;
 
-pub use gq_init::counted::Counted;
-pub use gq_init::{account_report, counted};
 pub use gq_machine::{event, input_settings};
+pub use gq_output::counted::Counted;
+pub use gq_output::{account_report, counted};
 pub use gq_reports::{RunFault, asm, check};

@@ -4,13 +4,13 @@ ghost use Rattle.gq_model.specs.machine.Scenario.{components};
 ghost use Rattle.gq_model.specs.rules.Accept.{step_budgets};
 ghost use Rattle.gq_resolve.specs.NodeTables.{node_rows};
 ghost use Rattle.gq_scenario.specs.Component_trees.{version_number};
-ghost use Rattle.gq_init.specs.Account_values.{reported_of};
+ghost use Rattle.gq_output.specs.Account_values.{reported_of};
 ghost use Rattle.gq_world.specs.Account_lines.{accounts_by, ReportsOf};
 ghost use Rattle.gq_model.specs.machine.Amounts.{counts_caps};
 
-use gq_init::account_report::{AccountReport, LeafAccount};
 use gq_load::budget::Budget;
 use gq_machine::machine::Machine;
+use gq_output::account_report::{AccountReport, LeafAccount};
 use gq_scenario::node_numbers::NodeNo;
 use gq_scenario::scenario::{LeafNo, Version};
 use gq_tariff::Amount;

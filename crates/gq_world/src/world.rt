@@ -11,9 +11,9 @@ ghost use Rattle.gq_model.specs.rules.Accept as accept;
 ghost use Rattle.gq_resolve.specs.NodeTables.{IsNodeOf, node_rows};
 ghost use Rattle.gq_laws.specs.Stands.{Stands};
 ghost use Rattle.gq_prepared.specs.Leaf_holdings.{held_by_all};
-ghost use Rattle.gq_init.specs.Writer_failures.{Writes, written_to, failures_of};
+ghost use Rattle.gq_output.specs.Writer_failures.{Writes, written_to, failures_of};
 ghost use Rattle.gq_world.specs.Headline.{Standing, Upheld};
-ghost use Rattle.gq_init.specs.Account_values.{reported_of};
+ghost use Rattle.gq_output.specs.Account_values.{reported_of};
 ghost use Rattle.gq_world.specs.Account_lines.{all_accounts, accounts_text};
 ghost use Rattle.gq_bytecode.specs.Nexts.{GoesAlone, NoneAlone};
 ghost use Rattle.gq_machine.specs.Events.{event_of};
@@ -21,21 +21,21 @@ ghost use Rattle.gq_machine.specs.Input_settings.{input_fault};
 ghost use Rattle.gq_model.specs.texts.Turns.{inputs_at};
 ghost use Rattle.gq_world.specs.World_between_turns.{HasTaken, IsTurn, StopsWriting, line_reported};
 ghost use Rattle.gq_world.specs.internal.Act_transitions.{HasRun, IsCut};
-ghost use Rattle.gq_init.specs.Writes.{IsRaised};
+ghost use Rattle.gq_output.specs.Writes.{IsRaised};
 
 use crate::account_lines::write_accounts;
 use crate::leaf_lines::write_line;
 use crate::node_accounts::account_of;
 use arrayvec::ArrayVec;
 use gq_init::NodeTable;
-use gq_init::account_report::AccountReport;
-use gq_init::counted::{Counted, WriteFault, put};
-use gq_init::gathered_lines::Lines;
 use gq_laws::accepted_runs::accepted_laws;
 use gq_load::budget::Budget;
 use gq_machine::event::Event;
 use gq_machine::input_settings::InputFault;
 use gq_machine::machine::Machine;
+use gq_output::account_report::AccountReport;
+use gq_output::counted::{Counted, WriteFault, put};
+use gq_output::gathered_lines::Lines;
 use gq_scenario::node_numbers::NodeNo;
 use gq_scenario::scenario::LeafNo;
 use std::io::Write;
@@ -245,7 +245,7 @@ impl World {
         ensures inputs { result.now ≡ inputs_at (slice_get (components self.now.scenario) leaf) }
         ensures few { length result.now ≤ 8 }
     {
-        self.table().scenario().leaf(leaf).inputs()
+        self.table().inputs(leaf)
     }
 
     /// The steps that a leaf has taken.

@@ -8,7 +8,7 @@ use gq_cli::command_line::command;
 use gq_cli::execute::{execute, report};
 use gq_cli::rules::families;
 use gq_cli::status::Status;
-use gq_init::counted::Counted;
+use gq_output::counted::Counted;
 use std::cell::Cell;
 use std::env;
 use std::fs::File;

@@ -3,7 +3,7 @@
 
 use gq_command::input::{InputError, read_input};
 use gq_command::status::Status;
-use gq_init::counted::Counted;
+use gq_output::counted::Counted;
 use gq_reports::run_fault::RunFault;
 use gq_unverified::tested_run::run_unverified;
 use std::env;

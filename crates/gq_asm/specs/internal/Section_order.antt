@@ -1,7 +1,8 @@
 -- Sections, one taken out at a time.
 use Rattle.std.specs.Prelude.{◌≡◌, ℕ, suc, ◌<◌, if◌then◌else◌, Bool, true, ◌&&◌, not, List, [], ◌∷◌, ◌++◌, length, take, drop, slice_index_or, Some, None}
-use Rattle.gq_model.specs.declared.program.Section.{Section}
-use Rattle.gq_model.specs.machine.Program.{Statements, same_section, section_in}
+use Rattle.gq_model.specs.declared.section.Section.{Section}
+use Rattle.gq_model.specs.machine.Program.{Statements, section_in}
+use Rattle.gq_model.specs.machine.Sections.{same_section}
 
 -- without the first one of this section
 abbrev pub without : Section → List (Section × Statements) → List (Section × Statements)

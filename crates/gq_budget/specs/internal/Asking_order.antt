@@ -1,6 +1,6 @@
 -- An order of use: a level for each leaf, above those of all leaves that ask for its sections.
 use Rattle.std.specs.Prelude.{◌≡◌, ◌<◌, ◌≤◌, ℕ, List, [], get_or, length}
-use Rattle.gq_model.specs.declared.program.Section.TheVariants.{Main}
+use Rattle.gq_model.specs.declared.section.Section.TheVariants.{Main}
 use Rattle.gq_verify.specs.declared.asked.Asker.{Asker}
 use Rattle.gq_budget.specs.internal.Run_rounds.{Asks}
 

@@ -1,7 +1,7 @@
 -- What is counted of a leaf's sections.
 use Rattle.std.specs.Prelude.{◌≡◌, ℕ, List, [], ◌∷◌}
 use Rattle.gq_model.specs.machine.Program.{Statements}
-use Rattle.gq_model.specs.declared.program.Section.{Section}
+use Rattle.gq_model.specs.declared.section.Section.{Section}
 use Rattle.gq_model.specs.rules.Kinds.{Subject}
 use Rattle.gq_model.specs.rules.Budgets.{section_cost, section_requests}
 use Rattle.gq_verify.specs.Saturated_numbers.{saturated}

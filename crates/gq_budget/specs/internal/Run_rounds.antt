@@ -1,8 +1,8 @@
 -- How often sections run, round by round.
 use Rattle.std.specs.Prelude.{ℕ, zero, suc, ◌+◌, ◌*◌, if◌then◌else◌, Bool, List, [], ◌∷◌, ◌++◌, Option, Some, None, get_or}
-use Rattle.gq_model.specs.machine.Program.{same_section}
-use Rattle.gq_model.specs.declared.program.Section.{Section}
-use Rattle.gq_model.specs.declared.program.Section.TheVariants.{Main}
+use Rattle.gq_model.specs.machine.Sections.{same_section}
+use Rattle.gq_model.specs.declared.section.Section.{Section}
+use Rattle.gq_model.specs.declared.section.Section.TheVariants.{Main}
 use Rattle.gq_verify.specs.declared.asked.Asker.{Asker}
 use Rattle.gq_verify.specs.Requested.{Requested}
 use Rattle.gq_verify.specs.Askers.{askers_of}

@@ -1,7 +1,7 @@
 -- Bodies as bytes spell them, one statement after the other.
 use Rattle.std.specs.Prelude.{◌≡◌, ℕ, nat_lt, ◌==◌, if◌then◌else◌, Option, Some, None, List, ◌++◌, length, Result, Ok, Err}
 use Rattle.gq_model.specs.declared.program.Instruction.{Instruction}
-use Rattle.gq_model.specs.declared.program.Section.{Section}
+use Rattle.gq_model.specs.declared.section.Section.{Section}
 use Rattle.gq_model.specs.declared.fault.CodeFault.TheVariants.{Truncated, UnknownOpcode, BadNesting, BadOperand}
 use Rattle.gq_model.specs.machine.Program.{Statements, Done, Do, If, Loop, ◌then◌}
 use Rattle.gq_model.specs.texts.Spelling.{Shape, spellings, shape_of_opcode}

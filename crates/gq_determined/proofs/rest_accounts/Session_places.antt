@@ -5,9 +5,9 @@ use Rattle.std.proofs.lemmas.Bool.Decides.{eqb_tells}
 use Rattle.std.proofs.lemmas.List.Sums.{sum_by-cons}
 use Rattle.gq_model.specs.declared.phase.Phase.{Phase}
 use Rattle.gq_model.specs.declared.phase.Phase.TheVariants.{Pending, Running, Blocked, Serving, Handling, Exited}
-use Rattle.gq_model.specs.declared.program.Section.TheVariants.{Main}
+use Rattle.gq_model.specs.declared.section.Section.TheVariants.{Main}
 use Rattle.gq_model.specs.machine.Scenario.{Scenario, System, Component, system}
-use Rattle.gq_model.specs.machine.World.{Session, Current, Leaf, World, joined, session_at}
+use Rattle.gq_model.specs.machine.World.{Session, Current, Leaf, World, joined, session_at, section_of}
 use Rattle.gq_model.specs.machine.Sums.{places, slot_places, to_leaf}
 use Rattle.gq_model.specs.rules.Flow.{bank_at, body, context, start_of}
 use Rattle.gq_model.specs.rules.Kinds.{Kind, AbstractState, Subject, kind_places, no_kinds}
@@ -17,7 +17,7 @@ use Rattle.gq_laws.specs.Current_section_facts.{bank_kinds, current_section, sec
 use Rattle.gq_laws.specs.Session_links.{Fits, stance, stance_in}
 use Rattle.gq_laws.specs.Stands.{Stands}
 use Rattle.gq_laws.specs.Typed.{CurrentMeets}
-use Rattle.gq_laws.specs.Typing.{FitsService, IsInSection, StandsBy, section_of}
+use Rattle.gq_laws.specs.Typing.{FitsService, IsInSection, StandsBy}
 use Rattle.gq_laws.specs.internal.Verified_holdings.{IsBounded}
 use Rattle.gq_laws.specs.internal.Uncounted.{uncounted}
 use Rattle.gq_laws.proofs.held_resources.Own_slot_bounds.{goes_same, points_light}

@@ -5,13 +5,13 @@ use Rattle.std.proofs.lemmas.Bool.{true≢false, or_cases}
 use Rattle.gq_model.specs.declared.program.Instruction.TheVariants.{Open}
 use Rattle.gq_model.specs.declared.program.OperandSlot.{OperandSlot}
 use Rattle.gq_model.specs.declared.program.OperandSlot.TheVariants.{Own, Shared, Object}
-use Rattle.gq_model.specs.declared.program.Section.{Section}
+use Rattle.gq_model.specs.declared.section.Section.{Section}
 use Rattle.gq_model.specs.machine.Lists.{any_of}
 use Rattle.gq_model.specs.machine.Program.{Statements, Done, Do, If, Loop}
 use Rattle.gq_model.specs.machine.Routes.{server_of}
 use Rattle.gq_model.specs.machine.Scenario.{System, Component}
 use Rattle.gq_model.specs.machine.World.{SlotId, Session, Current, Leaf, session_at, slot_id_of}
-use Rattle.gq_model.specs.rules.Kinds.{in_main}
+use Rattle.gq_model.specs.machine.Sections.{is_own_section}
 use Rattle.gq_model.specs.rules.Use.{services_of, services_in, is_there, uses}
 use Rattle.gq_model.proofs.Small_facts.{none_some, some_same}
 use Rattle.gq_laws.specs.Session_links.{stance, stance_in}
@@ -38,8 +38,8 @@ opened_uses u x c test (p ∷ rest) e = elim (or_cases (test p.0 && opens u x c 
     second false b e = absurd cc
 
 pub there_uses : (u : System) (x : ℕ) (c : Component) (later : Bool) → opens_at u x c later ≡ true → uses u c x ≡ true
-there_uses u x c false e = opened_uses u x c in_main c.node.program.sections e
-there_uses u x c true e = opened_uses u x c (λ s. not (in_main s)) c.node.program.sections e
+there_uses u x c false e = opened_uses u x c is_own_section c.node.program.sections e
+there_uses u x c true e = opened_uses u x c (λ s. not (is_own_section s)) c.node.program.sections e
 
 module _ (u : System) (g : Tracked) (t : IsTracked u g) (stateless : IsStateless u g.world) (x : ℕ) (c : Component) (at : slice_get u.components x ≡ Some c)
     (leaf : Leaf) (there : slice_get g.world.leaves x ≡ Some leaf) (place : OperandSlot) (service : List ℕ) (n : ℕ) (rest : Statements)

@@ -6,12 +6,12 @@ use Rattle.std.specs.Prelude.{slice_get}
 use Rattle.std.proofs.lemmas.Bool.{true≢false, or_left, or_parts, or_right, or_cases}
 use Rattle.gq_model.specs.declared.program.Instruction.{Instruction}
 use Rattle.gq_model.specs.declared.program.Instruction.TheVariants.{Open}
-use Rattle.gq_model.specs.declared.program.Section.{Section}
+use Rattle.gq_model.specs.declared.section.Section.{Section}
 use Rattle.gq_model.specs.machine.Lists.{any_of}
 use Rattle.gq_model.specs.machine.Program.{Statements, Done, Do, If, Loop, size}
 use Rattle.gq_model.specs.machine.Routes.{server_of}
 use Rattle.gq_model.specs.machine.Scenario.{Scenario, System, Component, system}
-use Rattle.gq_model.specs.rules.Kinds.{in_main}
+use Rattle.gq_model.specs.machine.Sections.{is_own_section}
 use Rattle.gq_model.specs.rules.Use.{opened_by, services_of, is_there}
 use Rattle.gq_model.proofs.Small_facts.{none_some, some_same, equal_self}
 use Rattle.gq_laws.specs.Shapes.{Each}
@@ -151,12 +151,12 @@ module _ (u : System) (x : ℕ) (c : Component) (G : Instruction → Type 0) whe
 
   -- what a section of the program opens
   section_reach : (p : Section × Statements) → ((test : Section × Statements → Bool) → test p ≡ true → any_of test c.node.program.sections ≡ true)
-      → Reach (not (in_main p.0)) (services_of p.1)
-  section_reach p among server e = by (in_main p.0) refl
+      → Reach (not (is_own_section p.0)) (services_of p.1)
+  section_reach p among server e = by (is_own_section p.0) refl
     where
-      by : (b : Bool) → in_main p.0 ≡ b → opens_at u server c (not b) ≡ true
-      by true is = among (λ p. in_main p.0 && opens u server c p.1) (ap (λ b. b && opens u server c p.1) is ∙ e)
-      by false is = among (λ p. not (in_main p.0) && opens u server c p.1) (ap (λ b. not b && opens u server c p.1) is ∙ e)
+      by : (b : Bool) → is_own_section p.0 ≡ b → opens_at u server c (not b) ≡ true
+      by true is = among (λ p. is_own_section p.0 && opens u server c p.1) (ap (λ b. b && opens u server c p.1) is ∙ e)
+      by false is = among (λ p. not (is_own_section p.0) && opens u server c p.1) (ap (λ b. not b && opens u server c p.1) is ∙ e)
 
   -- sections that have no such statement
   pub sections_none : (test : Section → Instruction → Bool) (sections : List (Section × Statements)) → stated_in test c.label sections ≡ []
@@ -169,10 +169,10 @@ module _ (u : System) (x : ℕ) (c : Component) (G : Instruction → Type 0) whe
 
   pub sections_there : (sections : List (Section × Statements)) → Each (λ p. AllAre G p.1) sections
       → ((test : Section × Statements → Bool) → any_of test sections ≡ true → any_of test c.node.program.sections ≡ true)
-      → Each (λ p. AllAre (OpensThere u c (not (in_main p.0))) p.1) sections
+      → Each (λ p. AllAre (OpensThere u c (not (is_own_section p.0))) p.1) sections
   sections_there [] g among = tt
   sections_there (p ∷ rest) g among = (
-    there_all (not (in_main p.0)) p.1 g.0 (section_reach p (λ test e. among test (or_left (test p) (any_of test rest) e))),
+    there_all (not (is_own_section p.0)) p.1 g.0 (section_reach p (λ test e. among test (or_left (test p) (any_of test rest) e))),
     sections_there rest g.1 (λ test e. among test (or_right (test p) (any_of test rest) e)),
   )
 
@@ -207,9 +207,9 @@ pub away_sections : (kind : Bool → Instruction → Bool) (test : Instruction �
     → AreSections (λ x c later i. KeepsAway test (uncounted (system s)) x later i) (uncounted (system s))
 away_sections kind test less s sound none x c at =
     let u = uncounted (system s) in
-    each_other _ (λ p. AllAre (KeepsAway test u x (not (in_main p.0))) p.1)
-    (λ p h. all_other (λ i. kind (for_several (is_shared u x) p.0) i ≡ false) (KeepsAway test u x (not (in_main p.0))) (λ i q later single.
-    less i (ap (λ b. kind b i) (sym (several (is_shared u x) (not (in_main p.0)) later single)) ∙ q)) p.1 h)
+    each_other _ (λ p. AllAre (KeepsAway test u x (not (is_own_section p.0))) p.1)
+    (λ p h. all_other (λ i. kind (for_several (is_shared u x) p.0) i ≡ false) (KeepsAway test u x (not (is_own_section p.0))) (λ i q later single.
+    less i (ap (λ b. kind b i) (sym (several (is_shared u x) (not (is_own_section p.0)) later single)) ∙ q)) p.1 h)
     c.node.program.sections (none_sections kind s sound none x c at)
   where
     several : (shared later : Bool) → later ≡ true → not shared ≡ false → (shared && later) ≡ true
@@ -228,10 +228,11 @@ pub free_sections : (s : Scenario) → IsSound s → IsRaceFree s → AreSection
 free_sections s sound none x c at =
     let u = uncounted (system s) in
     let sections = c.node.program.sections in
-    each_other _ (λ p. AllAre (IsFree u x c (not (in_main p.0))) p.1)
-    (λ p h. all_three (KeepsAway changes_own u x (not (in_main p.0))) (OpensThere u c (not (in_main p.0))) (λ i. reads_input i ≡ false) p.1 h.0 h.1 h.2)
+    each_other _ (λ p. AllAre (IsFree u x c (not (is_own_section p.0))) p.1)
+    (λ p h.
+    let b = not (is_own_section p.0) in all_three (KeepsAway changes_own u x b) (OpensThere u c b) (λ i. reads_input i ≡ false) p.1 h.0 h.1 h.2)
     sections
-    (each_three (λ p. AllAre (KeepsAway changes_own u x (not (in_main p.0))) p.1) (λ p. AllAre (OpensThere u c (not (in_main p.0))) p.1)
+    (each_three (λ p. AllAre (KeepsAway changes_own u x (not (is_own_section p.0))) p.1) (λ p. AllAre (OpensThere u c (not (is_own_section p.0))) p.1)
     (λ p. AllAre (λ i. reads_input i ≡ false) p.1) sections
     (away_sections is_race changes_own (λ i e. (or_parts (changes_own i) (reads_input i) e).0) s sound none x c at)
     (sections_there u x c (IsGood (system s) c) sections (good_of s sound x c at) (λ test e. e)) (unread_sections s sound none x c at))

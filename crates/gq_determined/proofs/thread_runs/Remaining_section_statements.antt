@@ -2,11 +2,11 @@
 use Rattle.std.proofs.Common.{◌≡◌, ℕ, zero, suc, ◌⊎◌, inl, inr, Bool, true, false, cond, nat_lt, not, List, [], ◌∷◌, Option, Some, None, Ok, refl, sym, ap, ◌∙◌}
 use Rattle.std.proofs.Common.{is_some, subst}
 use Rattle.std.specs.Prelude.{slice_get, slice_set}
-use Rattle.gq_model.specs.machine.Program.{Statements, Done, Do, If, Loop, ◌then◌, same_section, section_in, body_of}
+use Rattle.gq_model.specs.machine.Program.{Statements, Done, Do, If, Loop, ◌then◌, section_in, body_of}
+use Rattle.gq_model.specs.machine.Sections.{same_section, is_own_section}
 use Rattle.gq_model.specs.declared.program.Instruction.{Instruction}
-use Rattle.gq_model.specs.declared.program.Section.{Section}
-use Rattle.gq_model.specs.declared.program.Section.TheVariants.{Main, Opening, Upgrading, Calling, Closing}
-use Rattle.gq_model.specs.rules.Kinds.{in_main}
+use Rattle.gq_model.specs.declared.section.Section.{Section}
+use Rattle.gq_model.specs.declared.section.Section.TheVariants.{Main, Opening, Upgrading, Calling, Closing}
 use Rattle.gq_model.specs.declared.phase.Phase.{Phase}
 use Rattle.gq_model.specs.declared.phase.Phase.TheVariants.{Pending, Running, Blocked, Serving, Handling, Exited}
 use Rattle.gq_model.specs.machine.Scenario.{System, Component}
@@ -45,7 +45,7 @@ released_get name (c ∷ cs) (l ∷ leaves) (suc y) leaf e = released_get name c
 
 -- STATEMENTS
 
-main_same : (s t : Section) → same_section s t ≡ true → in_main t ≡ in_main s
+main_same : (s t : Section) → same_section s t ≡ true → is_own_section t ≡ is_own_section s
 main_same Main Main e = refl
 main_same Opening Opening e = refl
 main_same (Upgrading a) (Upgrading b) e = refl
@@ -72,7 +72,7 @@ main_same (Closing a) Opening e = refl
 main_same (Closing a) (Upgrading b) e = refl
 main_same (Closing a) (Calling b) e = refl
 
-asked_out : (ask : Ask) (level : ℕ) → in_main (section_for ask level) ≡ false
+asked_out : (ask : Ask) (level : ℕ) → is_own_section (section_for ask level) ≡ false
 asked_out Ask_open level = refl
 asked_out Ask_upgrade level = refl
 asked_out Ask_close level = refl
@@ -90,8 +90,8 @@ module _ (Q : Instruction → Type 0) where
   all_chosen (suc n) arm other h k = h
 
 -- of a section, where it is of each of these
-all_of_body : (Q : Bool → Instruction → Type 0) (s : Section) (b : Bool) → in_main s ≡ b → (sections : List (Section × Statements))
-    → Each (λ p. AllAre (Q (not (in_main p.0))) p.1) sections → AllAre (Q (not b)) (body_of (section_in s sections))
+all_of_body : (Q : Bool → Instruction → Type 0) (s : Section) (b : Bool) → is_own_section s ≡ b → (sections : List (Section × Statements))
+    → Each (λ p. AllAre (Q (not (is_own_section p.0))) p.1) sections → AllAre (Q (not b)) (body_of (section_in s sections))
 all_of_body Q s b is [] h = tt
 all_of_body Q s b is (t ∷ rest) h = by (same_section s t.0) refl (all_of_body Q s b is rest h.1)
   where
@@ -114,7 +114,7 @@ module _ (P : ℕ → Component → Bool → Instruction → Type 0) (system : S
   -- of the sections of each program
   abbrev pub AreSections : Type 0
   AreSections = (x : ℕ) (c : Component) → slice_get system.components x ≡ Some c
-      → Each (λ p. AllAre (P x c (not (in_main p.0))) p.1) c.node.program.sections
+      → Each (λ p. AllAre (P x c (not (is_own_section p.0))) p.1) c.node.program.sections
 
   abbrev pub LeftAt : ℕ → Leaf → Type 0
   LeftAt x leaf = (c : Component) → slice_get system.components x ≡ Some c → Left x c leaf

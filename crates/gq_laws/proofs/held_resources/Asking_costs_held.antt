@@ -8,15 +8,15 @@ use Rattle.gq_model.specs.declared.program.Instruction.TheVariants.{Open, Upgrad
 use Rattle.gq_model.specs.declared.phase.Phase.TheVariants.{Blocked}
 use Rattle.gq_model.specs.machine.Program.{Statements}
 use Rattle.gq_model.specs.machine.Scenario.{Interface, interface_in, upgrade_caps}
-use Rattle.gq_model.specs.machine.World.{Link, Waiting, SlotId, In_session, Session, Ask, Current, Leaf, World, session_at, session_slot, slot_at}
+use Rattle.gq_model.specs.machine.World.{Link, Waiting, SlotId, In_session, Session, Ask, Current, Leaf, World, session_at, session_slot, slot_at, section_of}
 use Rattle.gq_model.specs.machine.Doing.{Doing, Event}
-use Rattle.gq_model.specs.machine.Step.{section_for, instruct}
+use Rattle.gq_model.specs.machine.Step.{section_for, instruct, level_then}
 use Rattle.gq_model.specs.machine.Requests.{new_session}
 use Rattle.gq_model.specs.rules.Kinds.{Kind, AbstractState, Context, need_of}
 use Rattle.gq_model.specs.rules.Rules.{judged}
 use Rattle.gq_model.specs.rules.Flow.{context}
 use Rattle.gq_model.specs.rules.Use.{subject}
-use Rattle.gq_laws.specs.Current_section_facts.{counts_of, within, level_then, section_asked}
+use Rattle.gq_laws.specs.Current_section_facts.{counts_of, within, section_asked}
 use Rattle.gq_model.specs.Promises.{EachOf}
 use Rattle.gq_laws.specs.Shapes.{Each}
 use Rattle.gq_laws.specs.Session_links.{Waits, named, naming_in, outline, outline_in, stance, links, IsLinkedWorld}
@@ -24,7 +24,7 @@ use Rattle.gq_laws.specs.internal.Lending.{given_by}
 use Rattle.gq_laws.specs.Typed.{Meets}
 use Rattle.gq_laws.specs.Inside_steps.{TakesLeaf, Grants}
 use Rattle.gq_laws.specs.Asking.{promised_anew, ReportsLinks, IsAsk, Awaits}
-use Rattle.gq_laws.specs.Typing.{section_of, IsTypedBy}
+use Rattle.gq_laws.specs.Typing.{IsTypedBy}
 use Rattle.gq_laws.specs.internal.Verified_holdings.{IsBounded, bank_part, CostsWithin, GivesFor}
 use Rattle.gq_model.proofs.Small_facts.{some_same}
 use Rattle.gq_laws.proofs.session_links.Asked_request_changes.{each_map, each_end, none_of}

@@ -10,17 +10,16 @@ use Rattle.gq_model.specs.declared.program.Instruction.{Instruction}
 use Rattle.gq_model.specs.declared.program.Instruction.TheVariants.{Open, Upgrade, Call, Close}
 use Rattle.gq_model.specs.machine.Lists.{greatest}
 use Rattle.gq_model.specs.machine.Scenario.{Component}
-use Rattle.gq_model.specs.machine.World.{Waiting, Link, In_leaf, Session, Ask, Leaf, World, session_at, slot_at, leaf_slot}
+use Rattle.gq_model.specs.machine.World.{Waiting, Link, In_leaf, Session, Ask, Leaf, World, session_at, slot_at, leaf_slot, section_of}
 use Rattle.gq_model.specs.machine.Doing.{Doing, Event}
-use Rattle.gq_model.specs.machine.Step.{section_for, instruct}
+use Rattle.gq_model.specs.machine.Step.{section_for, instruct, level_then}
 use Rattle.gq_model.specs.rules.Kinds.{Kind, AbstractState, Context, kinds_cost}
-use Rattle.gq_laws.specs.Current_section_facts.{level_then}
 use Rattle.gq_model.specs.rules.Use.{subject}
 use Rattle.gq_laws.specs.Session_links.{Waits, named, naming_in, Belongs, outline_in, links, IsLinkedWorld}
 use Rattle.gq_laws.specs.internal.Lending.{given_by}
 use Rattle.gq_laws.specs.Inside_steps.{TakesLeaf}
 use Rattle.gq_laws.specs.Asking.{IsServed, Awaits, promised_anew}
-use Rattle.gq_laws.specs.Typing.{section_of, StandsBy, IsTypedBy}
+use Rattle.gq_laws.specs.Typing.{StandsBy, IsTypedBy}
 use Rattle.gq_laws.specs.internal.Verified_holdings.{IsBounded, main_points, own_part, PeaksWithin, HoldsWithin, AllHold}
 use Rattle.gq_model.proofs.Small_facts.{some_same}
 use Rattle.gq_laws.proofs.verified_programs.Kind_costs.{NoClose, StaysOpen}

@@ -1,7 +1,7 @@
 -- Whatever a step does, what sessions cost and were given stays within what they need.
 use Rattle.std.proofs.Common.{◌≡◌, ℕ, Option, Some, None, Ok, refl, ap, sym, ◌∙◌, subst}
 use Rattle.std.specs.Prelude.{slice_get}
-use Rattle.gq_model.specs.machine.World.{Current, World, session_at}
+use Rattle.gq_model.specs.machine.World.{Current, World, session_at, section_of}
 use Rattle.gq_model.specs.machine.Doing.{Doing, Event}
 use Rattle.gq_model.specs.machine.Step.{section_ended}
 use Rattle.gq_model.specs.rules.Kinds.{Kind, AbstractState}
@@ -11,7 +11,7 @@ use Rattle.gq_laws.specs.Session_links.{stance, IsLinkedWorld}
 use Rattle.gq_laws.specs.Typed.{Meets}
 use Rattle.gq_laws.specs.Inside_steps.{TakesLeaf}
 use Rattle.gq_laws.specs.Asking.{promised_anew}
-use Rattle.gq_laws.specs.Typing.{section_of, IsTypedBy}
+use Rattle.gq_laws.specs.Typing.{IsTypedBy}
 use Rattle.gq_laws.specs.internal.Verified_holdings.{IsBounded}
 use Rattle.gq_laws.proofs.verified_programs.Sure_system_facts.{IsSure}
 use Rattle.gq_laws.proofs.typed_worlds.Typed_world_promises.{stood}

@@ -8,8 +8,8 @@ use Rattle.gq_model.specs.machine.Amounts.{Resource}
 use Rattle.gq_model.specs.machine.Lists.{greatest}
 use Rattle.gq_model.specs.declared.phase.Phase.{Phase}
 use Rattle.gq_model.specs.declared.phase.Phase.TheVariants.{Pending, Running, Blocked, Serving, Handling, Exited}
-use Rattle.gq_model.specs.declared.program.Section.{Section}
-use Rattle.gq_model.specs.declared.program.Section.TheVariants.{Main, Opening, Upgrading, Calling, Closing}
+use Rattle.gq_model.specs.declared.section.Section.{Section}
+use Rattle.gq_model.specs.declared.section.Section.TheVariants.{Main, Opening, Upgrading, Calling, Closing}
 use Rattle.gq_model.specs.declared.fault.Wrong.TheVariants.{WrongKind, ExceededQuota, MissingSection}
 use Rattle.gq_model.specs.machine.Program.{section_in, body_of}
 use Rattle.gq_model.specs.machine.Scenario.{System, Component}
@@ -27,7 +27,8 @@ use Rattle.gq_laws.specs.Typed.{Meets}
 use Rattle.gq_laws.specs.internal.Lending.{given_by, slot_given}
 use Rattle.gq_laws.specs.Inside_steps.{TakesLeaf, LeavesOthers, KeepsSessionIn, IsInside}
 use Rattle.gq_laws.specs.Reply_stances.{slot_replied, session_replied, own_then, resuming, Replies, HasEnded}
-use Rattle.gq_laws.specs.Typing.{section_of, StandsBy, IsInSection, IsTypedBy, Extra}
+use Rattle.gq_laws.specs.Typing.{StandsBy, IsInSection, IsTypedBy, Extra}
+use Rattle.gq_model.specs.machine.World.{section_of}
 use Rattle.gq_laws.specs.internal.Verified_holdings.{IsBounded, main_points, own_part, PeaksWithin, HoldsNone, HoldsWithin, AllHold}
 use Rattle.gq_laws.proofs.step_shapes.Step_end_shapes.{Ends, gives, need_ends, need_found, when_ends}
 use Rattle.gq_model.proofs.Small_facts.{some_same}

@@ -7,15 +7,16 @@ use Rattle.std.proofs.lemmas.List.Sums.{sum_by-cons}
 use Rattle.gq_model.specs.machine.Amounts.{Resource, part}
 use Rattle.gq_model.specs.machine.Resource_prices.{price_memory}
 use Rattle.gq_model.specs.declared.program.Form.TheVariants.{Slice}
-use Rattle.gq_model.specs.declared.program.Section.{Section}
-use Rattle.gq_model.specs.declared.program.Section.TheVariants.{Main, Opening, Upgrading, Calling, Closing}
+use Rattle.gq_model.specs.declared.section.Section.{Section}
+use Rattle.gq_model.specs.declared.section.Section.TheVariants.{Main, Opening, Upgrading, Calling, Closing}
 use Rattle.gq_model.specs.declared.phase.Phase.{Phase}
 use Rattle.gq_model.specs.declared.phase.Phase.TheVariants.{Pending, Running, Blocked, Serving, Handling, Exited}
 use Rattle.gq_model.specs.machine.Scenario.{Interface, System, Component, interface_in, number_of}
 use Rattle.gq_model.specs.machine.World.{Slot, Empty, Waiting, Bytes, Pool, Link, In_session, In_object, Session, Current, Leaf, World, session_at, slot_at}
 use Rattle.gq_model.specs.machine.World.{session_slot, session_object}
 use Rattle.gq_model.specs.machine.Sums.{slot_price}
-use Rattle.gq_model.specs.rules.Kinds.{Kind, Memory, AbstractState, level_of, kind_price, kinds_cost, session_cost, need_of}
+use Rattle.gq_model.specs.rules.Kinds.{Kind, Memory, AbstractState, kind_price, kinds_cost, session_cost, need_of}
+use Rattle.gq_model.specs.machine.Sections.{level_of}
 use Rattle.gq_model.specs.rules.Use.{subject}
 use Rattle.gq_laws.specs.Current_section_facts.{section_asked}
 use Rattle.gq_model.specs.Promises.{EachOf}
@@ -23,7 +24,8 @@ use Rattle.gq_laws.specs.Shapes.{Each}
 use Rattle.gq_laws.specs.Session_links.{Waits, naming_in, outline, outline_in, stance, stance_in, links, Belongs, IsAt, Handles, IsLinkedWorld}
 use Rattle.gq_laws.specs.Typed.{IsKind, AreKinds, IsCurrent, CurrentMeets}
 use Rattle.gq_laws.specs.Reply_stances.{once_replied}
-use Rattle.gq_laws.specs.Typing.{section_of, GoesOnFrom, IsInSection, StandsBy, IsTypedBy}
+use Rattle.gq_laws.specs.Typing.{GoesOnFrom, IsInSection, StandsBy, IsTypedBy}
+use Rattle.gq_model.specs.machine.World.{section_of}
 use Rattle.gq_laws.specs.internal.Verified_holdings.{IsBounded, bank_part}
 use Rattle.gq_model.proofs.Small_facts.{some_same}
 use Rattle.gq_laws.proofs.session_links.Asked_request_changes.{same_phase}

@@ -4,8 +4,8 @@ use Rattle.std.specs.Prelude.{slice_get, slice_set}
 use Rattle.std.proofs.lemmas.Bool.Decides.{eqb_tells}
 use Rattle.gq_model.specs.machine.Amounts.{Resource, part}
 use Rattle.gq_model.specs.declared.phase.Phase.TheVariants.{Serving}
-use Rattle.gq_model.specs.declared.program.Section.{Section}
-use Rattle.gq_model.specs.declared.program.Section.TheVariants.{Main, Opening, Upgrading, Calling, Closing}
+use Rattle.gq_model.specs.declared.section.Section.{Section}
+use Rattle.gq_model.specs.declared.section.Section.TheVariants.{Main, Opening, Upgrading, Calling, Closing}
 use Rattle.gq_model.specs.machine.Program.{section_in, body_of}
 use Rattle.gq_model.specs.machine.Scenario.{Interface, System, interface_in}
 use Rattle.gq_model.specs.machine.World.{Slot, Waiting, In_session, Session, Ask, Ask_open, Ask_upgrade, Ask_close, Ask_call, Request, Current, Leaf, World}
@@ -22,7 +22,8 @@ use Rattle.gq_laws.specs.internal.Lending.{given_by, slot_given}
 use Rattle.gq_laws.specs.Typed.{Meets}
 use Rattle.gq_laws.specs.Inside_steps.{TakesLeaf, bare, IsElse, KeepsSession, KeepsSessionIn, LeavesOthers, LeadsOn}
 use Rattle.gq_laws.specs.Reply_stances.{Replies, slot_replied, session_replied}
-use Rattle.gq_laws.specs.Typing.{section_of, IsTypedBy}
+use Rattle.gq_laws.specs.Typing.{IsTypedBy}
+use Rattle.gq_model.specs.machine.World.{section_of}
 use Rattle.gq_laws.specs.internal.Verified_holdings.{IsBounded, bank_part, CostsWithin, GivesFor}
 use Rattle.gq_laws.proofs.step_shapes.Step_end_shapes.{Ends, gives, need_ends, when_ends}
 use Rattle.gq_model.proofs.Small_facts.{some_same, none_some}

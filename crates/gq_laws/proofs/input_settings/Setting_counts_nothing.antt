@@ -1,5 +1,5 @@
 -- A setting is no step: each leaf has taken as many as before, and can run, or is at rest, where it could or was before.
-use Rattle.std.proofs.Common.{◌≡◌, ℕ, zero, suc, Bool, true, not, cond, List, [], ◌∷◌, map, Option, Some, None, refl, ap, sym, ◌∙◌}
+use Rattle.std.proofs.Common.{◌≡◌, ℕ, zero, suc, not, cond, List, [], ◌∷◌, map, Option, Some, None, refl, ap, sym, ◌∙◌}
 use Rattle.std.specs.Prelude.{is_some, slice_get, slice_set}
 use Rattle.gq_model.specs.declared.phase.Phase.{Phase}
 use Rattle.gq_model.specs.declared.phase.Phase.TheVariants.{Pending, Running, Blocked, Serving, Handling, Exited}
@@ -9,7 +9,7 @@ use Rattle.gq_model.specs.machine.Step.{is_to, kept_before, oldest}
 use Rattle.gq_model.specs.machine.World.{Request, Leaf, World, session_at, with_leaf}
 use Rattle.gq_laws.specs.Progress.{rests, AllRest}
 use Rattle.gq_laws.specs.Turn_effects.{runs, runs_as, can_run, steps_of}
-use Rattle.gq_model.proofs.Small_facts.{some_same, none_some}
+use Rattle.gq_model.proofs.Small_facts.{some_same}
 use Rattle.gq_laws.proofs.input_settings.Setting_keeps_invariants.{of_setting}
 use Rattle.gq_laws.proofs.input_settings.World_with_inputs.{at_leaf, was}
 

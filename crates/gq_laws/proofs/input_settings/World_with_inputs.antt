@@ -1,28 +1,26 @@
 -- A leaf with other inputs: what holds of the world with it.
-use Rattle.std.proofs.Common.{◌≡◌, ℕ, ◌+◌, ◌≤◌, inl, inr, true, List, [], ◌∷◌, length, Option, Some, None, refl, ap, sym, ◌∙◌, subst, arith}
-use Rattle.std.specs.Prelude.{slice_get, slice_set}
+use Rattle.std.proofs.Common.{◌≡◌, ℕ, ◌+◌, ◌≤◌, inl, inr, true, List, [], ◌∷◌, length, Option, Some, refl, ap, sym, ◌∙◌, subst, arith}
+use Rattle.std.specs.Prelude.{slice_get}
 use Rattle.std.proofs.lemmas.Bool.Decides.{eqb_tells}
 use Rattle.gq_model.specs.declared.program.Instruction.{Instruction}
-use Rattle.gq_model.specs.declared.program.Section.{Section}
+use Rattle.gq_model.specs.declared.section.Section.{Section}
 use Rattle.gq_model.specs.declared.phase.Phase.{Phase}
 use Rattle.gq_model.specs.declared.phase.Phase.TheVariants.{Pending, Running, Blocked, Serving, Handling, Exited}
-use Rattle.gq_model.specs.machine.Amounts.{Resource, part}
-use Rattle.gq_model.specs.machine.Program.{Statements}
+use Rattle.gq_model.specs.machine.Amounts.{Resource}
 use Rattle.gq_model.specs.machine.Accounts.{handed_to}
 use Rattle.gq_model.specs.machine.Scenario.{Scenario, System, Component, system}
-use Rattle.gq_model.specs.machine.Sums.{handed, paid}
-use Rattle.gq_model.specs.machine.World.{Session, Ask, Ask_open, Ask_upgrade, Ask_close, Ask_call, Request, Round, Leaf, World, session_at, with_leaf}
-use Rattle.gq_model.specs.rules.Kinds.{Kind, AbstractState}
+use Rattle.gq_model.specs.machine.Sums.{paid}
+use Rattle.gq_model.specs.machine.World.{Ask, Ask_open, Ask_upgrade, Ask_close, Ask_call, Request, Leaf, World, session_at, with_leaf, section_of}
+use Rattle.gq_model.specs.rules.Kinds.{Kind}
 use Rattle.gq_model.specs.rules.Use.{subject, from_sections, steps_of}
 use Rattle.gq_laws.specs.Current_section_facts.{current_section}
 use Rattle.gq_laws.specs.Session_links.{links, IsLinkedWorld}
 use Rattle.gq_laws.specs.Leaf_phases.{Suits, NotExited, AreReady}
 use Rattle.gq_laws.specs.Room.{HasRoomFor, HasRoomAsked, HasRoomIfCalled, IsRoomy}
-use Rattle.gq_laws.specs.Shapes.{Each, AreInputs, IsWholeWorld}
-use Rattle.gq_laws.specs.Typing.{Extra, section_of, IsInSection, StandsBy, IsTypedBy}
+use Rattle.gq_laws.specs.Typing.{Extra, IsInSection, StandsBy, IsTypedBy}
 use Rattle.gq_laws.specs.internal.Section_counts.{Often, Requests, ahead, served_at, asks_at, waiting_in, waiting, Counts}
 use Rattle.gq_laws.specs.internal.Init_quanta.{Fit}
-use Rattle.gq_laws.specs.internal.Verified_holdings.{HoldsWithin, AllHold, AllCost, IsHeld}
+use Rattle.gq_laws.specs.internal.Verified_holdings.{HoldsWithin, IsHeld}
 use Rattle.gq_laws.specs.internal.Remaining_instructions.{IsLeft, AreLeft}
 use Rattle.gq_laws.proofs.session_links.Linked_after_accept.{same_linked}
 use Rattle.gq_laws.proofs.session_links.Asked_request_changes.{each_map}
@@ -32,7 +30,6 @@ use Rattle.gq_laws.proofs.quota_payment.Written_world_prices.{same_price, leaf_n
 use Rattle.gq_laws.proofs.quota_payment.Init_quanta_bounded.{fit_less, spent_same}
 use Rattle.gq_laws.proofs.progress.Opened_services_invariant.{AllOpened}
 use Rattle.gq_laws.proofs.remaining_work.Remaining_program_statements.{set_get}
-use Rattle.gq_laws.proofs.step_shapes.Whole_worlds.{whole_set}
 use Rattle.gq_laws.proofs.typed_worlds.Main_end_typed.{SameCurrent, stands_same, same_typed}
 
 -- WHERE A LEAF STANDS

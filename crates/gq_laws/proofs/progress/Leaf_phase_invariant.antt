@@ -1,6 +1,6 @@
 -- In each world that a resolved scenario comes to, a leaf that is pending or has exited provides no service, one that serves does, and a pending
 -- leaf starts after one that has not exited.
-use Rattle.std.proofs.Common.{◌≡◌, ◌≢◌, ℕ, zero, suc, ◌⊎◌, inl, inr, Bool, true, false, cond, nat_lt, List, [], ◌∷◌, Option, Some, None, Ok, refl, ap}
+use Rattle.std.proofs.Common.{◌≡◌, ℕ, zero, suc, ◌⊎◌, inl, inr, Bool, true, false, cond, nat_lt, List, [], ◌∷◌, Option, Some, None, Ok, refl, ap}
 use Rattle.std.proofs.Common.{sym, ◌∙◌, subst}
 use Rattle.std.specs.Prelude.{slice_get, slice_set, is_some}
 use Rattle.gq_model.specs.machine.Program.{Statements, Done, Do, If, Loop, text_eq}

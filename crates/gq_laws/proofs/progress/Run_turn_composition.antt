@@ -10,7 +10,7 @@ use Rattle.gq_model.specs.machine.Run.{Ran, Acts, after_step, turn_from, turns_o
 use Rattle.gq_laws.specs.Sound_scenarios.{IsSound}
 use Rattle.gq_laws.specs.Stands.{Stands}
 use Rattle.gq_laws.proofs.upheld_worlds.Standing_world_invariant.{stands_first, stands_next, stands_set, stands_upheld}
-use Rattle.gq_laws.specs.Progress.{world_after, Move, Turn_of, Setting_of, after_move, after_moves, moves_of, each_move, RunsThrough}
+use Rattle.gq_laws.specs.Progress.{world_after, Move, Turn_of, after_move, after_moves, moves_of, each_move, RunsThrough}
 
 after_both : (system : System) (w : World) (xs ys : List Move) → after_moves system w (xs ++ ys) ≡ after_moves system (after_moves system w xs) ys
 after_both system w [] ys = refl

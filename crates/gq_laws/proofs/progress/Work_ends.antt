@@ -19,7 +19,7 @@ use Rattle.gq_model.proofs.Small_facts.{some_same, none_some, get_within}
 use Rattle.gq_laws.proofs.step_shapes.Step_counting.{index_there, counts_steps, stands_still}
 use Rattle.gq_laws.proofs.quota_payment.Written_world_prices.{sum_set}
 use Rattle.gq_laws.proofs.upheld_worlds.Standing_world_invariant.{stands_upheld}
-use Rattle.gq_laws.specs.Progress.{rests, AllRest, world_after, Move, Turn_of, Setting_of, after_move, after_moves, steps_by, steps_in, taken as taken_by}
+use Rattle.gq_laws.specs.Progress.{rests, AllRest, world_after, Move, Turn_of, Setting_of, after_move, after_moves, steps_by, taken as taken_by}
 use Rattle.gq_laws.specs.Progress.{budgeted, WorkEnds, is_turn_of, IsRound, after_rounds}
 use Rattle.gq_laws.specs.Progress.{RoundsSuffice}
 use Rattle.gq_laws.proofs.progress.Lasting_world_invariant.{Lasts, lasts_next, lasts_set}

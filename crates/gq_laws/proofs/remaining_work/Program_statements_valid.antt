@@ -8,9 +8,10 @@ use Rattle.gq_model.specs.machine.Amounts.{Ram, Caps}
 use Rattle.gq_model.specs.declared.program.Instruction.{Instruction}
 use Rattle.gq_model.specs.declared.program.Instruction.TheVariants.{Open}
 use Rattle.gq_model.specs.machine.Program.{Statements, Done, Do, If, Loop, size, Program, text_eq}
-use Rattle.gq_model.specs.declared.program.Section.{Section}
+use Rattle.gq_model.specs.declared.section.Section.{Section}
 use Rattle.gq_model.specs.texts.Operands.{greatest_number, operands, in_range}
-use Rattle.gq_model.specs.texts.Code.{is_body, is_section, section_number, are_sections, greatest_statements, IsProgram}
+use Rattle.gq_model.specs.texts.Code.{is_body, are_sections, greatest_statements, IsProgram}
+use Rattle.gq_model.specs.machine.Sections.{is_section, section_number}
 use Rattle.gq_model.specs.machine.Scenario.{LeafNode, Component, System, components, Scenario, system}
 use Rattle.gq_model.specs.machine.Routes.{To, route, numbered, leaf_routed, server_of}
 use Rattle.gq_model.specs.rules.Use.{opened_by, services_of, services_in, services}

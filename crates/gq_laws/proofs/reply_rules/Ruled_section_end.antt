@@ -4,14 +4,15 @@ use Rattle.std.proofs.Common.{subst}
 use Rattle.std.specs.Prelude.{nat_le, slice_get}
 use Rattle.gq_model.specs.declared.program.OperandSlot.TheVariants.{Shared}
 use Rattle.gq_model.specs.declared.program.Form.TheVariants.{Space, Slice, Block}
-use Rattle.gq_model.specs.declared.program.Section.{Section}
-use Rattle.gq_model.specs.declared.program.Section.TheVariants.{Main, Opening, Upgrading, Calling, Closing}
+use Rattle.gq_model.specs.declared.section.Section.{Section}
+use Rattle.gq_model.specs.declared.section.Section.TheVariants.{Main, Opening, Upgrading, Calling, Closing}
 use Rattle.gq_model.specs.machine.Scenario.{number_of, service_in}
 use Rattle.gq_model.specs.machine.World.{Slot, Empty, Bytes, Pool, Link, Waiting, In_leaf, In_session, Session, Current, session_at, leaf_slot, session_slot}
 use Rattle.gq_model.specs.machine.World.{slot_id_of}
 use Rattle.gq_model.specs.machine.Doing.{Doing, Stepped}
 use Rattle.gq_model.specs.machine.Step.{is_empty, all_empty, is_space_of, no_link, reply, main_ended, section_ended}
-use Rattle.gq_model.specs.rules.Kinds.{Kind, Empty_kind, Memory, Pool_kind, Link_kind, AbstractState, Subject, Context, in_main, same_kinds}
+use Rattle.gq_model.specs.rules.Kinds.{Kind, Empty_kind, Memory, Pool_kind, Link_kind, AbstractState, Subject, Context, same_kinds}
+use Rattle.gq_model.specs.machine.Sections.{is_own_section}
 use Rattle.gq_model.specs.declared.fault.Rule.TheVariants.{LeftoverOperand, ValueTooLarge, SessionBankChanged}
 use Rattle.gq_laws.specs.Current_section_facts.{Under}
 use Rattle.gq_model.specs.rules.Rules.{must, is_empty_kind}
@@ -126,7 +127,8 @@ module _ (promised : ℕ → Option Kind) (c : Context) (d : Doing) (t : TakesLe
       (ap (λ (s : AbstractState). has_link s.own) (sym none.1) ∙ links))
       (safe_gives _ _ tt)
 
-  bank_safe : (section : Section) (current : Current) → d.leaf.current ≡ Some current → in_main section ≡ false → section_end c.subject section state ≡ Ok last
+  bank_safe : (section : Section) (current : Current) → d.leaf.current ≡ Some current → is_own_section section ≡ false
+      → section_end c.subject section state ≡ Ok last
       → (s : Session) → session_at d.world current.session ≡ Some s → AreKinds promised s.slots state.bank → Safe (reply d current.session section s)
   bank_safe Main current handed outside e s there kinds = absurd (true≢false outside)
   bank_safe Opening current handed outside e s there kinds =
@@ -166,7 +168,7 @@ module _ (promised : ℕ → Option Kind) (c : Context) (d : Doing) (t : TakesLe
       → CurrentMeets promised c state.bank d.world current → Safe (section_ended d current)
   ends_safe e None handed at bank = main_safe (by c.section at e) d.component.node.provides refl
     where
-      by : (section : Section) → in_main section ≡ true → section_end c.subject section state ≡ Ok last → section_end c.subject Main state ≡ Ok last
+      by : (section : Section) → is_own_section section ≡ true → section_end c.subject section state ≡ Ok last → section_end c.subject Main state ≡ Ok last
       by Main at e = e
       by Opening at e = absurd (false≢true at)
       by (Upgrading l) at e = absurd (false≢true at)

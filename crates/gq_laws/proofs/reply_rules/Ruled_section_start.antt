@@ -2,16 +2,17 @@
 use Rattle.std.proofs.Common.{◌≡◌, ◌≤◌, ℕ, false, List, [], ◌∷◌, length, replicate, Option, Some, refl, ap, subst}
 use Rattle.std.proofs.lemmas.List.{length-replicate}
 use Rattle.gq_model.specs.declared.program.Form.TheVariants.{Slice}
-use Rattle.gq_model.specs.declared.program.Section.{Section}
+use Rattle.gq_model.specs.declared.section.Section.{Section}
 use Rattle.gq_model.specs.machine.Program.{section_in, body_of}
 use Rattle.gq_model.specs.machine.Scenario.{interface_in, number_of}
 use Rattle.gq_model.specs.rules.Use.{subject}
 use Rattle.gq_model.specs.machine.World.{Bytes, Session, Ask, Ask_open, Ask_upgrade, Ask_close, Ask_call, Request, Leaf, World, session_at, with_session}
 use Rattle.gq_model.specs.machine.Doing.{Doing, standing}
-use Rattle.gq_model.specs.machine.Step.{section_for, accepted_as, beginning, accept}
-use Rattle.gq_model.specs.rules.Kinds.{Kind, Memory, Subject, in_main}
+use Rattle.gq_model.specs.machine.Step.{section_for, accepted_as, beginning, accept, level_then}
+use Rattle.gq_model.specs.rules.Kinds.{Kind, Memory, Subject}
+use Rattle.gq_model.specs.machine.Sections.{is_own_section}
 use Rattle.gq_model.specs.rules.Flow.{first_bounds, bank_before, own_before}
-use Rattle.gq_laws.specs.Current_section_facts.{Under, level_then}
+use Rattle.gq_laws.specs.Current_section_facts.{Under}
 use Rattle.gq_laws.specs.Typed.{IsKind, AreKinds}
 use Rattle.gq_laws.specs.Inside_steps.{IsSafe, TakesLeaf}
 use Rattle.gq_laws.specs.Section_rules.{IsAtRest, Begins, BeginsAsRuled}
@@ -31,7 +32,7 @@ module _ (promised : ℕ → Option Kind) (d : Doing) (t : TakesLeaf d) (eight :
   world_at section ops s = with_session (record (standing d (leaf_at section ops)) { requests = rest }) k s
 
   -- the leaf at the start of a section, with the current session
-  begins : (ask : Ask) (section : Section) (ops : List ℕ) (old new : Session) → session_at d.world k ≡ Some old → in_main section ≡ false
+  begins : (ask : Ask) (section : Section) (ops : List ℕ) (old new : Session) → session_at d.world k ≡ Some old → is_own_section section ≡ false
       → AreKinds promised d.leaf.slots (own_before v section) → AreKinds promised new.slots (bank_before v section)
       → IsKind promised new.object (Memory Slice (number_of v.provided (λ i. i.object))) → Under ops (first_bounds v.provided section)
       → Begins promised v section d (record { session = k; ask = ask }) (world_at section ops new)

@@ -23,7 +23,8 @@ use Rattle.gq_model.specs.machine.Doing.{Doing, need, fill, with_operands}
 use Rattle.gq_model.specs.machine.Requests.{add_session, free_place, new_session, asked, link_in}
 use Rattle.gq_model.specs.rules.Rules.{is_empty_kind, link_kind, may_change, called, judge}
 use Rattle.gq_model.specs.machine.Step.{instruct}
-use Rattle.gq_model.specs.rules.Kinds.{Kind, Empty_kind, Memory, Pool_kind, Link_kind, AbstractState, Context, in_main, kind_at, with_kind}
+use Rattle.gq_model.specs.rules.Kinds.{Kind, Empty_kind, Memory, Pool_kind, Link_kind, AbstractState, Context, kind_at, with_kind}
+use Rattle.gq_model.specs.machine.Sections.{is_own_section}
 use Rattle.gq_laws.specs.Current_section_facts.{Under}
 use Rattle.gq_laws.specs.Session_links.{Naming, Leads, named, naming_in, outline_in, links, IsLinkedWorld}
 use Rattle.gq_laws.specs.Typed.{IsKind, Meets}
@@ -112,7 +113,7 @@ module _ (promised : ℕ → Option Kind) (c : Context) (d : Doing) (t : TakesLe
   slot_place : (place : OperandSlot) (l : List ℕ × ℕ × Amount) → link_kind (kind_at c state place) ≡ Some l → IsSlotPlace place
   slot_place (Own i) l e = tt
   slot_place (Shared i) l e = tt
-  slot_place Object l e = by (in_main c.section) e
+  slot_place Object l e = by (is_own_section c.section) e
     where
       by : (b : Bool) → link_kind (cond b None (Some (Memory Slice (number_of c.subject.provided (λ i. i.object))))) ≡ Some l → ⊥
       by true e = none_some e
@@ -156,7 +157,7 @@ module _ (promised : ℕ → Option Kind) (c : Context) (d : Doing) (t : TakesLe
 
   kind_stays : (place : OperandSlot) (kind : Kind) → kind_at c state place ≡ Some kind → with_kind state place kind ≡ state
   kind_stays (Own i) kind e = ap (λ o. record state { own = o }) (set_there state.own i kind e)
-  kind_stays (Shared i) kind e = by (in_main c.section) e
+  kind_stays (Shared i) kind e = by (is_own_section c.section) e
     where
       by : (b : Bool) → cond b None (slice_get state.bank i) ≡ Some kind → with_kind state (Shared i) kind ≡ state
       by true e = absurd (none_some e)
@@ -263,7 +264,7 @@ module _ (promised : ℕ → Option Kind) (c : Context) (d : Doing) (t : TakesLe
   empty_place : (place : OperandSlot) (kind : Kind) → kind_at c state place ≡ Some kind → is_empty_kind kind ≡ true → IsSlotPlace place
   empty_place (Own i) kind e empty = tt
   empty_place (Shared i) kind e empty = tt
-  empty_place Object kind e empty = by (in_main c.section) e
+  empty_place Object kind e empty = by (is_own_section c.section) e
     where
       no : false ≡ true → ⊥
       no e = cc

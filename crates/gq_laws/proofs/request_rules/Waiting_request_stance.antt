@@ -14,9 +14,9 @@ use Rattle.gq_model.specs.machine.World.{Leaf, World, session_at, with_leaf, wit
 use Rattle.gq_model.specs.machine.World.{put_session_slot, slot_id_of}
 use Rattle.gq_model.specs.machine.Doing.{Doing, Quiet, with_operands}
 use Rattle.gq_model.specs.machine.Requests.{asked}
-use Rattle.gq_model.specs.machine.Step.{section_for}
+use Rattle.gq_model.specs.machine.Step.{section_for, level_then}
 use Rattle.gq_model.specs.rules.Kinds.{Kind, Memory, AbstractState, Context, with_kind}
-use Rattle.gq_laws.specs.Current_section_facts.{Under, level_then, kind_replied}
+use Rattle.gq_laws.specs.Current_section_facts.{Under, kind_replied}
 use Rattle.gq_laws.specs.Session_links.{Naming, named, naming_in, Links, links}
 use Rattle.gq_laws.specs.Typed.{IsKind, AreKinds, IsCurrent, BankMeets, CurrentMeets, AreCounts, Meets}
 use Rattle.gq_laws.specs.Inside_steps.{IsSafe, TakesLeaf}

@@ -8,7 +8,7 @@ use Rattle.gq_model.specs.declared.program.Form.TheVariants.{Block, Space}
 use Rattle.gq_model.specs.declared.program.Width.TheVariants.{Byte}
 use Rattle.gq_model.specs.declared.program.Instruction.{Instruction}
 use Rattle.gq_model.specs.declared.program.Instruction.TheVariants.{Out, Make, Load, Free, Open, Call, Close}
-use Rattle.gq_model.specs.declared.program.Section.TheVariants.{Main, Opening, Calling, Closing}
+use Rattle.gq_model.specs.declared.section.Section.TheVariants.{Main, Opening, Calling, Closing}
 use Rattle.gq_model.specs.machine.Scenario.{Scenario, LeafNode, system}
 use Rattle.gq_model.specs.declared.fault.Rule.{Rule}
 use Rattle.gq_model.specs.declared.fault.Rule.TheVariants as rule

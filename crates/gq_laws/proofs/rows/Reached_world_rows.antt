@@ -1,12 +1,12 @@
 -- Worlds that are reached, on a worked run by computation: a server and its client.
-use Rattle.std.proofs.Common.{◌≡◌, ℕ, true, false, List, [], ◌∷◌, length, map, codes, Option, Some, None, refl}
+use Rattle.std.proofs.Common.{◌≡◌, ℕ, true, false, [], ◌∷◌, length, map, codes, Option, Some, None, refl}
 use Rattle.std.specs.Prelude.{slice_get, sum_by}
 use Rattle.gq_model.specs.declared.act.Act.TheVariants.{Turns}
 use Rattle.gq_model.specs.machine.Amounts.{Ram, part}
 use Rattle.gq_model.specs.declared.program.Form.TheVariants.{Space}
 use Rattle.gq_model.specs.declared.phase.Phase.{Phase}
 use Rattle.gq_model.specs.declared.phase.Phase.TheVariants.{Handling}
-use Rattle.gq_model.specs.declared.program.Section.TheVariants.{Closing}
+use Rattle.gq_model.specs.declared.section.Section.TheVariants.{Closing}
 use Rattle.gq_model.specs.machine.Scenario.{Scenario, system}
 use Rattle.gq_model.specs.machine.World.{Bytes, In_leaf, Session, Current, Leaf, World, with_slot, start}
 use Rattle.gq_model.specs.machine.Run.{run, Acts}

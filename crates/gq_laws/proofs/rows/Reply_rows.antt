@@ -5,7 +5,7 @@ use Rattle.gq_model.specs.machine.Amounts.{amount}
 use Rattle.gq_model.specs.declared.act.Act.TheVariants.{Turns}
 use Rattle.gq_model.specs.declared.phase.Phase.TheVariants.{Running}
 use Rattle.gq_model.specs.declared.program.Form.TheVariants.{Space}
-use Rattle.gq_model.specs.declared.program.Section.TheVariants.{Main, Opening}
+use Rattle.gq_model.specs.declared.section.Section.TheVariants.{Main, Opening}
 use Rattle.gq_model.specs.machine.Program.{Done}
 use Rattle.gq_model.specs.machine.Scenario.{System, system}
 use Rattle.gq_model.specs.machine.World.{Empty, In_object, Session, Current, Leaf, World, session_at}

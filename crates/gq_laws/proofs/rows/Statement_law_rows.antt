@@ -5,7 +5,7 @@ use Rattle.gq_model.specs.declared.act.Act.TheVariants.{Turns}
 use Rattle.gq_model.specs.machine.Amounts.{Amount, amount}
 use Rattle.gq_model.specs.declared.phase.Phase.TheVariants.{Running, Blocked}
 use Rattle.gq_model.specs.declared.program.Form.{Form}
-use Rattle.gq_model.specs.declared.program.Section.TheVariants.{Main}
+use Rattle.gq_model.specs.declared.section.Section.TheVariants.{Main}
 use Rattle.gq_model.specs.machine.Program.{Done}
 use Rattle.gq_model.specs.machine.Scenario.{System, system}
 use Rattle.gq_model.specs.machine.World.{Empty, Bytes, Link, SlotId, In_leaf, In_session, In_object, Session, Leaf, World, session_at, slot_at}

@@ -4,20 +4,21 @@ use Rattle.std.proofs.Common.{arith}
 use Rattle.std.specs.Prelude.{slice_get}
 use Rattle.std.proofs.lemmas.Bool.Decides.{eqb_tells}
 use Rattle.gq_model.specs.declared.program.Instruction.{Instruction}
-use Rattle.gq_model.specs.declared.program.Section.{Section}
-use Rattle.gq_model.specs.declared.program.Section.TheVariants.{Main}
+use Rattle.gq_model.specs.declared.section.Section.{Section}
+use Rattle.gq_model.specs.declared.section.Section.TheVariants.{Main}
 use Rattle.gq_model.specs.declared.phase.Phase.TheVariants.{Blocked}
-use Rattle.gq_model.specs.machine.Program.{Statements, Do, same_section}
+use Rattle.gq_model.specs.machine.Program.{Statements, Do}
+use Rattle.gq_model.specs.machine.Sections.{same_section}
 use Rattle.gq_model.specs.machine.Scenario.{System, Component}
 use Rattle.gq_model.specs.machine.Routes.{server_of}
-use Rattle.gq_model.specs.machine.World.{Session, Leaf, World, session_at}
+use Rattle.gq_model.specs.machine.World.{Session, Leaf, World, session_at, section_of}
 use Rattle.gq_model.specs.machine.Doing.{Doing, Event}
-use Rattle.gq_model.specs.machine.Step.{section_for, instruct}
+use Rattle.gq_model.specs.machine.Step.{section_for, instruct, level_then}
 use Rattle.gq_model.specs.rules.Kinds.{Kind, AbstractState, Context}
 use Rattle.gq_model.specs.rules.Rules.{judged}
 use Rattle.gq_model.specs.rules.Flow.{context}
 use Rattle.gq_model.specs.rules.Budgets.{cost, is_one, asks}
-use Rattle.gq_laws.specs.Current_section_facts.{counts_of, level_then, within, Continues}
+use Rattle.gq_laws.specs.Current_section_facts.{counts_of, within, Continues}
 use Rattle.gq_laws.specs.internal.Section_counts.{rounds_cost}
 use Rattle.gq_model.specs.rules.Use.{subject, from_sections, provided_by, steps_of}
 use Rattle.gq_laws.specs.Session_links.{outline, outline_in, IsLinkedWorld}
@@ -25,7 +26,7 @@ use Rattle.gq_laws.specs.internal.Remaining.{left_requests}
 use Rattle.gq_laws.specs.Typed.{Meets}
 use Rattle.gq_laws.specs.Inside_steps.{TakesLeaf, Grants}
 use Rattle.gq_laws.specs.Asking.{promised_anew, IsServed, Awaits}
-use Rattle.gq_laws.specs.Typing.{section_of, IsTypedBy}
+use Rattle.gq_laws.specs.Typing.{IsTypedBy}
 use Rattle.gq_laws.specs.internal.Carrying.{Carries}
 use Rattle.gq_laws.specs.internal.Section_counts.{Often, Requests, ahead, one_at, served_at, asks_at, waiting_in, waiting, made_for, Within, Counts, IsCounted}
 use Rattle.gq_model.proofs.Small_facts.{some_same}

@@ -4,7 +4,7 @@ use Rattle.std.specs.Prelude.{slice_get}
 use Rattle.std.proofs.lemmas.Bool.Decides.{eqb_tells}
 use Rattle.gq_model.specs.declared.phase.Phase.{Phase}
 use Rattle.gq_model.specs.machine.Scenario.{Component}
-use Rattle.gq_model.specs.machine.World.{Session, Current, Leaf, World, session_at}
+use Rattle.gq_model.specs.machine.World.{Session, Current, Leaf, World, session_at, section_of}
 use Rattle.gq_model.specs.machine.Doing.{Doing}
 use Rattle.gq_model.specs.rules.Kinds.{Kind, Context}
 use Rattle.gq_model.specs.rules.Flow.{context}
@@ -15,7 +15,7 @@ use Rattle.gq_laws.specs.Session_links.{IsLinkedWorld}
 use Rattle.gq_laws.specs.internal.Remaining.{left_requests}
 use Rattle.gq_laws.specs.internal.Remaining_instructions.{IsGood}
 use Rattle.gq_laws.specs.Inside_steps.{TakesLeaf, LeadsOn, KeepsSessionIn, LeavesOthers}
-use Rattle.gq_laws.specs.Typing.{section_of, IsTypedBy}
+use Rattle.gq_laws.specs.Typing.{IsTypedBy}
 use Rattle.gq_laws.specs.internal.Section_counts.{Often, Requests, ahead, served_at, waiting_in, Within, Counts, IsCounted}
 use Rattle.gq_model.proofs.Small_facts.{some_same}
 use Rattle.gq_laws.proofs.remaining_work.Move_step_count.{all_have_round, cost_move}

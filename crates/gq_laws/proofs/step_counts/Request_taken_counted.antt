@@ -2,17 +2,16 @@
 use Rattle.std.proofs.Common.{◌≡◌, ◌≢◌, ◌≤◌, ℕ, ◌+◌, ◌==◌, inl, inr, cond, List, [], Option, Some, Ok, refl, ap, sym, ◌∙◌, subst, arith}
 use Rattle.std.specs.Prelude.{slice_get}
 use Rattle.std.proofs.lemmas.Bool.Decides.{eqb_tells}
-use Rattle.gq_model.specs.declared.program.Section.{Section}
+use Rattle.gq_model.specs.declared.section.Section.{Section}
 use Rattle.gq_model.specs.declared.phase.Phase.TheVariants.{Serving}
 use Rattle.gq_model.specs.machine.Program.{Statements, section_in, body_of}
 use Rattle.gq_model.specs.machine.Scenario.{Component}
 use Rattle.gq_model.specs.machine.World.{Session, Ask, Ask_open, Ask_upgrade, Ask_close, Ask_call, Request, Leaf, World, session_at}
 use Rattle.gq_model.specs.machine.Doing.{Doing, Event, Quiet, standing}
-use Rattle.gq_model.specs.machine.Step.{oldest, section_for, first_operands, accepted_as, beginning, accept}
+use Rattle.gq_model.specs.machine.Step.{oldest, section_for, first_operands, accepted_as, beginning, accept, level_then}
 use Rattle.gq_model.specs.rules.Kinds.{Kind, Subject}
 use Rattle.gq_model.specs.rules.Flow.{context, body, start_of}
 use Rattle.gq_model.specs.rules.Budgets.{cost, section_cost, section_requests}
-use Rattle.gq_laws.specs.Current_section_facts.{level_then}
 use Rattle.gq_model.specs.rules.Use.{subject, from_sections, steps_of}
 use Rattle.gq_laws.specs.Session_links.{outline, outline_in, links, requests_of, IsAsked, Stands, IsLinkedWorld}
 use Rattle.gq_laws.specs.internal.Remaining.{left_requests}

@@ -7,7 +7,7 @@ use Rattle.gq_model.specs.declared.phase.Phase.{Phase}
 use Rattle.gq_model.specs.declared.phase.Phase.TheVariants.{Pending, Running, Blocked, Serving, Handling, Exited}
 use Rattle.gq_model.specs.machine.Program.{Done}
 use Rattle.gq_model.specs.machine.Scenario.{Component}
-use Rattle.gq_model.specs.machine.World.{Slot, Session, Current, Leaf, World, session_at}
+use Rattle.gq_model.specs.machine.World.{Slot, Session, Current, Leaf, World, session_at, section_of}
 use Rattle.gq_model.specs.machine.Doing.{Doing, Event, Quiet, Finished, standing}
 use Rattle.gq_model.specs.machine.Step.{is_named, released, all_released, exited, exit_of, serving, resumed, main_ended, section_ended}
 use Rattle.gq_model.specs.rules.Kinds.{Kind, AbstractState, Context}
@@ -19,7 +19,7 @@ use Rattle.gq_laws.specs.Session_links.{stance, IsLinkedWorld}
 use Rattle.gq_laws.specs.Typed.{Meets}
 use Rattle.gq_laws.specs.Inside_steps.{TakesLeaf}
 use Rattle.gq_laws.specs.Reply_stances.{HasEnded, Replies, slot_replied, own_then, resuming}
-use Rattle.gq_laws.specs.Typing.{section_of, IsTypedBy}
+use Rattle.gq_laws.specs.Typing.{IsTypedBy}
 use Rattle.gq_laws.specs.internal.Section_counts.{Often, Requests, ahead, served_at, waiting_in, Within, Counts, IsCounted}
 use Rattle.gq_laws.proofs.step_shapes.Step_end_shapes.{Ends, gives, when_ends}
 use Rattle.gq_model.proofs.Small_facts.{some_same, none_some}

@@ -2,12 +2,13 @@
 use Rattle.std.proofs.Common.{◌≡◌, ◌≤◌, ℕ, ◌+◌, ◌==◌, ◌&&◌, cond, Bool, true, false, List, [], ◌∷◌, Option, Some, None, Ok, refl, ap, sym, ◌∙◌}
 use Rattle.std.proofs.Common.{subst, arith}
 use Rattle.std.specs.Prelude.{slice_get}
-use Rattle.gq_model.specs.declared.program.Section.{Section}
-use Rattle.gq_model.specs.declared.program.Section.TheVariants.{Main, Opening, Upgrading, Calling, Closing}
-use Rattle.gq_model.specs.machine.Program.{Statements, same_section, section_in, body_of}
+use Rattle.gq_model.specs.declared.section.Section.{Section}
+use Rattle.gq_model.specs.declared.section.Section.TheVariants.{Main, Opening, Upgrading, Calling, Closing}
+use Rattle.gq_model.specs.machine.Program.{Statements, section_in, body_of}
+use Rattle.gq_model.specs.machine.Sections.{same_section, is_own_section}
 use Rattle.gq_model.specs.machine.Scenario.{System, Component}
 use Rattle.gq_model.specs.machine.World.{Leaf, first_phase, start_leaf, start}
-use Rattle.gq_model.specs.rules.Kinds.{AbstractState, Subject, in_main}
+use Rattle.gq_model.specs.rules.Kinds.{AbstractState, Subject}
 use Rattle.gq_model.specs.rules.Flow.{flow, context, body, start_of}
 use Rattle.gq_model.specs.rules.Budgets.{cost, section_cost, section_requests}
 use Rattle.gq_model.specs.rules.Use.{subject, from_sections, steps_of}
@@ -53,10 +54,10 @@ abbrev left_of : System → Option Component → List ℕ → Section → ℕ
 left_of system None service section = 0
 left_of system (Some c) service section = section_requests (subject system c) Main service section
 
-not_main : (x : ℕ) (section : Section) → in_main section ≡ false → one_at x Main x section ≡ 0
+not_main : (x : ℕ) (section : Section) → is_own_section section ≡ false → one_at x Main x section ≡ 0
 not_main x section e = by (x == x) (same_section section Main) (other section e)
   where
-    other : (section : Section) → in_main section ≡ false → same_section section Main ≡ false
+    other : (section : Section) → is_own_section section ≡ false → same_section section Main ≡ false
     other Main e = absurd cc
     other Opening e = refl
     other (Upgrading l) e = refl

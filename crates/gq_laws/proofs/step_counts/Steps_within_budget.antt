@@ -2,14 +2,14 @@
 use Rattle.std.proofs.Common.{◌≡◌, ◌≤◌, ℕ, zero, suc, ◌+◌, cond, Bool, true, false, List, [], ◌∷◌, map, length, Option, Some, None, Ok, refl, ap, sym, ◌∙◌}
 use Rattle.std.proofs.Common.{subst, arith}
 use Rattle.std.specs.Prelude.{slice_get, slice_index}
-use Rattle.gq_model.specs.declared.program.Section.{Section}
-use Rattle.gq_model.specs.declared.program.Section.TheVariants.{Main}
+use Rattle.gq_model.specs.declared.section.Section.{Section}
+use Rattle.gq_model.specs.declared.section.Section.TheVariants.{Main}
 use Rattle.gq_model.specs.machine.Scenario.{Scenario, System, Component, components, system}
 use Rattle.gq_model.specs.machine.Routes.{is_service, server_of}
 use Rattle.gq_model.specs.machine.World.{Leaf, World, start}
 use Rattle.gq_model.specs.machine.Doing.{Doing, Event, Stepped, Idle}
 use Rattle.gq_model.specs.machine.Step.{step_of, next}
-use Rattle.gq_model.specs.rules.Kinds.{in_main}
+use Rattle.gq_model.specs.machine.Sections.{is_own_section}
 use Rattle.gq_model.specs.rules.Use.{subject, is_there, from_sections, from_leaves, asked_of, provided_by, times, step_budget}
 use Rattle.gq_laws.specs.Session_links.{IsLinkedWorld}
 use Rattle.gq_laws.specs.Shapes.{IsWholeWorld}
@@ -160,7 +160,7 @@ module _ (system : System) (w : World) (k : IsCounted system w) where
           subst (λ m. k.made m service section ≤ from_sections (k.done m) (subject system c) service section c.node.program.sections) same (omega (arith, most))
 
   -- a section other than `main` is asked for no more often than sections that were asked for ask for it
-  pub done_below : (x : ℕ) (section : Section) → in_main section ≡ false
+  pub done_below : (x : ℕ) (section : Section) → is_own_section section ≡ false
       → k.done x section ≤ asked_of k.done system x section (provided_by (slice_get system.components x))
   done_below x section other =
       let a = k.counts.asked x section other in
@@ -172,7 +172,7 @@ module _ (system : System) (w : World) (k : IsCounted system w) where
 -- no leaf takes more steps than its budget
 pub steps_within : (s : Scenario)
     → (counts_bounded : (done : ℕ → Section → ℕ) → ((x : ℕ) → done x Main ≤ 1)
-    → ((x : ℕ) (section : Section) → in_main section ≡ false
+    → ((x : ℕ) (section : Section) → is_own_section section ≡ false
     → done x section ≤ asked_of done (system s) x section (provided_by (slice_get (components s) x)))
     → (x : ℕ) (section : Section) → done x section ≤ times (length (components s)) (system s) x section)
     → (w : World) → IsCounted (system s) w → (x : ℕ) (c : Component) (leaf : Leaf) → slice_get (components s) x ≡ Some c → slice_get w.leaves x ≡ Some leaf

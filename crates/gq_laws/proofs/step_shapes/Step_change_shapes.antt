@@ -4,8 +4,8 @@ use Rattle.std.specs.Prelude.{slice_get, slice_set}
 use Rattle.gq_model.specs.declared.program.OperandSlot.{OperandSlot}
 use Rattle.gq_model.specs.declared.program.Instruction.{Instruction}
 use Rattle.gq_model.specs.declared.program.Instruction.TheVariants.{Say, Operands, Open, Upgrade, Call}
-use Rattle.gq_model.specs.declared.program.Section.{Section}
-use Rattle.gq_model.specs.declared.program.Section.TheVariants.{Main, Opening, Upgrading, Calling, Closing}
+use Rattle.gq_model.specs.declared.section.Section.{Section}
+use Rattle.gq_model.specs.declared.section.Section.TheVariants.{Main, Opening, Upgrading, Calling, Closing}
 use Rattle.gq_model.specs.declared.phase.Phase.TheVariants.{Blocked}
 use Rattle.gq_model.specs.declared.fault.Wrong.TheVariants.{WrongKind, ExceededQuota, MissingSection}
 use Rattle.gq_model.specs.machine.Program.{section_in}

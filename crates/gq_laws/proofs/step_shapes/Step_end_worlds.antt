@@ -1,7 +1,7 @@
 -- The worlds that steps end in, by name.
 use Rattle.std.proofs.Common.{◌≡◌, ℕ, List, [], ◌∷◌, ◌++◌, None}
 use Rattle.std.specs.Prelude.{slice_set}
-use Rattle.gq_model.specs.declared.program.Section.{Section}
+use Rattle.gq_model.specs.declared.section.Section.{Section}
 use Rattle.gq_model.specs.declared.phase.Phase.TheVariants.{Running, Blocked, Handling}
 use Rattle.gq_model.specs.machine.Program.{section_in, body_of}
 use Rattle.gq_model.specs.machine.World.{Empty, Waiting, SlotId, Session, Ask, Request, Leaf, World, with_leaf, with_session, with_slot}

@@ -3,20 +3,20 @@ use Rattle.std.proofs.Common.{◌≡◌, ◌≤◌, ◌<◌, ℕ, suc, inl, inr,
 use Rattle.std.specs.Prelude.{slice_get}
 use Rattle.std.proofs.lemmas.Bool.{leb-true}
 use Rattle.gq_model.specs.declared.program.Form.TheVariants.{Slice}
-use Rattle.gq_model.specs.declared.program.Section.{Section}
-use Rattle.gq_model.specs.declared.program.Section.TheVariants.{Upgrading}
+use Rattle.gq_model.specs.declared.section.Section.{Section}
+use Rattle.gq_model.specs.declared.section.Section.TheVariants.{Upgrading}
 use Rattle.gq_model.specs.declared.phase.Phase.TheVariants.{Serving}
 use Rattle.gq_model.specs.machine.Program.{Statements, section_in, body_of}
 use Rattle.gq_model.specs.machine.Scenario.{Interface, System, interface_in, number_of}
 use Rattle.gq_model.specs.machine.World.{Session, Ask, Ask_open, Ask_upgrade, Ask_close, Ask_call, Request, Current, Leaf, World, session_at, with_session}
 use Rattle.gq_model.specs.declared.fault.Wrong.{Wrong}
 use Rattle.gq_model.specs.machine.Doing.{Doing, Stepped, Quiet, need, standing}
-use Rattle.gq_model.specs.machine.Step.{oldest, section_for, first_operands, accepted_as, beginning, accept}
+use Rattle.gq_model.specs.machine.Step.{oldest, section_for, first_operands, accepted_as, beginning, accept, level_then}
 use Rattle.gq_model.specs.rules.Kinds.{Kind, Memory, AbstractState, Subject, no_kinds}
 use Rattle.gq_model.specs.rules.Flow.{flow, context, body, start_of, section_end, own_after, bank_at, bank_before}
 use Rattle.gq_model.specs.rules.Use.{subject}
 use Rattle.gq_model.specs.rules.Verdict.{is_wanted, program_fault}
-use Rattle.gq_laws.specs.Current_section_facts.{level_then, current_section, section_if, kind_replied}
+use Rattle.gq_laws.specs.Current_section_facts.{current_section, section_if, kind_replied}
 use Rattle.gq_laws.specs.Session_links.{outline, outline_in, stance, links, requests_of, is_open, Stands, Fits, IsAsked, IsLinkedWorld}
 use Rattle.gq_laws.specs.Typed.{IsKind, AreKinds}
 use Rattle.gq_laws.specs.Inside_steps.{IsSafe, TakesLeaf}

@@ -3,10 +3,10 @@ use Rattle.std.proofs.Common.{◌≡◌, ℕ, suc, Option, Some, None, Ok, refl}
 use Rattle.std.specs.Prelude.{slice_get}
 use Rattle.gq_model.specs.declared.phase.Phase.{Phase}
 use Rattle.gq_model.specs.declared.phase.Phase.TheVariants.{Pending, Running, Blocked, Serving, Handling, Exited}
-use Rattle.gq_model.specs.declared.program.Section.TheVariants.{Main}
+use Rattle.gq_model.specs.declared.section.Section.TheVariants.{Main}
 use Rattle.gq_model.specs.machine.Program.{Statements, section_in}
 use Rattle.gq_model.specs.machine.Scenario.{Scenario, System, Component, components, system}
-use Rattle.gq_model.specs.machine.World.{Leaf, World, start}
+use Rattle.gq_model.specs.machine.World.{Leaf, World, start, section_of}
 use Rattle.gq_model.specs.machine.Doing.{Doing, Event, Idle}
 use Rattle.gq_model.specs.machine.Step.{step_of, next}
 use Rattle.gq_model.specs.rules.Kinds.{Kind, AbstractState}
@@ -18,7 +18,7 @@ use Rattle.gq_laws.specs.Shapes.{IsWholeWorld}
 use Rattle.gq_laws.specs.Sound_scenarios.{IsSound}
 use Rattle.gq_laws.specs.internal.Remaining_instructions.{AreLeft, IsGood}
 use Rattle.gq_laws.specs.Inside_steps.{IsSafe, TakesLeaf}
-use Rattle.gq_laws.specs.Typing.{Extra, no_extra, section_of, IsInSection, StandsBy, IsTyped}
+use Rattle.gq_laws.specs.Typing.{Extra, no_extra, IsInSection, StandsBy, IsTyped}
 use Rattle.gq_laws.proofs.upheld_worlds.Reached_world_induction.{in_reached}
 use Rattle.gq_laws.proofs.session_links.Linked_worlds.{kept_linked, start_linked}
 use Rattle.gq_laws.proofs.remaining_work.Remaining_program_statements.{start_left, kept_left}

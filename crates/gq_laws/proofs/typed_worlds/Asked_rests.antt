@@ -5,16 +5,16 @@ use Rattle.std.specs.Prelude.{slice_get}
 use Rattle.std.proofs.lemmas.Bool.{le-leb, false≢true}
 use Rattle.std.proofs.lemmas.Bool.Decides.{eqb_tells}
 use Rattle.gq_model.specs.machine.Amounts.{Amount}
-use Rattle.gq_model.specs.declared.program.Section.TheVariants.{Opening, Upgrading, Calling, Closing}
+use Rattle.gq_model.specs.declared.section.Section.TheVariants.{Opening, Upgrading, Calling, Closing}
 use Rattle.gq_model.specs.declared.program.Instruction.{Instruction}
 use Rattle.gq_model.specs.declared.program.Instruction.TheVariants.{Open, Upgrade, Call, Close}
 use Rattle.gq_model.specs.machine.Scenario.{Component, Interface, interface_in}
 use Rattle.gq_model.specs.machine.World.{Empty, SlotId, Session, Ask, Request, Current, Leaf, World, session_at}
 use Rattle.gq_model.specs.machine.Doing.{Doing}
 use Rattle.gq_model.specs.machine.Requests.{new_session}
-use Rattle.gq_model.specs.machine.Step.{section_for}
+use Rattle.gq_model.specs.machine.Step.{section_for, level_then}
 use Rattle.gq_model.specs.rules.Kinds.{Kind, Empty_kind}
-use Rattle.gq_laws.specs.Current_section_facts.{level_then, section_if, current_section, bank_kinds}
+use Rattle.gq_laws.specs.Current_section_facts.{section_if, current_section, bank_kinds}
 use Rattle.gq_model.specs.rules.Verdict.{is_wanted}
 use Rattle.gq_laws.specs.Shapes.{Each}
 use Rattle.gq_laws.specs.Session_links.{outline_in, stance, links, IsLinkedWorld}

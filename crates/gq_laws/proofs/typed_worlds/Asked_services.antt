@@ -9,8 +9,7 @@ use Rattle.gq_model.specs.declared.program.Instruction.TheVariants.{Open, Upgrad
 use Rattle.gq_model.specs.machine.Scenario.{System, Interface, interface_in, number_of}
 use Rattle.gq_model.specs.machine.World.{Link, SlotId, Session, Ask, Ask_call, World, session_at, slot_at, slot_id_of}
 use Rattle.gq_model.specs.machine.Doing.{Doing}
-use Rattle.gq_model.specs.machine.Step.{section_for}
-use Rattle.gq_laws.specs.Current_section_facts.{level_then}
+use Rattle.gq_model.specs.machine.Step.{section_for, level_then}
 use Rattle.gq_model.specs.rules.Kinds.{Kind, Link_kind, AbstractState, Context, kind_at}
 use Rattle.gq_model.specs.rules.Rules.{is_empty_kind, link_kind, may_change, called, judge, judged}
 use Rattle.gq_laws.specs.Typed.{IsKind, Meets}

@@ -11,17 +11,18 @@ use Rattle.gq_model.specs.machine.World.{Slot, Waiting, SlotId, In_leaf, In_sess
 use Rattle.gq_model.specs.machine.World.{leaf_slot}
 use Rattle.gq_model.specs.machine.World.{session_slot, slot_at, Round}
 use Rattle.gq_model.specs.machine.Doing.{Doing}
-use Rattle.gq_model.specs.machine.Step.{section_for}
+use Rattle.gq_model.specs.machine.Step.{section_for, level_then}
 use Rattle.gq_model.specs.rules.Kinds.{Kind, AbstractState, Context, Subject}
 use Rattle.gq_model.specs.rules.Flow.{flow, context, body, start_of}
 use Rattle.gq_model.specs.rules.Use.{subject}
-use Rattle.gq_laws.specs.Current_section_facts.{level_then, section_asked, within, Continues}
+use Rattle.gq_laws.specs.Current_section_facts.{section_asked, within, Continues}
 use Rattle.gq_laws.specs.Session_links.{naming_in, stance, stance_in, links, IsLinkedWorld}
 use Rattle.gq_laws.specs.Typed.{Meets}
 use Rattle.gq_laws.specs.Inside_steps.{TakesLeaf}
 use Rattle.gq_laws.specs.Asking.{promised_anew, while_waiting, Awaits}
 use Rattle.gq_laws.specs.Reply_stances.{once_replied}
-use Rattle.gq_laws.specs.Typing.{Extra, section_of, IsAwaited, IsInSection, StandsBy, StandAll}
+use Rattle.gq_laws.specs.Typing.{Extra, IsAwaited, IsInSection, StandsBy, StandAll}
+use Rattle.gq_model.specs.machine.World.{section_of}
 use Rattle.gq_laws.specs.internal.Carrying.{Carries}
 use Rattle.gq_model.proofs.Small_facts.{some_same, none_some}
 use Rattle.gq_laws.proofs.session_links.Link_free_statements.{stood}
@@ -29,7 +30,7 @@ use Rattle.gq_laws.proofs.request_rules.Promised_slot_kinds.{Free, AreFree, kind
 use Rattle.gq_laws.proofs.typed_worlds.Promised_stance_transfer.{stands_else}
 use Rattle.gq_laws.proofs.typed_worlds.Asked_worlds.{IsMine, Asked, then_else}
 use Rattle.gq_laws.proofs.typed_worlds.Asked_rule_changes.{session_now, asked_else, asked_none, asked_here}
-use Rattle.gq_model.specs.declared.program.Section.{Section}
+use Rattle.gq_model.specs.declared.section.Section.{Section}
 use Rattle.gq_laws.proofs.typed_worlds.Inside_step_typed.{current_else as other_current}
 
 -- SPOTS

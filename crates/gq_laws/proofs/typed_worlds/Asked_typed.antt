@@ -4,19 +4,19 @@ use Rattle.std.specs.Prelude.{slice_get}
 use Rattle.gq_model.specs.declared.program.Instruction.{Instruction}
 use Rattle.gq_model.specs.declared.phase.Phase.TheVariants.{Blocked}
 use Rattle.gq_model.specs.machine.Program.{Statements, section_in}
-use Rattle.gq_model.specs.machine.World.{World}
+use Rattle.gq_model.specs.machine.World.{World, section_of}
 use Rattle.gq_model.specs.machine.Doing.{Doing, Event}
-use Rattle.gq_model.specs.machine.Step.{section_for, instruct}
+use Rattle.gq_model.specs.machine.Step.{section_for, instruct, level_then}
 use Rattle.gq_model.specs.rules.Kinds.{Kind, AbstractState, Context}
 use Rattle.gq_model.specs.rules.Rules.{judged}
 use Rattle.gq_model.specs.rules.Flow.{flow, context, body, start_of}
 use Rattle.gq_model.specs.rules.Use.{subject}
-use Rattle.gq_laws.specs.Current_section_facts.{level_then, kind_replied, within, Continues}
+use Rattle.gq_laws.specs.Current_section_facts.{kind_replied, within, Continues}
 use Rattle.gq_laws.specs.Session_links.{IsLinkedWorld}
 use Rattle.gq_laws.specs.Typed.{Meets}
 use Rattle.gq_laws.specs.Inside_steps.{TakesLeaf, Grants}
 use Rattle.gq_laws.specs.Asking.{promised_anew, ReportsLinks, IsServed, IsWithin, Awaits}
-use Rattle.gq_laws.specs.Typing.{Extra, section_of, IsTypedBy}
+use Rattle.gq_laws.specs.Typing.{Extra, IsTypedBy}
 use Rattle.gq_laws.specs.internal.Carrying.{Carries}
 use Rattle.gq_laws.proofs.typed_worlds.Asked_worlds.{asks_asked}
 use Rattle.gq_laws.proofs.typed_worlds.Asked_services.{knows_service, resumes_at}

@@ -2,27 +2,28 @@
 use Rattle.std.proofs.Common.{◌≡◌, ◌≤◌, ℕ, false, List, [], Option, Some, Ok, refl, sym, ◌∙◌, subst, arith, None}
 use Rattle.std.specs.Prelude.{slice_get}
 use Rattle.gq_model.specs.declared.program.Instruction.{Instruction}
-use Rattle.gq_model.specs.declared.program.Section.{Section}
+use Rattle.gq_model.specs.declared.section.Section.{Section}
 use Rattle.gq_model.specs.declared.phase.Phase.TheVariants.{Serving}
 use Rattle.gq_model.specs.machine.Lists.{greatest}
 use Rattle.gq_model.specs.machine.Program.{Statements, Do, section_in}
 use Rattle.gq_model.specs.machine.Scenario.{System, Component}
-use Rattle.gq_model.specs.machine.World.{Request, Round, World}
+use Rattle.gq_model.specs.machine.World.{Request, Round, World, section_of}
 use Rattle.gq_model.specs.machine.Doing.{Doing, Event}
-use Rattle.gq_model.specs.machine.Step.{oldest, accept, section_ended, section_for, instruct}
-use Rattle.gq_model.specs.rules.Kinds.{Kind, AbstractState, Context, Subject, in_main, level_of}
+use Rattle.gq_model.specs.machine.Step.{oldest, accept, section_ended, section_for, instruct, level_then}
+use Rattle.gq_model.specs.rules.Kinds.{Kind, AbstractState, Context, Subject}
+use Rattle.gq_model.specs.machine.Sections.{is_own_section, level_of}
 use Rattle.gq_model.specs.rules.Rules.{judged}
 use Rattle.gq_model.specs.rules.Flow.{points, context, body, start_of, section_end}
 use Rattle.gq_model.specs.rules.Verdict.{program_fault}
 use Rattle.gq_model.specs.rules.Use.{subject}
-use Rattle.gq_laws.specs.Current_section_facts.{level_then, within, Continues}
+use Rattle.gq_laws.specs.Current_section_facts.{within, Continues}
 use Rattle.gq_laws.specs.Session_links.{IsLinkedWorld}
 use Rattle.gq_laws.specs.Typed.{Meets}
 use Rattle.gq_laws.specs.Moves.{Moves, Does, Chooses, Enters, Repeats, Leaves}
 use Rattle.gq_laws.specs.internal.Remaining.{left_points}
 use Rattle.gq_laws.specs.Inside_steps.{TakesLeaf, LeadsOn, LeavesOthers}
 use Rattle.gq_laws.specs.Asking.{IsServed, Awaits, promised_anew}
-use Rattle.gq_laws.specs.Typing.{no_extra, section_of, IsTypedBy}
+use Rattle.gq_laws.specs.Typing.{no_extra, IsTypedBy}
 use Rattle.gq_laws.specs.internal.Carrying.{Carries}
 use Rattle.gq_laws.specs.internal.Verified_holdings.{Covers, IsBounded}
 use Rattle.gq_model.proofs.Small_facts.{some_same}
@@ -36,7 +37,7 @@ use Rattle.gq_laws.proofs.typed_worlds.Typed_world_step.{Acts, with_rest, goes_t
 use Rattle.gq_model.proofs.Rules_laws.{section_flows}
 
 -- a move keeps a covered session covered
-covers_move : (v : Subject) (section : Section) (s t : AbstractState) (todo left : Statements) (loops around : List Round) → in_main section ≡ false
+covers_move : (v : Subject) (section : Section) (s t : AbstractState) (todo left : Statements) (loops around : List Round) → is_own_section section ≡ false
     → Moves (context v section) s todo loops t left around → Covers v (level_of section) s.bank → Covers v (level_of section) t.bank
 covers_move v section s t todo left loops around inner (Does i rest is judges goes_on same) h =
     judged_covers (within (context v section) loops) s t i inner judges
@@ -54,7 +55,7 @@ abbrev Bounded : System → Section → AbstractState → Statements → List Ro
 Bounded system section state todo loops c =
     ((f : AbstractState → ℕ) → greatest f (left_points (context (subject system c) section) state todo loops)
     ≤ greatest f (points (context (subject system c) section) (start_of (subject system c) section) (body (subject system c) section)))
-    × (in_main section ≡ false → Covers (subject system c) (level_of section) state.bank)
+    × (is_own_section section ≡ false → Covers (subject system c) (level_of section) state.bank)
 
 pub bounded_moves : (system : System) (x : ℕ) (c : Component) (section : Section) (s t end : AbstractState) (todo left : Statements) (loops around : List Round)
     → slice_get system.components x ≡ Some c → Continues (context (subject system c) section) s todo loops end

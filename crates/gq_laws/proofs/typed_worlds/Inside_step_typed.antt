@@ -7,21 +7,21 @@ use Rattle.gq_model.specs.declared.phase.Phase.{Phase}
 use Rattle.gq_model.specs.declared.phase.Phase.TheVariants.{Running, Blocked, Handling}
 use Rattle.gq_model.specs.machine.Program.{Statements, section_in}
 use Rattle.gq_model.specs.machine.Scenario.{System, Component, interface_in, number_of}
-use Rattle.gq_model.specs.machine.World.{Session, Request, Current, Leaf, World, session_at}
+use Rattle.gq_model.specs.machine.World.{Session, Request, Current, Leaf, World, session_at, section_of}
 use Rattle.gq_model.specs.machine.Doing.{Doing}
-use Rattle.gq_model.specs.machine.Step.{section_for}
+use Rattle.gq_model.specs.machine.Step.{section_for, level_then}
 use Rattle.gq_model.specs.rules.Kinds.{Kind, Memory, AbstractState}
 use Rattle.gq_model.specs.rules.Flow.{flow, context, body, start_of}
 use Rattle.gq_model.specs.rules.Use.{subject}
 use Rattle.gq_model.specs.rules.Verdict.{is_wanted}
-use Rattle.gq_laws.specs.Current_section_facts.{level_then, section_if, current_section, section_asked, within, Continues, bank_kinds}
+use Rattle.gq_laws.specs.Current_section_facts.{section_if, current_section, section_asked, within, Continues, bank_kinds}
 use Rattle.gq_laws.specs.Session_links.{stance_in, stance, outline_in, links, IsLinkedWorld}
 use Rattle.gq_laws.specs.Typed.{AreKinds, Meets}
 use Rattle.gq_laws.specs.Inside_steps.{TakesLeaf, LeadsOn, bare, IsElse, KeepsSession, KeepsSessionIn, LeavesOthers}
 use Rattle.gq_laws.specs.Asking.{IsWithin}
 use Rattle.gq_laws.specs.Shapes.{Each}
 use Rattle.gq_laws.specs.Reply_stances.{once_replied}
-use Rattle.gq_laws.specs.Typing.{Extra, kind_then, section_of, IsAwaited, StandsBy, FitsService, FitsRequest, IsTypedBy}
+use Rattle.gq_laws.specs.Typing.{Extra, kind_then, IsAwaited, StandsBy, FitsService, FitsRequest, IsTypedBy}
 use Rattle.gq_laws.specs.internal.Carrying.{Carries}
 use Rattle.gq_model.proofs.Small_facts.{some_same, none_some}
 use Rattle.gq_laws.proofs.session_links.Asked_request_changes.{each_map}

@@ -3,11 +3,11 @@ use Rattle.std.proofs.Common.{◌≡◌, ◌≢◌, ℕ, zero, suc, inl, inr, co
 use Rattle.std.specs.Prelude.{slice_get}
 use Rattle.std.proofs.lemmas.Bool.Decides.{eqb_tells}
 use Rattle.gq_model.specs.machine.Lists.{or_first}
-use Rattle.gq_model.specs.declared.program.Section.TheVariants.{Main}
+use Rattle.gq_model.specs.declared.section.Section.TheVariants.{Main}
 use Rattle.gq_model.specs.declared.phase.Phase.{Phase}
 use Rattle.gq_model.specs.declared.phase.Phase.TheVariants.{Pending, Running, Blocked, Serving, Handling, Exited}
 use Rattle.gq_model.specs.machine.Scenario.{System, Component}
-use Rattle.gq_model.specs.machine.World.{Session, Current, Leaf, World, session_at, Round}
+use Rattle.gq_model.specs.machine.World.{Session, Current, Leaf, World, session_at, Round, section_of}
 use Rattle.gq_model.specs.machine.Doing.{Doing, Event, Quiet, Finished, standing}
 use Rattle.gq_model.specs.machine.Step.{is_named, released, all_released, exited, exit_of, serving, main_ended}
 use Rattle.gq_model.specs.rules.Kinds.{Kind, AbstractState, Context, Subject}
@@ -17,14 +17,14 @@ use Rattle.gq_laws.specs.Current_section_facts.{section_waiting, section_if, cur
 use Rattle.gq_laws.specs.Shapes.{Each}
 use Rattle.gq_laws.specs.Typed.{AreKinds, CurrentMeets, Meets}
 use Rattle.gq_laws.specs.Inside_steps.{TakesLeaf}
-use Rattle.gq_laws.specs.Typing.{Extra, kind_then, section_of, IsAwaited, IsInSection, StandsBy, StandAll, FitsService, FitsRequest, IsTypedBy}
+use Rattle.gq_laws.specs.Typing.{Extra, kind_then, IsAwaited, IsInSection, StandsBy, StandAll, FitsService, FitsRequest, IsTypedBy}
 use Rattle.gq_laws.specs.internal.Carrying.{Carries}
 use Rattle.gq_laws.proofs.step_shapes.Step_end_shapes.{Ends, gives, when_ends}
 use Rattle.gq_model.proofs.Small_facts.{some_same, none_some}
 use Rattle.gq_laws.proofs.session_links.Asked_request_changes.{each_map}
 use Rattle.gq_laws.proofs.session_links.Written_world_links.{set_here, set_else}
 use Rattle.gq_laws.proofs.typed_worlds.Promised_stance_transfer.{stands_else}
-use Rattle.gq_model.specs.declared.program.Section.{Section}
+use Rattle.gq_model.specs.declared.section.Section.{Section}
 use Rattle.gq_model.specs.machine.Program.{Statements}
 use Rattle.gq_laws.proofs.verified_programs.Accepted_program_facts.{own_main}
 

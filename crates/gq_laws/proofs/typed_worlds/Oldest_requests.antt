@@ -1,10 +1,10 @@
 -- The oldest request for a server: it is the first of its session, and of other sessions the same requests are left.
 use Rattle.std.proofs.Common.{◌≡◌, ◌≢◌, ℕ, ◌==◌, inl, inr, cond, Bool, true, false, List, [], ◌∷◌, Option, Some, None, refl, ap, sym, ◌∙◌, subst}
 use Rattle.std.proofs.lemmas.Bool.Decides.{eqb_tells}
-use Rattle.gq_model.specs.declared.program.Section.{Section}
+use Rattle.gq_model.specs.declared.section.Section.{Section}
 use Rattle.gq_model.specs.machine.World.{Session, Request, World, session_at}
-use Rattle.gq_model.specs.machine.Step.{is_to, oldest, kept_before, section_for}
-use Rattle.gq_laws.specs.Current_section_facts.{level_then, section_waiting}
+use Rattle.gq_model.specs.machine.Step.{is_to, oldest, kept_before, section_for, level_then}
+use Rattle.gq_laws.specs.Current_section_facts.{section_waiting}
 use Rattle.gq_model.proofs.Small_facts.{some_same, none_some}
 use Rattle.std.proofs.lemmas.Bool.{false≢true}
 

@@ -2,22 +2,22 @@
 use Rattle.std.proofs.Common.{◌≡◌, ℕ, ◌+◌, ◌==◌, cond, Bool, true, false, List, [], ◌∷◌, Option, Some, None, refl, ap, sym, ◌∙◌, arith}
 use Rattle.std.specs.Prelude.{slice_get}
 use Rattle.gq_model.specs.machine.Lists.{or_first}
-use Rattle.gq_model.specs.declared.program.Section.{Section}
-use Rattle.gq_model.specs.declared.program.Section.TheVariants.{Main, Opening, Upgrading, Calling, Closing}
+use Rattle.gq_model.specs.declared.section.Section.{Section}
+use Rattle.gq_model.specs.declared.section.Section.TheVariants.{Main, Opening, Upgrading, Calling, Closing}
 use Rattle.gq_model.specs.declared.phase.Phase.{Phase}
 use Rattle.gq_model.specs.declared.phase.Phase.TheVariants.{Pending, Running, Blocked, Serving, Handling, Exited}
 use Rattle.gq_model.specs.machine.Program.{Statements}
 use Rattle.gq_model.specs.machine.Scenario.{System, Component}
-use Rattle.gq_model.specs.machine.World.{Session, Request, Current, Round, Leaf, World}
-use Rattle.gq_model.specs.machine.Step.{section_for}
+use Rattle.gq_model.specs.machine.World.{Session, Request, Current, Round, Leaf, World, section_of}
+use Rattle.gq_model.specs.machine.Step.{section_for, level_then}
 use Rattle.gq_model.specs.rules.Kinds.{Kind, AbstractState, Context}
 use Rattle.gq_model.specs.rules.Flow.{own_after}
 use Rattle.gq_model.specs.rules.Use.{subject}
-use Rattle.gq_laws.specs.Current_section_facts.{level_then, section_waiting, section_if, current_section, section_asked}
+use Rattle.gq_laws.specs.Current_section_facts.{section_waiting, section_if, current_section, section_asked}
 use Rattle.gq_laws.specs.Session_links.{one_if, requests_of, by_current, at_current, stance_in, links, pending_of}
 use Rattle.gq_laws.specs.Typed.{AreKinds, Meets}
 use Rattle.gq_laws.specs.Inside_steps.{bare}
-use Rattle.gq_laws.specs.Typing.{Extra, kind_then, section_of, IsAwaited, GoesOnFrom, IsInSection, StandsBy}
+use Rattle.gq_laws.specs.Typing.{Extra, kind_then, IsAwaited, GoesOnFrom, IsInSection, StandsBy}
 
 -- SESSIONS WITH THE SAME PARTS
 

@@ -4,18 +4,18 @@ use Rattle.std.specs.Prelude.{slice_get, slice_set}
 use Rattle.std.proofs.lemmas.Bool.Decides.{eqb_tells}
 use Rattle.gq_model.specs.machine.Lists.{or_first}
 use Rattle.gq_model.specs.declared.program.Form.TheVariants.{Slice}
-use Rattle.gq_model.specs.declared.program.Section.{Section}
-use Rattle.gq_model.specs.declared.program.Section.TheVariants.{Main, Opening, Upgrading, Calling, Closing}
+use Rattle.gq_model.specs.declared.section.Section.{Section}
+use Rattle.gq_model.specs.declared.section.Section.TheVariants.{Main, Opening, Upgrading, Calling, Closing}
 use Rattle.gq_model.specs.declared.phase.Phase.TheVariants.{Blocked, Handling}
 use Rattle.gq_model.specs.machine.Scenario.{Component, interface_in, number_of}
-use Rattle.gq_model.specs.machine.World.{Slot, SlotId, In_leaf, In_session, In_object, Session, Request, Current, Leaf, World, session_at}
+use Rattle.gq_model.specs.machine.World.{Slot, SlotId, In_leaf, In_session, In_object, Session, Request, Current, Leaf, World, session_at, section_of}
 use Rattle.gq_model.specs.machine.Doing.{Doing, Event}
-use Rattle.gq_model.specs.machine.Step.{section_for, serving, resumed, section_ended}
+use Rattle.gq_model.specs.machine.Step.{section_for, serving, resumed, section_ended, level_then}
 use Rattle.gq_model.specs.rules.Kinds.{Kind, Memory, Link_kind, AbstractState, Context, Subject, no_kinds}
 use Rattle.gq_model.specs.rules.Flow.{context, own_after, bank_at, section_end}
 use Rattle.gq_model.specs.rules.Use.{subject}
 use Rattle.gq_model.specs.rules.Verdict.{is_wanted}
-use Rattle.gq_laws.specs.Current_section_facts.{level_then, section_if, current_section, section_asked, kind_replied, within, bank_kinds}
+use Rattle.gq_laws.specs.Current_section_facts.{section_if, current_section, section_asked, kind_replied, within, bank_kinds}
 use Rattle.gq_laws.specs.Shapes.{Each}
 use Rattle.gq_laws.specs.Session_links.{Waits, naming_in, one_if, requests_of, at_current, IsAt, Handles, stance, outline, outline_in, Links, links}
 use Rattle.gq_laws.specs.Session_links.{IsLinkedWorld}
@@ -23,7 +23,7 @@ use Rattle.gq_laws.specs.Typed.{IsKind, AreKinds, Meets}
 use Rattle.gq_laws.specs.Inside_steps.{TakesLeaf, bare}
 use Rattle.gq_laws.specs.Asking.{IsWithin}
 use Rattle.gq_laws.specs.Reply_stances.{HasEnded, Replies, Resumes, session_replied, bank_then, session_then, slot_replied, own_then, resuming, once_replied}
-use Rattle.gq_laws.specs.Typing.{Extra, kind_then, section_of, IsAwaited, IsInSection, StandsBy, RestsAt, FitsService, FitsRequest, IsTypedBy}
+use Rattle.gq_laws.specs.Typing.{Extra, kind_then, IsAwaited, IsInSection, StandsBy, RestsAt, FitsService, FitsRequest, IsTypedBy}
 use Rattle.gq_laws.specs.internal.Carrying.{Carries}
 use Rattle.gq_model.proofs.Small_facts.{some_same, none_some}
 use Rattle.gq_laws.proofs.session_links.Asked_request_changes.{each_map}

@@ -3,10 +3,10 @@ use Rattle.std.proofs.Common.{◌≡◌, ◌≢◌, ◌≤◌, ℕ, inl, inr, co
 use Rattle.std.specs.Prelude.{slice_get}
 use Rattle.std.proofs.lemmas.Bool.Decides.{eqb_tells}
 use Rattle.gq_model.specs.machine.Lists.{or_first}
-use Rattle.gq_model.specs.declared.program.Section.{Section}
+use Rattle.gq_model.specs.declared.section.Section.{Section}
 use Rattle.gq_model.specs.machine.Program.{Statements, section_in}
 use Rattle.gq_model.specs.machine.Scenario.{Interface, Component, interface_in, number_of}
-use Rattle.gq_model.specs.machine.World.{Session, Request, Current, Leaf, World, session_at}
+use Rattle.gq_model.specs.machine.World.{Session, Request, Current, Leaf, World, session_at, section_of}
 use Rattle.gq_model.specs.machine.Doing.{Doing}
 use Rattle.gq_model.specs.rules.Kinds.{Kind, AbstractState, Context, Subject}
 use Rattle.gq_model.specs.rules.Flow.{flow, context, body, start_of}
@@ -18,7 +18,7 @@ use Rattle.gq_laws.specs.Typed.{CurrentMeets, Meets}
 use Rattle.gq_laws.specs.Inside_steps.{TakesLeaf}
 use Rattle.gq_laws.specs.Section_rules.{Begins}
 use Rattle.gq_laws.specs.Reply_stances.{once_replied}
-use Rattle.gq_laws.specs.Typing.{Extra, kind_then, section_of, IsAwaited, StandsBy, FitsService, FitsRequest, IsTypedBy}
+use Rattle.gq_laws.specs.Typing.{Extra, kind_then, IsAwaited, StandsBy, FitsService, FitsRequest, IsTypedBy}
 use Rattle.gq_laws.specs.internal.Carrying.{Carries}
 use Rattle.gq_model.proofs.Small_facts.{some_same, none_some}
 use Rattle.gq_laws.proofs.session_links.Asked_request_changes.{each_map}

@@ -3,26 +3,26 @@ use Rattle.std.proofs.Common.{◌≡◌, ◌≢◌, ℕ, zero, suc, inl, inr, tr
 use Rattle.std.specs.Prelude.{slice_get}
 use Rattle.gq_model.specs.declared.program.Instruction.{Instruction}
 use Rattle.gq_model.specs.declared.program.Instruction.TheVariants.{Open, Upgrade, Call, Close}
-use Rattle.gq_model.specs.declared.program.Section.{Section}
-use Rattle.gq_model.specs.declared.program.Section.TheVariants.{Main, Opening, Upgrading, Calling, Closing}
+use Rattle.gq_model.specs.declared.section.Section.{Section}
+use Rattle.gq_model.specs.declared.section.Section.TheVariants.{Main, Opening, Upgrading, Calling, Closing}
 use Rattle.gq_model.specs.declared.phase.Phase.{Phase}
 use Rattle.gq_model.specs.declared.phase.Phase.TheVariants.{Pending, Running, Blocked, Serving, Handling, Exited}
 use Rattle.gq_model.specs.machine.Program.{Statements, Done, Do, If, Loop, section_in}
-use Rattle.gq_model.specs.texts.Code.{is_section}
-use Rattle.gq_model.specs.machine.World.{Request, Current, Round, session_at, Session, World}
+use Rattle.gq_model.specs.machine.Sections.{is_section}
+use Rattle.gq_model.specs.machine.World.{Request, Current, Round, session_at, Session, World, section_of}
 use Rattle.gq_model.specs.machine.Doing.{Doing, Idle, Stepped, Event}
-use Rattle.gq_model.specs.machine.Step.{oldest, perform, section_ended, body_ended, accept_oldest, step_in, accept, instruct, section_for}
+use Rattle.gq_model.specs.machine.Step.{oldest, perform, section_ended, body_ended, accept_oldest, step_in, accept, instruct, section_for, level_then}
 use Rattle.gq_model.specs.rules.Kinds.{Kind, AbstractState, Context, Subject}
 use Rattle.gq_model.specs.rules.Flow.{Flowed, flow, context, body, start_of, bank_at, section_end}
 use Rattle.gq_model.specs.rules.Use.{subject}
-use Rattle.gq_laws.specs.Current_section_facts.{counts_of, within, After, Continues, level_then}
+use Rattle.gq_laws.specs.Current_section_facts.{counts_of, within, After, Continues}
 use Rattle.gq_laws.specs.Shapes.{AreInputs}
 use Rattle.gq_laws.specs.Session_links.{IsAt, Fits, stance, IsLinkedWorld}
 use Rattle.gq_laws.specs.Typed.{IsCurrent, Meets}
 use Rattle.gq_laws.specs.internal.Remaining_instructions.{AllAre, IsGood}
 use Rattle.gq_laws.specs.Inside_steps.{IsSafe, IsInside, TakesLeaf, LeadsOn, LeavesOthers}
 use Rattle.gq_laws.specs.Asking.{IsServed, Awaits, promised_anew}
-use Rattle.gq_laws.specs.Typing.{section_of, StandsBy, IsTypedBy, IsTyped, Extra, no_extra, IsInSection}
+use Rattle.gq_laws.specs.Typing.{StandsBy, IsTypedBy, IsTyped, Extra, no_extra, IsInSection}
 use Rattle.gq_laws.specs.internal.Carrying.{Carries}
 use Rattle.gq_laws.proofs.statement_rules.Ruled_step_shapes.{safe_gives}
 use Rattle.gq_laws.proofs.statement_rules.Statement_leaves_others.{keeps_to_itself}

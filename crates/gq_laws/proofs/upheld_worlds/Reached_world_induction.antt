@@ -1,5 +1,5 @@
 -- What the start world has and each step keeps, each world that is reached has.
-use Rattle.std.proofs.Common.{◌≡◌, ℕ, zero, suc, List, [], ◌∷◌, Option, Some, None, Ok, Err, refl, subst}
+use Rattle.std.proofs.Common.{◌≡◌, ℕ, zero, suc, [], ◌∷◌, Option, Some, None, Ok, Err, refl, subst}
 use Rattle.gq_model.specs.declared.act.Act.{Act}
 use Rattle.gq_model.specs.declared.act.Act.TheVariants.{Turns, Sets}
 use Rattle.gq_model.specs.machine.Scenario.{System, Scenario, system}

@@ -5,12 +5,13 @@ use Rattle.std.proofs.Common.{Ok, Err, refl, ap, sym, ◌∙◌, subst, arith}
 use Rattle.std.specs.Prelude.{nat_le, is_some, slice_get}
 use Rattle.std.proofs.lemmas.Bool.{eqb-true, leb-true, le-leb, lt-ltb, false≢true}
 use Rattle.gq_model.specs.declared.program.Form.TheVariants.{Block, Slice, Space}
-use Rattle.gq_model.specs.declared.program.Section.{Section}
-use Rattle.gq_model.specs.declared.program.Section.TheVariants.{Main, Opening, Upgrading, Calling, Closing}
-use Rattle.gq_model.specs.machine.Program.{Statements, same_section, all_sections, section_in}
+use Rattle.gq_model.specs.declared.section.Section.{Section}
+use Rattle.gq_model.specs.declared.section.Section.TheVariants.{Main, Opening, Upgrading, Calling, Closing}
+use Rattle.gq_model.specs.machine.Program.{Statements, section_in}
+use Rattle.gq_model.specs.machine.Sections.{same_section, all_sections, is_own_section}
 use Rattle.gq_model.specs.machine.Scenario.{Interface, number_of}
 use Rattle.gq_model.specs.machine.Lists.{any_of}
-use Rattle.gq_model.specs.rules.Kinds.{Kind, Empty_kind, Memory, Pool_kind, Link_kind, AbstractState, Subject, in_main, same_kinds}
+use Rattle.gq_model.specs.rules.Kinds.{Kind, Empty_kind, Memory, Pool_kind, Link_kind, AbstractState, Subject, same_kinds}
 use Rattle.gq_model.specs.rules.Rules.{Judged, and_then, is_empty_kind}
 use Rattle.gq_model.specs.rules.Flow.{is_nil, none_left, flow, state_or, context, body, own_after, own_before, bank_at, start_of}
 use Rattle.gq_model.specs.rules.Flow.{is_space_kind, bank_is_empty, opening_end, section_end}
@@ -113,14 +114,14 @@ bank_upgraded v l end e = ap (λ r. (state_or (start_of v (Upgrading (suc l))) r
 pub own_main : (v : Subject) (end : AbstractState) → flow (context v Main) (start_of v Main) (body v Main) ≡ Ok end → end.own ≡ own_after v
 own_main v end e = ap (λ r. (state_or (start_of v Main) r).own) (sym e)
 
-own_started : (v : Subject) (section : Section) → in_main section ≡ false → own_before v section ≡ own_after v
+own_started : (v : Subject) (section : Section) → is_own_section section ≡ false → own_before v section ≡ own_after v
 own_started v Main outside = absurd (false≢true (sym outside))
 own_started v Opening outside = refl
 own_started v (Upgrading l) outside = refl
 own_started v (Calling l) outside = refl
 own_started v (Closing l) outside = refl
 
-pub own_section : (v : Subject) (section : Section) (end : AbstractState) → in_main section ≡ false
+pub own_section : (v : Subject) (section : Section) (end : AbstractState) → is_own_section section ≡ false
     → flow (context v section) (start_of v section) (body v section) ≡ Ok end → end.own ≡ own_after v
 own_section v section end outside e = own_stays (context v section) (start_of v section) end (body v section) outside e ∙ own_started v section outside
 

@@ -13,7 +13,8 @@ use Rattle.gq_model.specs.declared.program.Instruction.TheVariants.{Store, Free,
 use Rattle.gq_model.specs.machine.Program.{bytes_of, Statements, Done, Do, If, Loop}
 use Rattle.gq_model.specs.machine.Scenario.{Interface, interface_in, number_of}
 use Rattle.gq_model.specs.declared.fault.Rule.{Rule}
-use Rattle.gq_model.specs.rules.Kinds.{Kind, Empty_kind, Memory, Pool_kind, Link_kind, AbstractState, Context, in_main, kind_at, with_kind}
+use Rattle.gq_model.specs.rules.Kinds.{Kind, Empty_kind, Memory, Pool_kind, Link_kind, AbstractState, Context, kind_at, with_kind}
+use Rattle.gq_model.specs.machine.Sections.{is_own_section}
 use Rattle.gq_model.specs.rules.Rules.{Judged, Bounded, must, given, top, pushed, is_empty_kind, is_memory_kind, is_later, is_kept, may_change, reach}
 use Rattle.gq_model.specs.rules.Rules.{pool_kind, fill, freed, link_kind, linked, opened, upgraded, called, closed, pooled, reached, with_bounds, judge}
 use Rattle.gq_model.specs.rules.Rules.{judged}
@@ -177,13 +178,13 @@ module _ (c : Context) (P : List Kind → List Kind → Type 0) (change : (s : A
 
 -- OWN SLOTS
 
-own_set : (c : Context) (s : AbstractState) (place : OperandSlot) (kind : Kind) → in_main c.section ≡ false → may_change c place ≡ true →
+own_set : (c : Context) (s : AbstractState) (place : OperandSlot) (kind : Kind) → is_own_section c.section ≡ false → may_change c place ≡ true →
     (with_kind s place kind).own ≡ s.own
 own_set c s (Own i) kind outside may = absurd (true≢false (sym may ∙ outside))
 own_set c s (Shared i) kind outside may = refl
 own_set c s Object kind outside may = refl
 
-pub own_stays : (c : Context) (s t : AbstractState) (todo : Statements) → in_main c.section ≡ false → flow c s todo ≡ Ok t → t.own ≡ s.own
+pub own_stays : (c : Context) (s t : AbstractState) (todo : Statements) → is_own_section c.section ≡ false → flow c s todo ≡ Ok t → t.own ≡ s.own
 own_stays c s t todo outside e = flow_keeps c (λ own bank. own ≡ s.own) (λ u place old kind there may unkept h. own_set c u place kind outside may
     ∙ h) s t todo e refl
 
@@ -203,7 +204,7 @@ buffer_set c n s (Shared (suc i)) old kind later buffer there unkept h = set_els
     differ : zero ≢ suc i
     differ e = cc
 buffer_set c n s (Shared zero) old kind later buffer there unkept h =
-    let same : old ≡ Memory Space n = some_same (sym (shown (in_main c.section) (slice_get s.bank 0) old there) ∙ h) in
+    let same : old ≡ Memory Space n = some_same (sym (shown (is_own_section c.section) (slice_get s.bank 0) old there) ∙ h) in
     let kept : (is_memory_kind old && is_kept c (Shared zero)) ≡ true = (λ i. is_memory_kind (same i) && (later i && buffer i)) in
     absurd (true≢false (sym kept ∙ unkept))
 

@@ -7,8 +7,8 @@ use Rattle.gq_tariff.specs.Prices.{size_for}
 use Rattle.gq_model.specs.machine.Amounts.{Resource, part}
 use Rattle.gq_model.specs.declared.program.Form.{Form}
 use Rattle.gq_model.specs.declared.program.Form.TheVariants.{Block, Slice, Space}
-use Rattle.gq_model.specs.declared.program.Section.{Section}
-use Rattle.gq_model.specs.declared.program.Section.TheVariants.{Main, Opening, Upgrading, Calling, Closing}
+use Rattle.gq_model.specs.declared.section.Section.{Section}
+use Rattle.gq_model.specs.declared.section.Section.TheVariants.{Main, Opening, Upgrading, Calling, Closing}
 use Rattle.gq_model.specs.machine.Scenario.{System}
 use Rattle.gq_model.specs.machine.World.{Slot, Empty, Waiting, Bytes, Pool, Link, SlotId, Session, World, session_at, slot_at}
 use Rattle.gq_model.specs.machine.Sums.{slot_price, slot_places}

@@ -14,7 +14,8 @@ use Rattle.gq_model.specs.declared.program.Instruction.TheVariants.{Store, Free,
 use Rattle.gq_model.specs.machine.Program.{bytes_of, Statements, Done, Do, If, Loop, text_eq}
 use Rattle.gq_model.specs.machine.Scenario.{Interface, interface_in, number_of}
 use Rattle.gq_model.specs.declared.fault.Rule.{Rule}
-use Rattle.gq_model.specs.rules.Kinds.{Kind, Empty_kind, Memory, Pool_kind, Link_kind, AbstractState, Context, in_main, kind_at, with_kind}
+use Rattle.gq_model.specs.rules.Kinds.{Kind, Empty_kind, Memory, Pool_kind, Link_kind, AbstractState, Context, kind_at, with_kind}
+use Rattle.gq_model.specs.machine.Sections.{is_own_section}
 use Rattle.gq_model.specs.rules.Rules.{Judged, Bounded, must, given, top, pushed, is_empty_kind, is_memory_kind, is_heap_kind, is_shared, is_kept, may_change}
 use Rattle.gq_model.specs.rules.Rules.{reach, pool_kind, fill, freed, link_kind, linked, opened, upgraded, called, closed, pooled, reached, with_bounds}
 use Rattle.gq_model.specs.rules.Rules.{judge, judged}
@@ -59,9 +60,9 @@ module _ (service : List ℕ) where
   pub no_link : (c : Context) (s : AbstractState) (place : OperandSlot) (kind : Kind) → Linkless service s → kind_at c s place ≡ Some kind → is_link_of service
       kind ≡ false
   no_link c s (Own i) kind h e = none_at (is_link_of service) s.own i kind h.0 e
-  no_link c s (Shared i) kind h e = none_at (is_link_of service) s.bank i kind h.1 (shown (in_main c.section) (slice_get s.bank i) kind e)
+  no_link c s (Shared i) kind h e = none_at (is_link_of service) s.bank i kind h.1 (shown (is_own_section c.section) (slice_get s.bank i) kind e)
   no_link c s Object kind h e = ap (is_link_of service)
-      (sym (some_same (shown (in_main c.section) (Some (Memory Slice (number_of c.subject.provided (λ i. i.object)))) kind e)))
+      (sym (some_same (shown (is_own_section c.section) (Some (Memory Slice (number_of c.subject.provided (λ i. i.object)))) kind e)))
 
   put : (s : AbstractState) (place : OperandSlot) (kind : Kind) → Linkless service s → is_link_of service kind ≡ false → Linkless service
       (with_kind s place kind)

@@ -2,12 +2,13 @@
 use Rattle.std.proofs.Common.{◌≡◌, ℕ, zero, suc, ◌+◌, ◌*◌, ◌&&◌, mul-zero, Bool, true, false, cond, List, [], ◌∷◌, ◌++◌, replicate, Option, Some, None, refl}
 use Rattle.std.proofs.Common.{ap, ◌∙◌, arith}
 use Rattle.gq_model.specs.machine.Lists.{any_of}
-use Rattle.gq_model.specs.declared.program.Section.{Section}
-use Rattle.gq_model.specs.declared.program.Section.TheVariants.{Main, Opening, Upgrading, Calling, Closing}
+use Rattle.gq_model.specs.declared.section.Section.{Section}
+use Rattle.gq_model.specs.declared.section.Section.TheVariants.{Main, Opening, Upgrading, Calling, Closing}
 use Rattle.gq_model.specs.declared.program.Instruction.{Instruction}
 use Rattle.gq_model.specs.declared.program.Instruction.TheVariants.{Say, Out, Operands, Make, MakePool, Load}
 use Rattle.gq_model.specs.declared.program.Instruction.TheVariants.{Store, Free, Take, Give, Peek, Poke, Open, Upgrade, Call, Close}
-use Rattle.gq_model.specs.machine.Program.{Statements, Done, Do, If, Loop, same_section, section_in, body_of, text_eq}
+use Rattle.gq_model.specs.machine.Program.{Statements, Done, Do, If, Loop, section_in, body_of, text_eq}
+use Rattle.gq_model.specs.machine.Sections.{same_section}
 use Rattle.gq_model.specs.rules.Kinds.{Kind, Empty_kind, Memory, Pool_kind, Link_kind, AbstractState, Subject, Context, inside, no_kinds, own_empty, kind_at}
 use Rattle.gq_model.specs.rules.Rules.{link_kind, judged}
 use Rattle.gq_model.specs.rules.Flow.{at, flow, state_or, context, body, first_bounds, own_after, own_before, bank_by, bank_at, bank_before, start_of}

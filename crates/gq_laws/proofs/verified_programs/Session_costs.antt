@@ -4,14 +4,15 @@ use Rattle.std.proofs.Common.{◌≡◌, ℕ, zero, suc, ◌+◌, ◌<◌, ◌�
 use Rattle.std.specs.Prelude.{nat_le, nat_lt, slice_index_or}
 use Rattle.std.proofs.lemmas.Bool.{leb-true, true≢false}
 use Rattle.gq_model.specs.machine.Amounts.{Resource, Ram, Caps, Amount, amount, part, plus, total}
-use Rattle.gq_model.specs.declared.program.Section.{Section}
-use Rattle.gq_model.specs.declared.program.Section.TheVariants.{Main, Opening, Upgrading, Calling, Closing}
+use Rattle.gq_model.specs.declared.section.Section.{Section}
+use Rattle.gq_model.specs.declared.section.Section.TheVariants.{Main, Opening, Upgrading, Calling, Closing}
 use Rattle.gq_model.specs.declared.program.OperandSlot.{OperandSlot}
 use Rattle.gq_model.specs.declared.program.Instruction.{Instruction}
 use Rattle.gq_model.specs.declared.program.Instruction.TheVariants.{Open, Upgrade}
 use Rattle.gq_model.specs.machine.Program.{Statements, size, section_in}
 use Rattle.gq_model.specs.machine.Scenario.{Interface, interface_in}
-use Rattle.gq_model.specs.rules.Kinds.{AbstractState, Subject, Context, in_main, level_of, kind_at, need_of, session_cost}
+use Rattle.gq_model.specs.rules.Kinds.{AbstractState, Subject, Context, kind_at, need_of, session_cost}
+use Rattle.gq_model.specs.machine.Sections.{is_own_section, level_of}
 use Rattle.gq_model.specs.rules.Rules.{Judged, and_then, is_empty_kind, may_change, link_kind, covered, within_need, judge, judged}
 use Rattle.gq_model.specs.rules.Flow.{at, flow_then, flow, context, body, bank_before, start_of, section_end, section_flow}
 use Rattle.gq_model.specs.rules.Verdict.{program_fault}
@@ -31,7 +32,7 @@ covered_each (r ∷ resources) i level s t e =
     (leb-true (session_cost r i s.bank) (part r (need_of i level)) m.0, covered_each resources i level s t m.1)
 
 -- outside `main` the rule holds of the state that it lets pass
-within_covers : (section : Section) (i : Interface) (s t : AbstractState) → in_main section ≡ false → within_need section (Some i) s ≡ Ok t
+within_covers : (section : Section) (i : Interface) (s t : AbstractState) → is_own_section section ≡ false → within_need section (Some i) s ≡ Ok t
     → EachOf i.counted (λ r. session_cost r i s.bank ≤ part r (need_of i (level_of section)))
 within_covers Main i s t outside e = absurd (true≢false outside)
 within_covers Opening i s t outside e = covered_each i.counted i 0 s t e
@@ -39,12 +40,12 @@ within_covers (Upgrading l) i s t outside e = covered_each i.counted i l s t e
 within_covers (Calling l) i s t outside e = covered_each i.counted i l s t e
 within_covers (Closing l) i s t outside e = covered_each i.counted i l s t e
 
-passed_covers : (v : Subject) (section : Section) (s t : AbstractState) → in_main section ≡ false → within_need section v.provided s ≡ Ok t
+passed_covers : (v : Subject) (section : Section) (s t : AbstractState) → is_own_section section ≡ false → within_need section v.provided s ≡ Ok t
     → Covers v (level_of section) s.bank
 passed_covers v section s t outside e i provided = within_covers section i s t outside (ap (λ o. within_need section o s) (sym provided) ∙ e)
 
 -- after each statement
-pub judged_covers : (c : Context) (s t : AbstractState) (i : Instruction) → in_main c.section ≡ false → judged c s i ≡ Ok t
+pub judged_covers : (c : Context) (s t : AbstractState) (i : Instruction) → is_own_section c.section ≡ false → judged c s i ≡ Ok t
     → Covers c.subject (level_of c.section) t.bank
 judged_covers c s t i outside e = by (judge c s i) e
   where
@@ -54,7 +55,7 @@ judged_covers c s t i outside e = by (judge c s i) e
         subst (λ (u : AbstractState). Covers c.subject (level_of c.section) u.bank) (within_same c.section c.subject.provided u t e)
         (passed_covers c.subject c.section u t outside e)
 
-flow_covers : (v : Subject) (section : Section) (last : AbstractState) → in_main section ≡ false → section_flow v section ≡ Ok last
+flow_covers : (v : Subject) (section : Section) (last : AbstractState) → is_own_section section ≡ false → section_flow v section ≡ Ok last
     → Covers v (level_of section) (bank_before v section)
 flow_covers v section last outside e =
     let n = suc (size (body v section)) in
@@ -64,7 +65,7 @@ flow_covers v section last outside e =
 
 -- where a section starts
 pub start_covers : (v : Subject) (section : Section) (list : Statements) → program_fault v ≡ None → section_in section v.program.sections ≡ Some list
-    → in_main section ≡ false → Covers v (level_of section) (bank_before v section)
+    → is_own_section section ≡ false → Covers v (level_of section) (bank_before v section)
 start_covers v section list e there outside =
     let p = passes v section list v.program.sections (accepted v e).1 there in flow_covers v section p.0 outside p.1
 

@@ -4,10 +4,11 @@ use Rattle.std.proofs.Common.{◌∙◌, subst, arith, eqb-true}
 use Rattle.std.specs.Prelude.{slice_get, sum_by}
 use Rattle.gq_model.specs.machine.Amounts.{Ram, Caps}
 use Rattle.gq_model.specs.machine.Lists.{or_first, all_of, between}
-use Rattle.gq_model.specs.declared.program.Section.{Section}
-use Rattle.gq_model.specs.machine.Program.{Statements, Program, size, same_section, section_in}
+use Rattle.gq_model.specs.declared.section.Section.{Section}
+use Rattle.gq_model.specs.machine.Program.{Statements, Program, size, section_in}
+use Rattle.gq_model.specs.machine.Sections.{same_section, is_section, section_number}
 use Rattle.gq_model.specs.texts.Operands.{greatest_number}
-use Rattle.gq_model.specs.texts.Code.{is_body, is_section, section_number, are_sections, greatest_statements, IsProgram}
+use Rattle.gq_model.specs.texts.Code.{is_body, are_sections, greatest_statements, IsProgram}
 use Rattle.gq_model.specs.machine.Scenario.{Scenario, System, Component, Interfaces, components, system, interface_in, service_in}
 use Rattle.gq_model.specs.machine.Routes.{Routed, To, No_route, Ambiguous, Provides_differs, is_service, route, leaf_routed, server_of}
 use Rattle.gq_model.specs.rules.Resolve.{Unresolved, unresolved}

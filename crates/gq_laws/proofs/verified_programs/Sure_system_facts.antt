@@ -2,9 +2,9 @@
 use Rattle.std.proofs.Common.{◌≡◌, ◌≤◌, true, ℕ, List, length, Some, None}
 use Rattle.std.specs.Prelude.{slice_get}
 use Rattle.gq_model.specs.machine.Scenario.{Interface, System, Component, interface_in, service_in}
-use Rattle.gq_model.specs.declared.program.Section.{Section}
+use Rattle.gq_model.specs.declared.section.Section.{Section}
 use Rattle.gq_model.specs.machine.Program.{Statements, section_in}
-use Rattle.gq_model.specs.texts.Code.{is_section}
+use Rattle.gq_model.specs.machine.Sections.{is_section}
 use Rattle.gq_model.specs.machine.Routes.{server_of}
 use Rattle.gq_model.specs.rules.Verdict.{program_fault}
 use Rattle.gq_model.specs.rules.Use.{subject}

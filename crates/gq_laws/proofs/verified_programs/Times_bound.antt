@@ -4,12 +4,12 @@ use Rattle.std.proofs.Common.{None, refl, ap, sym, ◌∙◌, subst, arith}
 use Rattle.std.specs.Prelude.{slice_get}
 use Rattle.std.proofs.lemmas.Option.{slice_get_within}
 use Rattle.gq_model.specs.machine.Lists.{any_of}
-use Rattle.gq_model.specs.declared.program.Section.{Section}
-use Rattle.gq_model.specs.declared.program.Section.TheVariants.{Main, Opening, Upgrading, Calling, Closing}
+use Rattle.gq_model.specs.declared.section.Section.{Section}
+use Rattle.gq_model.specs.declared.section.Section.TheVariants.{Main, Opening, Upgrading, Calling, Closing}
 use Rattle.gq_model.specs.machine.Program.{Statements, text_eq}
 use Rattle.gq_model.specs.machine.Scenario.{System, Component}
 use Rattle.gq_model.specs.machine.Routes.{server_of}
-use Rattle.gq_model.specs.rules.Kinds.{in_main}
+use Rattle.gq_model.specs.machine.Sections.{is_own_section}
 use Rattle.gq_model.specs.rules.Budgets.{section_requests}
 use Rattle.gq_model.specs.rules.Use.{subject, services, is_there, from_sections, from_leaves, asked_of, provided_by, times}
 use Rattle.gq_model.specs.rules.Resolve.{cycle_fault}
@@ -77,7 +77,7 @@ module _ (system : System) where
       by false there = omega arith
 
   module _ (resolved : cycle_fault system 0 system.components ≡ None) (done : ℕ → Section → ℕ) (main_once : (x : ℕ) → done x Main ≤ 1)
-      (asked : (x : ℕ) (section : Section) → in_main section ≡ false
+      (asked : (x : ℕ) (section : Section) → is_own_section section ≡ false
       → done x section ≤ asked_of done system x section (provided_by (slice_get system.components x))) where
     by_users : (d x : ℕ) (section : Section) (provided : Option (List ℕ)) → ((y : ℕ) → Uses system y x → (p : Section) → done y p ≤ times d system y p)
         → asked_of done system x section provided ≤ asked_of (times d system) system x section provided
@@ -87,7 +87,7 @@ module _ (system : System) where
         (λ k c e there opens p. subst (λ n. done n p ≤ times d system n p) (omega arith)
         (users k (c, e, opens_uses system c x service (services c) there opens) p))
 
-    step : (d x : ℕ) (section : Section) → in_main section ≡ false → ((y : ℕ) → Uses system y x → (p : Section) → done y p ≤ times d system y p)
+    step : (d x : ℕ) (section : Section) → is_own_section section ≡ false → ((y : ℕ) → Uses system y x → (p : Section) → done y p ≤ times d system y p)
         → done x section ≤ asked_of (times d system) system x section (provided_by (slice_get system.components x))
     step d x section outside users =
         let least = asked x section outside in
@@ -111,7 +111,7 @@ module _ (system : System) where
     counts_bounded x section = by (slice_get system.components x) refl section (asked x section)
       where
         by : (o : Option Component) → slice_get system.components x ≡ o → (section : Section)
-            → (in_main section ≡ false → done x section ≤ asked_of done system x section (provided_by o))
+            → (is_own_section section ≡ false → done x section ≤ asked_of done system x section (provided_by o))
             → done x section ≤ times (length system.components) system x section
         by (Some c) e section least = by_depth (length system.components) x [] (slice_get_within system.components x c e) (omega arith) section
         by None e Main least = subst (λ n. done x Main ≤ n) (sym (times_main (length system.components) system x)) (main_once x)

@@ -1,6 +1,6 @@
 -- What else is known of leaves, from one world to another.
 use Rattle.std.specs.Prelude.{◌≢◌, ℕ, List}
-use Rattle.gq_model.specs.declared.program.Section.{Section}
+use Rattle.gq_model.specs.declared.section.Section.{Section}
 use Rattle.gq_model.specs.machine.Program.{Statements}
 use Rattle.gq_model.specs.machine.World.{Round}
 use Rattle.gq_model.specs.rules.Kinds.{AbstractState}

@@ -1,6 +1,6 @@
 -- The states and the requests that are left to a section with these statements left in these loops.
 use Rattle.std.specs.Prelude.{◌-◌, ◌*◌, ◌+◌, ℕ, suc, List, [], ◌∷◌, ◌++◌}
-use Rattle.gq_model.specs.declared.program.Section.{Section}
+use Rattle.gq_model.specs.declared.section.Section.{Section}
 use Rattle.gq_model.specs.machine.Program.{Statements}
 use Rattle.gq_model.specs.machine.World.{Round}
 use Rattle.gq_model.specs.rules.Kinds.{AbstractState, Context}

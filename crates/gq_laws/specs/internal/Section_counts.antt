@@ -1,18 +1,17 @@
 -- How often sections have been asked for so far, and the steps and requests that they have left.
 use Rattle.std.specs.Prelude.{◌≡◌, ◌≤◌, ℕ, suc, ◌+◌, ◌-◌, ◌*◌, ◌==◌, if◌then◌else◌, false, ◌&&◌, List, [], ◌∷◌, Option, Some, None, slice_get}
-use Rattle.gq_model.specs.declared.program.Section.{Section}
-use Rattle.gq_model.specs.declared.program.Section.TheVariants.{Main}
+use Rattle.gq_model.specs.declared.section.Section.{Section}
+use Rattle.gq_model.specs.declared.section.Section.TheVariants.{Main}
 use Rattle.gq_model.specs.declared.phase.Phase.{Phase}
 use Rattle.gq_model.specs.declared.phase.Phase.TheVariants.{Pending, Running, Blocked, Serving, Handling, Exited}
-use Rattle.gq_model.specs.machine.Program.{same_section}
+use Rattle.gq_model.specs.machine.Sections.{same_section, is_own_section}
 use Rattle.gq_model.specs.machine.Scenario.{System, Component}
 use Rattle.gq_model.specs.machine.Routes.{server_of}
 use Rattle.gq_model.specs.machine.World.{Session, Ask, Request, Round, Leaf, World, session_at}
-use Rattle.gq_model.specs.machine.Step.{section_for}
-use Rattle.gq_model.specs.rules.Kinds.{Kind, in_main}
+use Rattle.gq_model.specs.machine.Step.{section_for, level_then}
+use Rattle.gq_model.specs.rules.Kinds.{Kind}
 use Rattle.gq_model.specs.rules.Flow.{context}
 use Rattle.gq_model.specs.rules.Budgets.{cost}
-use Rattle.gq_laws.specs.Current_section_facts.{level_then}
 use Rattle.gq_model.specs.rules.Use.{subject, is_there, from_sections, provided_by, steps_of}
 use Rattle.gq_laws.specs.internal.Remaining.{left_requests}
 use Rattle.gq_laws.specs.Typing.{Extra, IsTypedBy}
@@ -91,7 +90,7 @@ pub record Counts (done : Often) (made left : Requests) (system : System) (w : W
   pub taken : (x : ℕ) (c : Component) (leaf : Leaf) → slice_get system.components x ≡ Some c → slice_get w.leaves x ≡ Some leaf
       → leaf.steps + ahead leaf leaf.phase + steps_of (waiting w x) c.node.program.sections ≤ steps_of (done x) c.node.program.sections
   -- any other section no more often than leaves have made requests for it
-  pub asked : (x : ℕ) (section : Section) → in_main section ≡ false
+  pub asked : (x : ℕ) (section : Section) → is_own_section section ≡ false
       → done x section ≤ made_for made system x section (provided_by (slice_get system.components x))
   pub requests : (y : ℕ) (c : Component) → slice_get system.components y ≡ Some c → (service : List ℕ) (section : Section)
       → made y service section + left y service section + from_sections (waiting w y) (subject system c) service section c.node.program.sections

@@ -3,13 +3,14 @@ use Rattle.std.specs.Prelude.{◌≡◌, ◌≤◌, false, ℕ, suc, ◌+◌, Li
 use Rattle.gq_tariff.specs.Prices.{classes}
 use Rattle.gq_model.specs.declared.phase.Phase.{Phase}
 use Rattle.gq_model.specs.declared.phase.Phase.TheVariants.{Pending, Running, Blocked, Serving, Handling, Exited}
-use Rattle.gq_model.specs.declared.program.Section.TheVariants.{Main}
+use Rattle.gq_model.specs.declared.section.Section.TheVariants.{Main}
 use Rattle.gq_model.specs.machine.Amounts.{Resource, part}
 use Rattle.gq_model.specs.machine.Lists.{greatest}
 use Rattle.gq_model.specs.machine.Scenario.{Interface, System, Component, interface_in}
 use Rattle.gq_model.specs.machine.World.{Empty, Session, Ask, Ask_open, Ask_upgrade, Ask_close, Ask_call, Leaf, World, session_at}
 use Rattle.gq_model.specs.machine.Sums.{slot_price, bank_price}
-use Rattle.gq_model.specs.rules.Kinds.{Kind, AbstractState, Subject, in_main, level_of, session_cost, kinds_cost, kind_places, need_of}
+use Rattle.gq_model.specs.rules.Kinds.{Kind, AbstractState, Subject, session_cost, kinds_cost, kind_places, need_of}
+use Rattle.gq_model.specs.machine.Sections.{is_own_section, level_of}
 use Rattle.gq_model.specs.rules.Flow.{points, context, body, start_of}
 use Rattle.gq_model.specs.rules.Use.{subject}
 use Rattle.gq_model.specs.Promises.{EachOf}
@@ -34,7 +35,7 @@ IsBounded system x section state todo loops =
     (c : Component) → slice_get system.components x ≡ Some c
     → ((f : AbstractState → ℕ) → greatest f (left_points (context (subject system c) section) state todo loops)
     ≤ greatest f (points (context (subject system c) section) (start_of (subject system c) section) (body (subject system c) section)))
-    × (in_main section ≡ false → Covers (subject system c) (level_of section) state.bank)
+    × (is_own_section section ≡ false → Covers (subject system c) (level_of section) state.bank)
 
 -- LEAVES
 

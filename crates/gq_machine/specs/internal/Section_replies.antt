@@ -1,7 +1,7 @@
 -- The end of a section for a session, and leaves after the reply.
 use Rattle.std.specs.Prelude.{◌≡◌, ℕ, ◌+◌, ◌<◌, ◌^◌, List, length, slice_get, slice_set, Some}
 use Rattle.gq_bytecode.specs.declared.operation.Operation.TheVariants.{End}
-use Rattle.gq_model.specs.declared.program.Section.TheVariants.{Calling}
+use Rattle.gq_model.specs.declared.section.Section.TheVariants.{Calling}
 use Rattle.gq_contents.specs.declared.content.Content.TheVariants.{Empty}
 use Rattle.gq_trade.specs.declared.session.SlotId.TheVariants.{InObject}
 use Rattle.gq_trade.specs.Trading.{AreOfOthers, client_of}

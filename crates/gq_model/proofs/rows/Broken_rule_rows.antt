@@ -4,7 +4,8 @@ use Rattle.std.specs.Prelude.{codes, replicate}
 use Rattle.std.specs.Fmt.{digits}
 use Rattle.gq_model.specs.machine.Amounts.{amount}
 use Rattle.gq_model.specs.machine.Program.{Own, Shared, Slice, Space, Byte, Word, Multiply, Out, Make, MakePool, Load}
-use Rattle.gq_model.specs.machine.Program.{Free, Take, Open, Upgrade, Call, Statements, Done, Do, If, Loop, Section, Main, Opening, Upgrading, Calling, Closing}
+use Rattle.gq_model.specs.machine.Program.{Free, Take, Open, Upgrade, Call, Statements, Done, Do, If, Loop}
+use Rattle.gq_model.specs.machine.Sections.{Section, Main, Opening, Upgrading, Calling, Closing}
 use Rattle.gq_model.specs.machine.Scenario.{Interface}
 use Rattle.gq_model.specs.rules.Verdict.{program_fault, Fault}
 use Rattle.gq_model.specs.texts.Fault_texts.{program_text}

@@ -3,7 +3,8 @@ use Rattle.std.proofs.Common.{◌≡◌, ℕ, List, [], ◌∷◌, ◌++◌, ref
 use Rattle.std.specs.Prelude.{codes, true, false, Result, Ok, Err, replicate, take, zero, suc}
 use Rattle.gq_model.specs.machine.Program.{Own, Shared, Object, Block, Slice, Space, Byte, Word, Add, Subtract, Multiply, And, Equal, Less, Say, Out}
 use Rattle.gq_model.specs.machine.Program.{Make, MakePool, Load, Store, Free, Take, Give, Peek, Poke, Open}
-use Rattle.gq_model.specs.machine.Program.{Upgrade, Call, Close, Done, Do, If, Loop, ◌then◌, Main, Calling, Program}
+use Rattle.gq_model.specs.machine.Program.{Upgrade, Call, Close, Done, Do, If, Loop, ◌then◌, Program}
+use Rattle.gq_model.specs.machine.Sections.{Main, Calling}
 use Rattle.gq_model.specs.texts.Code.{code_of, hex_of, is_program}
 use Rattle.gq_model.specs.texts.Decode.{Decoded, Truncated, TrailingBytes, BadNesting, decoded}
 use Rattle.gq_model.specs.texts.Spelling.{TextFault, UnknownWord, BadNumber, BadSlot, Unclosed, StrayEnd, BadText, SectionTwice, TooLong}

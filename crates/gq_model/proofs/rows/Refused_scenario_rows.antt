@@ -4,7 +4,8 @@ use Rattle.std.specs.Prelude.{codes}
 use Rattle.std.specs.Fmt.{digits}
 use Rattle.gq_model.specs.machine.Amounts.{amount}
 use Rattle.gq_model.specs.machine.Program.{Own, Shared, Block, Space, Multiply, Out, Make, Open, Call, Close, Statements, Done}
-use Rattle.gq_model.specs.machine.Program.{Do, If, Loop, Section, Main, Opening, Calling, Closing, Program}
+use Rattle.gq_model.specs.machine.Program.{Do, If, Loop, Program}
+use Rattle.gq_model.specs.machine.Sections.{Section, Main, Opening, Calling, Closing}
 use Rattle.gq_model.specs.machine.Scenario.{Scenario, Child, Parent, LeafNode}
 use Rattle.gq_model.specs.rules.Accept.{refusal}
 use Rattle.gq_model.specs.texts.Fault_texts.{said_of}

@@ -1,8 +1,9 @@
 -- The first wrong step of worked runs, with its leaf, by computation.
-use Rattle.std.proofs.Common.{◌≡◌, ℕ, List, [], ◌∷◌, Option, Some, None, refl}
+use Rattle.std.proofs.Common.{◌≡◌, ℕ, [], ◌∷◌, Option, Some, None, refl}
 use Rattle.std.specs.Prelude.{codes}
 use Rattle.std.specs.Fmt.{digits}
-use Rattle.gq_model.specs.machine.Program.{Own, Space, Make, Multiply, Main, Opening, Calling, Done, Out}
+use Rattle.gq_model.specs.machine.Program.{Own, Space, Make, Multiply, Done, Out}
+use Rattle.gq_model.specs.machine.Sections.{Main, Opening, Calling}
 use Rattle.gq_model.specs.machine.Scenario.{Scenario, system}
 use Rattle.gq_model.specs.machine.Doing.{Wrong, MissingOperand, WrongKind, ExceededQuota, MissingSection}
 use Rattle.gq_model.specs.machine.Run.{run}

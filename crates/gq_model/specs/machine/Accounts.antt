@@ -1,5 +1,5 @@
 -- The accounts of all nodes, their lines, and the text of a run.
-use Rattle.std.specs.Prelude.{ℕ, suc, ◌+◌, ◌-◌, ◌==◌, if◌then◌else◌, List, [], ◌∷◌, ◌++◌, Option, Some, None, slice_get, slice_index, decimal, codes}
+use Rattle.std.specs.Prelude.{ℕ, suc, ◌+◌, ◌-◌, if◌then◌else◌, List, [], ◌∷◌, ◌++◌, Option, Some, None, slice_get, slice_index, decimal, codes}
 use Rattle.gq_model.specs.machine.Amounts.{Resource, Ram, Caps, Amount, amount, part, counts_caps}
 use Rattle.gq_model.specs.machine.Scenario.{Scenario, Component, Nodes, End, Leaf_node, Init_node, System, system, below}
 use Rattle.gq_model.specs.machine.World.{Phase, Pending, Running, Blocked, Serving, Handling, Exited, Leaf, World}

@@ -1,7 +1,8 @@
 -- What stands between two steps.
 use Rattle.std.specs.Prelude.{ℕ, Bool, List, [], ◌∷◌, Option, Some, None, replicate, slice_get, slice_set}
 use Rattle.gq_model.specs.machine.Amounts.{Amount}
-use Rattle.gq_model.specs.machine.Program.{Form, OperandSlot, Own, Shared, Object, Statements, Section, Main, section_in, body_of}
+use Rattle.gq_model.specs.machine.Program.{Form, OperandSlot, Own, Shared, Object, Statements, section_in, body_of}
+use Rattle.gq_model.specs.machine.Sections.{Section, Main}
 use Rattle.gq_model.specs.machine.Scenario.{System, Component}
 pub use Rattle.gq_model.specs.declared.phase.Phase.{Phase}
 pub use Rattle.gq_model.specs.declared.phase.Phase.TheVariants.{Pending, Running, Blocked, Serving, Handling, Exited}
@@ -97,6 +98,11 @@ start_leaves (c ∷ rest) = start_leaf c ∷ start_leaves rest
 
 abbrev pub start : System → World
 start system = record { leaves = start_leaves system.components; sessions = []; requests = [] }
+
+-- the section that a leaf is in: `main` where it has no current request
+abbrev pub section_of : Option Current → Section
+section_of None = Main
+section_of (Some current) = current.section
 
 -- a part of a world, and the world with that part anew
 abbrev pub joined : {A : Type 0} → Option (Option A) → Option A

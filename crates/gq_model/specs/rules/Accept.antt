@@ -1,5 +1,5 @@
 -- Which scenarios are accepted, and the budgets of their leaves.
-use Rattle.std.specs.Prelude.{◌≡◌, ℕ, suc, nat_le, ◌==◌, if◌then◌else◌, List, [], ◌∷◌, ◌++◌, Option, Some, None, codes}
+use Rattle.std.specs.Prelude.{◌≡◌, ℕ, suc, nat_le, if◌then◌else◌, List, [], ◌∷◌, ◌++◌, Option, Some, None, codes}
 use Rattle.gq_model.specs.machine.Amounts.{Resource, Ram, Caps, Amount, amount, part, counts_caps}
 use Rattle.gq_model.specs.machine.Scenario.{Scenario, System, Component, system}
 use Rattle.gq_model.specs.machine.Accounts.{entry, reported}

@@ -1,8 +1,9 @@
 -- Budgets of a program: steps, requests, bytes and capabilities.
 use Rattle.std.specs.Prelude.{ℕ, suc, ◌+◌, ◌*◌, max, if◌then◌else◌, ◌&&◌, List, [], ◌∷◌, Option, Some, None, sum_by}
 use Rattle.gq_model.specs.machine.Amounts.{Resource, Amount}
-use Rattle.gq_model.specs.machine.Program.{Instruction, Open, Upgrade, Call, Close, Statements, Done, Do, If, Loop, Section, Main, Opening, Upgrading, Calling}
-use Rattle.gq_model.specs.machine.Program.{Closing, same_section, text_eq}
+use Rattle.gq_model.specs.machine.Program.{Instruction, Open, Upgrade, Call, Close, Statements, Done, Do, If, Loop}
+use Rattle.gq_model.specs.machine.Sections.{Section, Main, Opening, Upgrading, Calling, Closing, same_section}
+use Rattle.gq_model.specs.machine.Program.{text_eq}
 use Rattle.gq_tariff.specs.Prices.{classes}
 use Rattle.gq_model.specs.machine.Resource_prices.{chunks}
 use Rattle.gq_model.specs.machine.Lists.{greatest}

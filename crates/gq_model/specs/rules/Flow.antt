@@ -1,7 +1,8 @@
 -- The rules for lists of statements and for sections, each fault with its place.
 use Rattle.std.specs.Prelude.{ℕ, zero, suc, ◌+◌, nat_le, ◌==◌, Bool, true, false, ◌&&◌, not, List, [], ◌∷◌, ◌++◌, Option, Some, None, Result, Ok, Err}
 use Rattle.std.specs.Prelude.{slice_get}
-use Rattle.gq_model.specs.machine.Program.{Space, Statements, Done, Do, If, Loop, size, Section, Main, Opening, Upgrading, Calling, Closing, section_in}
+use Rattle.gq_model.specs.machine.Program.{Space, Statements, Done, Do, If, Loop, size, section_in}
+use Rattle.gq_model.specs.machine.Sections.{Section, Main, Opening, Upgrading, Calling, Closing}
 use Rattle.gq_model.specs.machine.Program.{body_of}
 use Rattle.gq_model.specs.machine.Scenario.{Interface, number_of}
 use Rattle.gq_model.specs.rules.Kinds.{Kind, Memory, Link_kind, AbstractState, Subject, Context, inside, same_kinds, no_kinds, own_empty}

@@ -2,9 +2,8 @@
 use Rattle.std.specs.Prelude.{ℕ, ◌+◌, ◌==◌, if◌then◌else◌, Bool, true, false, ◌&&◌, List, [], ◌∷◌, replicate, take, Option, Some, None, slice_get, slice_set}
 use Rattle.std.specs.Prelude.{sum_by}
 use Rattle.gq_model.specs.machine.Amounts.{Resource, Amount, part, plus, total, same_amount}
-use Rattle.gq_model.specs.machine.Program.{OperandSlot, Own, Shared, Object, Form, Block, Slice, Space, Section, Main, Opening, Upgrading, Calling, Closing}
-use Rattle.gq_model.specs.machine.Program.{Program}
-use Rattle.gq_model.specs.machine.Program.{text_eq}
+use Rattle.gq_model.specs.machine.Program.{OperandSlot, Own, Shared, Object, Form, Block, Slice, Space, Program, text_eq}
+use Rattle.gq_model.specs.machine.Sections.{Section, is_own_section}
 use Rattle.gq_tariff.specs.Prices.{size_for}
 use Rattle.gq_model.specs.machine.Resource_prices.{price_memory, price_pool}
 use Rattle.gq_model.specs.machine.Scenario.{Interface, Interfaces, number_of}
@@ -39,18 +38,6 @@ pub record Context : Type 0 where
 abbrev pub inside : Context → ℕ → Context
 inside c n = record c { counts = n ∷ c.counts }
 
-abbrev pub in_main : Section → Bool
-in_main Main = true
-in_main _ = false
-
--- the level of the current session
-abbrev pub level_of : Section → ℕ
-level_of Main = 0
-level_of Opening = 0
-level_of (Upgrading l) = l
-level_of (Calling l) = l
-level_of (Closing l) = l
-
 -- EQUAL KINDS
 
 abbrev pub same_kind : Kind → Kind → Bool
@@ -76,11 +63,11 @@ no_kinds = replicate 8 Empty_kind
 abbrev pub own_empty : List Kind
 own_empty = replicate 64 Empty_kind
 
--- a session's slots and its object are there outside `main` only
+-- a session's slots and its object are there where one is current
 abbrev pub kind_at : Context → AbstractState → OperandSlot → Option Kind
 kind_at c s (Own i) = slice_get s.own i
-kind_at c s (Shared i) = if in_main c.section then None else slice_get s.bank i
-kind_at c s Object = if in_main c.section then None else Some (Memory Slice (number_of c.subject.provided (λ i. i.object)))
+kind_at c s (Shared i) = if is_own_section c.section then None else slice_get s.bank i
+kind_at c s Object = if is_own_section c.section then None else Some (Memory Slice (number_of c.subject.provided (λ i. i.object)))
 
 abbrev pub with_kind : AbstractState → OperandSlot → Kind → AbstractState
 with_kind s (Own i) kind = record s { own = slice_set s.own i kind }

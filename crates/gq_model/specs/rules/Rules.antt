@@ -7,10 +7,11 @@ use Rattle.gq_model.specs.machine.Program.{Multiply}
 use Rattle.gq_model.specs.machine.Program.{And, Equal, Less, Drop, Dup, Combine, Push, Divide, Modulo, Get, Set, Index, Input, OperandStatement, Plain}
 use Rattle.gq_model.specs.machine.Program.{Numbered}
 use Rattle.gq_model.specs.machine.Program.{Instruction, Say, Out, Operands, Make, MakePool, Load, Store, Free, Take, Give, Peek, Poke, Open, Upgrade, Call}
-use Rattle.gq_model.specs.machine.Program.{Close, Section, Main}
+use Rattle.gq_model.specs.machine.Program.{Close}
+use Rattle.gq_model.specs.machine.Sections.{Section, Main, level_of, is_own_section}
 use Rattle.gq_tariff.specs.Prices.{up}
 use Rattle.gq_model.specs.machine.Scenario.{Interface, interface_in, number_of}
-use Rattle.gq_model.specs.rules.Kinds.{Kind, Empty_kind, Memory, Pool_kind, Link_kind, AbstractState, Context, in_main, level_of, kind_at, with_kind, need_of}
+use Rattle.gq_model.specs.rules.Kinds.{Kind, Empty_kind, Memory, Pool_kind, Link_kind, AbstractState, Context, kind_at, with_kind, need_of}
 use Rattle.gq_model.specs.rules.Kinds.{session_cost}
 pub use Rattle.gq_model.specs.declared.fault.Rule.{Rule}
 pub use Rattle.gq_model.specs.declared.fault.Rule.TheVariants.{MissingOperand, StackTooDeep, LeftoverOperand, WrongKind, SlotInUse, OutOfRange, ValueTooLarge}
@@ -69,7 +70,7 @@ is_heap_kind _ = false
 
 -- outside `main` no own slot is changed
 abbrev pub may_change : Context → OperandSlot → Bool
-may_change c (Own i) = in_main c.section
+may_change c (Own i) = is_own_section c.section
 may_change c (Shared i) = true
 may_change c Object = true
 

@@ -1,7 +1,8 @@
 -- Who uses whom, how often, and the budgets of steps.
 use Rattle.std.specs.Prelude.{ℕ, zero, suc, ◌+◌, ◌*◌, ◌==◌, if◌then◌else◌, Bool, false, ◌||◌, List, [], ◌∷◌, ◌++◌, length, Option, Some, None, slice_get}
 use Rattle.gq_model.specs.machine.Lists.{any_of}
-use Rattle.gq_model.specs.machine.Program.{Instruction, Open, Statements, Done, Do, If, Loop, Section, Main}
+use Rattle.gq_model.specs.machine.Program.{Instruction, Open, Statements, Done, Do, If, Loop}
+use Rattle.gq_model.specs.machine.Sections.{Section, Main}
 use Rattle.gq_model.specs.machine.Scenario.{System, Component, service_in}
 use Rattle.gq_model.specs.machine.Routes.{server_of}
 use Rattle.gq_model.specs.rules.Kinds.{Subject}

@@ -1,7 +1,8 @@
 -- What the verifier says of a program.
 use Rattle.std.specs.Prelude.{ℕ, suc, ◌^◌, nat_le, if◌then◌else◌, Bool, true, false, List, [], ◌∷◌, length, Option, Some, None, Result, Ok, Err, is_some}
 use Rattle.gq_model.specs.machine.Amounts.{Ram, Caps, Amount, amount}
-use Rattle.gq_model.specs.machine.Program.{Statements, size, Section, Main, Opening, Upgrading, Calling, Closing, all_sections, section_in, Program}
+use Rattle.gq_model.specs.machine.Program.{Statements, size, section_in, Program}
+use Rattle.gq_model.specs.machine.Sections.{Section, Main, Opening, Upgrading, Calling, Closing, all_sections}
 use Rattle.gq_model.specs.machine.Scenario.{Interface, Interfaces, service_in}
 use Rattle.gq_model.specs.machine.Lists.{or_first}
 use Rattle.gq_model.specs.rules.Kinds.{Subject}

@@ -1,7 +1,8 @@
 -- The program that bytes spell, or their first fault.
 use Rattle.std.specs.Prelude.{ℕ, zero, suc, ◌-◌, ◌/◌, ◌%◌, nat_lt, ◌==◌, if◌then◌else◌, Bool, true, false, ◌&&◌, List, [], ◌∷◌, length, Option, Some, None}
 use Rattle.std.specs.Prelude.{Result, Ok, Err}
-use Rattle.gq_model.specs.machine.Program.{OperandSlot, Own, Shared, Object, Instruction, Statements, Done, Do, If, Loop, Section, all_sections, Program}
+use Rattle.gq_model.specs.machine.Program.{OperandSlot, Own, Shared, Object, Instruction, Statements, Done, Do, If, Loop, Program}
+use Rattle.gq_model.specs.machine.Sections.{Section, all_sections}
 use Rattle.gq_model.specs.machine.Program.{little}
 use Rattle.gq_model.specs.machine.Lists.{all_of, between}
 use Rattle.gq_model.specs.texts.Letters.{is_name_byte, is_said_byte}

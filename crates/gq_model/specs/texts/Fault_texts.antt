@@ -1,7 +1,7 @@
 -- The texts of refusals.
 use Rattle.std.specs.Prelude.{ℕ, List, [], ◌++◌, Option, Some, None, codes, decimal}
 use Rattle.gq_model.specs.machine.Amounts.{Ram, Caps}
-use Rattle.gq_model.specs.machine.Program.{Section, Main, Opening, Upgrading, Calling, Closing}
+use Rattle.gq_model.specs.machine.Sections.{section_word}
 use Rattle.gq_model.specs.machine.Routes.{Routed, To, No_route, Ambiguous, Provides_differs}
 use Rattle.gq_model.specs.rules.Rules
 use Rattle.gq_model.specs.rules.Rules.{Rule}
@@ -60,13 +60,6 @@ turn_fault_word turn.NoSuchComponent = codes "U2 NoSuchComponent"
 turn_fault_word turn.TooMany = codes "U3 TooMany"
 turn_fault_word turn.NoInput = codes "U4 NoInput"
 turn_fault_word turn.InputTooLarge = codes "U5 InputTooLarge"
-
-abbrev pub section_word : Section → List ℕ
-section_word Main = codes "main"
-section_word Opening = codes "open"
-section_word (Upgrading l) = codes "up " ++ decimal l
-section_word (Calling l) = codes "call " ++ decimal l
-section_word (Closing l) = codes "close " ++ decimal l
 
 abbrev pub route_word : Routed → List ℕ
 route_word (To name) = []

@@ -1,7 +1,7 @@
 -- The program that a text spells, or its first fault and the line.
-use Rattle.std.specs.Prelude.{ℕ, suc, nat_lt, ◌==◌, if◌then◌else◌, Bool, false, List, [], ◌∷◌, ◌++◌, length, Option, Some, None, Result, Ok, Err, codes}
-use Rattle.gq_model.specs.machine.Program.{Statements, Done, Do, If, Loop, ◌then◌, Section, Main, Opening, Upgrading, Calling, Closing, all_sections}
-use Rattle.gq_model.specs.machine.Program.{section_in, Program, text_eq}
+use Rattle.std.specs.Prelude.{ℕ, suc, nat_lt, ◌==◌, if◌then◌else◌, Bool, false, ◌||◌, List, [], ◌∷◌, ◌++◌, length, Option, Some, None, Result, Ok, Err, codes}
+use Rattle.gq_model.specs.machine.Sections.{Section, SectionKind, row, all_kinds, of_kind, all_sections}
+use Rattle.gq_model.specs.machine.Program.{Statements, Done, Do, If, Loop, ◌then◌, section_in, Program, text_eq}
 use Rattle.gq_model.specs.texts.Letters.{lines, words, unindented, past_word, number_in}
 use Rattle.gq_model.specs.texts.Operands.{greatest_number}
 use Rattle.gq_model.specs.texts.Code.{greatest_statements}
@@ -114,17 +114,24 @@ local r rest =
     numbered 0 7 rest (λ i more. once (limit_of i r.limits)
     (numbered 0 greatest_number more (λ n last. at_end last (Ok (record r { limits = (i, n) ∷ r.limits })))))
 
+-- the kind of section whose heading has this word
+abbrev pub kind_with : List ℕ → List SectionKind → Option SectionKind
+kind_with word [] = None
+kind_with word (k ∷ rest) = if text_eq word (row k).word then Some k else kind_with word rest
+
+-- the heading of a section of this kind, whose level stands behind its word, where it has levels
+abbrev pub headed : Reading → ℕ → SectionKind → Option (ℕ × ℕ) → List (List ℕ) → Read
+headed r k kind None rest = heading r k (of_kind kind 0) rest
+headed r k kind (Some levels) rest = numbered levels.0 levels.1 rest (λ l more. heading r k (of_kind kind l) more)
+
+-- a heading, or a line that can't stand there
+abbrev pub headed_or_stray : Reading → ℕ → List ℕ → List (List ℕ) → Option SectionKind → Read
+headed_or_stray r k word rest None = if text_eq word (codes "end") || text_eq word (codes "else") then Err StrayEnd else Err UnknownWord
+headed_or_stray r k word rest (Some kind) = headed r k kind (row kind).levels rest
+
 -- a line outside sections
 abbrev pub outside : Reading → ℕ → List ℕ → List (List ℕ) → Read
-outside r k word rest =
-    if text_eq word (codes "local") then local r rest else
-    (if text_eq word (codes "main") then heading r k Main rest else
-    (if text_eq word (codes "open") then heading r k Opening rest else
-    (if text_eq word (codes "up") then numbered 1 3 rest (λ l more. heading r k (Upgrading l) more) else
-    (if text_eq word (codes "call") then numbered 0 3 rest (λ l more. heading r k (Calling l) more) else
-    (if text_eq word (codes "close") then numbered 0 3 rest (λ l more. heading r k (Closing l) more) else
-    (if text_eq word (codes "end") then Err StrayEnd else
-    (if text_eq word (codes "else") then Err StrayEnd else Err UnknownWord)))))))
+outside r k word rest = if text_eq word (codes "local") then local r rest else headed_or_stray r k word rest (kind_with word all_kinds)
 
 -- TEXTS
 

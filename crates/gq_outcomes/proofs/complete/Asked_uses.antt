@@ -7,14 +7,14 @@ use Rattle.gq_model.specs.declared.program.Instruction.{Instruction}
 use Rattle.gq_model.specs.declared.program.Instruction.TheVariants.{Open, Upgrade, Call, Close}
 use Rattle.gq_model.specs.declared.program.OperandSlot.{OperandSlot}
 use Rattle.gq_model.specs.declared.program.OperandSlot.TheVariants.{Own, Shared, Object}
-use Rattle.gq_model.specs.declared.program.Section.{Section}
+use Rattle.gq_model.specs.declared.section.Section.{Section}
 use Rattle.gq_model.specs.machine.Lists.{any_of}
 use Rattle.gq_model.specs.machine.Program.{Statements, Done, Do, If, Loop}
 use Rattle.gq_model.specs.machine.Routes.{server_of}
 use Rattle.gq_model.specs.machine.Scenario.{Component, Scenario, System, system}
 use Rattle.gq_model.specs.machine.World.{Current, In_leaf, In_object, In_session, Leaf, Session, SlotId, World, session_at, slot_at, slot_id_of}
 use Rattle.gq_model.specs.machine.World.{Slot, Empty, Bytes, Pool, Link, Waiting}
-use Rattle.gq_model.specs.rules.Kinds.{in_main}
+use Rattle.gq_model.specs.machine.Sections.{is_own_section}
 use Rattle.gq_model.specs.rules.Use.{is_there, services_in, services_of, uses}
 use Rattle.gq_model.proofs.Small_facts.{none_some, some_same}
 use Rattle.gq_laws.specs.Session_links.{Belongs, Handles, Leads, links, naming_in, outline, outline_in, stance, stance_in}
@@ -44,8 +44,8 @@ opens_uses kind test (p ∷ rest) e = elim (or_cases (kind p.0 && any_of test (s
     ]
 
 pub uses_at : (u : System) (z : ℕ) (d : Component) (later : Bool) → opens_at u z d later ≡ true → uses u d z ≡ true
-uses_at u z d true e = opens_uses (λ p. not (in_main p)) (λ service. is_there z (server_of u d service)) d.node.program.sections e
-uses_at u z d false e = opens_uses in_main (λ service. is_there z (server_of u d service)) d.node.program.sections e
+uses_at u z d true e = opens_uses (λ p. not (is_own_section p)) (λ service. is_there z (server_of u d service)) d.node.program.sections e
+uses_at u z d false e = opens_uses is_own_section (λ service. is_there z (server_of u d service)) d.node.program.sections e
 
 module _ (s : Scenario) (sound : IsSound s) (holds : ℕ → Bool) (P : ℕ → Component → Bool → Instruction → Type 0)
     (sections : AreSections P (uncounted (system s))) (quiet_of : (w : World) → Lefts P (uncounted (system s)) w → AreQuiet holds w)

@@ -4,11 +4,11 @@ use Rattle.std.proofs.Common.{refl, ap, sym, ◌∙◌, subst, arith}
 use Rattle.std.specs.Prelude.{get_or, is_none, is_some, slice_get}
 use Rattle.std.proofs.lemmas.Bool.{true≢false, or_left, or_parts, or_right}
 use Rattle.gq_model.specs.declared.program.Instruction.{Instruction}
-use Rattle.gq_model.specs.declared.program.Section.{Section}
+use Rattle.gq_model.specs.declared.section.Section.{Section}
 use Rattle.gq_model.specs.machine.Program.{Statements, Done, Do, If, Loop}
 use Rattle.gq_model.specs.machine.Scenario.{Component, Scenario, System, system}
 use Rattle.gq_model.specs.machine.World.{World}
-use Rattle.gq_model.specs.rules.Kinds.{in_main}
+use Rattle.gq_model.specs.machine.Sections.{is_own_section}
 use Rattle.gq_model.specs.rules.Resolve.{cycle_fault}
 use Rattle.gq_model.specs.rules.Use.{reaches}
 use Rattle.gq_model.proofs.Small_facts.{none_some}
@@ -205,17 +205,17 @@ module _ (s : Scenario) (sound : IsSound s) where
   Kept x c later i = OpensThere u c later i × KeepsOwn x later i
 
   own_sections : (x : ℕ) (c : Component) → slice_get u.components x ≡ Some c
-      → Each (λ p. AllAre (KeepsOwn x (not (in_main p.0))) p.1) c.node.program.sections
+      → Each (λ p. AllAre (KeepsOwn x (not (is_own_section p.0))) p.1) c.node.program.sections
   own_sections x c at = by (held x) refl
     where
-      by : (b : Bool) → held x ≡ b → Each (λ p. AllAre (KeepsOwn x (not (in_main p.0))) p.1) c.node.program.sections
+      by : (b : Bool) → held x ≡ b → Each (λ p. AllAre (KeepsOwn x (not (is_own_section p.0))) p.1) c.node.program.sections
       by true e =
-          each_other _ (λ p. AllAre (KeepsOwn x (not (in_main p.0))) p.1)
-          (λ p h. all_other (IsGood real c) (KeepsOwn x (not (in_main p.0))) (λ i good later off. absurd (true≢false (sym e ∙ off))) p.1 h)
+          each_other _ (λ p. AllAre (KeepsOwn x (not (is_own_section p.0))) p.1)
+          (λ p h. all_other (IsGood real c) (KeepsOwn x (not (is_own_section p.0))) (λ i good later off. absurd (true≢false (sym e ∙ off))) p.1 h)
           c.node.program.sections (good_of s sound x c at)
       by false off =
-          each_other _ (λ p. AllAre (KeepsOwn x (not (in_main p.0))) p.1)
-          (λ p h. all_other (λ i. is_own_race (for_several true p.0) i ≡ false) (KeepsOwn x (not (in_main p.0)))
+          each_other _ (λ p. AllAre (KeepsOwn x (not (is_own_section p.0))) p.1)
+          (λ p h. all_other (λ i. is_own_race (for_several true p.0) i ≡ false) (KeepsOwn x (not (is_own_section p.0)))
           (λ i none later is. sym (λ j. later j && changes_own i) ∙ none) p.1 h)
           c.node.program.sections
           (sections_none u x c (IsGood real c) (λ section. is_own_race (for_several true section)) c.node.program.sections stated (good_of s sound x c at))
@@ -228,9 +228,9 @@ module _ (s : Scenario) (sound : IsSound s) where
 
   pub kept_sections : AreSections Kept u
   kept_sections x c at =
-      each_two (λ p. AllAre (OpensThere u c (not (in_main p.0))) p.1) (λ p. AllAre (KeepsOwn x (not (in_main p.0))) p.1)
-      (λ p. AllAre (Kept x c (not (in_main p.0))) p.1)
-      (λ p h k. all_both (OpensThere u c (not (in_main p.0))) (KeepsOwn x (not (in_main p.0))) p.1 h k) c.node.program.sections
+      each_two (λ p. AllAre (OpensThere u c (not (is_own_section p.0))) p.1) (λ p. AllAre (KeepsOwn x (not (is_own_section p.0))) p.1)
+      (λ p. AllAre (Kept x c (not (is_own_section p.0))) p.1)
+      (λ p h k. all_both (OpensThere u c (not (is_own_section p.0))) (KeepsOwn x (not (is_own_section p.0))) p.1 h k) c.node.program.sections
       (sections_there u x c (IsGood real c) c.node.program.sections (good_of s sound x c at) (λ test e. e)) (own_sections x c at)
 
   pub quiet_of : (w : World) → Lefts Kept u w → AreQuiet held w

@@ -6,9 +6,10 @@ use Rattle.std.proofs.lemmas.Bool.{and_parts, cases_lt, leb-true}
 use Rattle.std.proofs.lemmas.List.{get_or_past}
 use Rattle.std.proofs.lemmas.List.Sums.{sum_by-cons}
 use Rattle.std.proofs.lemmas.Option.{slice_get-get_or}
-use Rattle.gq_model.specs.declared.program.Section.{Section}
+use Rattle.gq_model.specs.declared.section.Section.{Section}
 use Rattle.gq_model.specs.machine.Lists.{all_of, between}
-use Rattle.gq_model.specs.machine.Program.{Program, Statements, body_of, same_section, section_in, size}
+use Rattle.gq_model.specs.machine.Program.{Program, Statements, body_of, section_in, size}
+use Rattle.gq_model.specs.machine.Sections.{same_section}
 use Rattle.gq_model.specs.texts.Code.{IsProgram, are_sections, greatest_statements}
 use Rattle.gq_model.specs.texts.Operands.{greatest_number}
 use Rattle.gq_model.specs.machine.Scenario.{Component}

@@ -2,7 +2,7 @@
 use Rattle.std.proofs.Common.{◌≡◌, ℕ, ◌+◌, Bool, true, false, List, ◌∷◌, ◌++◌, drop, Option, refl, ap, arith}
 use Rattle.gq_model.specs.declared.phase.Phase.{Phase}
 use Rattle.gq_model.specs.declared.program.Form.{Form}
-use Rattle.gq_model.specs.declared.program.Section.{Section}
+use Rattle.gq_model.specs.declared.section.Section.{Section}
 use Rattle.gq_model.specs.machine.Program.{Statements}
 use Rattle.gq_model.specs.machine.World.{Slot, Empty, Bytes, Pool, Link, Waiting, SlotId, In_leaf, In_session, In_object, Session, Ask, Ask_open, Ask_upgrade}
 use Rattle.gq_model.specs.machine.World.{Ask_close, Ask_call, Request, Current, Round, Leaf, World}

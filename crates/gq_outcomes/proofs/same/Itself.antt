@@ -20,10 +20,11 @@ use Rattle.gq_model.specs.declared.program.OperandStatement.TheVariants.{Plain, 
 use Rattle.gq_model.specs.declared.program.Instruction.{Instruction}
 use Rattle.gq_model.specs.declared.program.Instruction.TheVariants.{Say, Out, Operands, Make, MakePool, Load, Store, Free, Take, Give, Peek, Poke, Open}
 use Rattle.gq_model.specs.declared.program.Instruction.TheVariants.{Upgrade, Call, Close}
-use Rattle.gq_model.specs.declared.program.Section.{Section}
-use Rattle.gq_model.specs.declared.program.Section.TheVariants.{Main, Opening, Upgrading, Calling, Closing}
+use Rattle.gq_model.specs.declared.section.Section.{Section}
+use Rattle.gq_model.specs.declared.section.Section.TheVariants.{Main, Opening, Upgrading, Calling, Closing}
 use Rattle.gq_model.specs.machine.Amounts.{Amount, same_amount}
-use Rattle.gq_model.specs.machine.Program.{Statements, Done, Do, If, Loop, same_section, text_eq}
+use Rattle.gq_model.specs.machine.Program.{Statements, Done, Do, If, Loop, text_eq}
+use Rattle.gq_model.specs.machine.Sections.{same_section}
 use Rattle.gq_model.specs.machine.World.{Slot, Empty, Bytes, Pool, Link, Waiting, SlotId, In_leaf, In_session, In_object, Ask, Ask_open, Ask_upgrade}
 use Rattle.gq_model.specs.machine.World.{Ask_close, Ask_call, Current, Leaf, Request, Round, Session, World}
 use Rattle.gq_outcomes.specs.Outcomes.{Kept, same_kept}

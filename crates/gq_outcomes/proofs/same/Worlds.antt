@@ -1,7 +1,8 @@
 -- Worlds that pass the test of sameness are equal.
 use Rattle.std.proofs.Common.{◌≡◌, ◌==◌, true, ◌&&◌}
 use Rattle.gq_model.specs.machine.Amounts.{Amount, same_amount}
-use Rattle.gq_model.specs.machine.Program.{same_section, text_eq}
+use Rattle.gq_model.specs.machine.Program.{text_eq}
+use Rattle.gq_model.specs.machine.Sections.{same_section}
 use Rattle.gq_model.specs.machine.World.{Current, Leaf, Request, Round, Session, World}
 use Rattle.gq_outcomes.specs.Outcomes.{Kept, same_kept}
 use Rattle.gq_outcomes.specs.Same.{same_all, same_ask, same_bool, same_current, same_leaf, same_option, same_phase, same_request, same_round, same_session}

@@ -4,10 +4,10 @@ use Rattle.gq_model.specs.declared.phase.Phase.{Phase}
 use Rattle.gq_model.specs.declared.phase.Phase.TheVariants.{Pending, Running, Blocked, Serving, Handling, Exited}
 use Rattle.gq_model.specs.machine.Scenario.{Component, Scenario, components, system}
 use Rattle.gq_model.specs.machine.Program.{body_of, section_in}
-use Rattle.gq_model.specs.machine.World.{Leaf}
+use Rattle.gq_model.specs.machine.World.{Leaf, section_of}
 use Rattle.gq_bytecode.specs.Cores.{Core}
 use Rattle.gq_laws.specs.Stands.{Stands}
-use Rattle.gq_machine.specs.Readers.{StandsAt, section_of}
+use Rattle.gq_machine.specs.Readers.{StandsAt}
 use Rattle.gq_machine.specs.Machines.{Machine}
 use Rattle.gq_outcomes.specs.Choices.{racy_servers}
 use Rattle.gq_outcomes.specs.declared.choices.Choices.{Choices}

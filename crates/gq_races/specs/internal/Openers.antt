@@ -2,10 +2,10 @@
 use Rattle.std.specs.Prelude.{ℕ, if◌then◌else◌, Bool, false, List, [], ◌∷◌, ◌++◌, map, Option}
 use Rattle.gq_model.specs.declared.program.Instruction.{Instruction}
 use Rattle.gq_model.specs.declared.program.Instruction.TheVariants.{Open}
-use Rattle.gq_model.specs.declared.program.Section.{Section}
+use Rattle.gq_model.specs.declared.section.Section.{Section}
 use Rattle.gq_model.specs.machine.Program.{Statements}
 use Rattle.gq_model.specs.machine.Scenario.{Component}
-use Rattle.gq_model.specs.rules.Kinds.{in_main}
+use Rattle.gq_model.specs.machine.Sections.{is_own_section}
 use Rattle.gq_model.specs.rules.Use.{is_there, services_of}
 use Rattle.gq_resolve.specs.Served.{once, server_among}
 use Rattle.gq_races.specs.Races.{Stated, stated_in}
@@ -17,12 +17,12 @@ servers_of all c services = map (server_among all c) (once services)
 -- of what is opened in `main`
 abbrev pub first_servers : List Component → Component → List (Section × Statements) → List (Option ℕ)
 first_servers all c [] = []
-first_servers all c (p ∷ rest) = (if in_main p.0 then servers_of all c (services_of p.1) else []) ++ first_servers all c rest
+first_servers all c (p ∷ rest) = (if is_own_section p.0 then servers_of all c (services_of p.1) else []) ++ first_servers all c rest
 
 -- and in all other sections
 abbrev pub later_servers : List Component → Component → List (Section × Statements) → List (Option ℕ)
 later_servers all c [] = []
-later_servers all c (p ∷ rest) = (if in_main p.0 then [] else servers_of all c (services_of p.1)) ++ later_servers all c rest
+later_servers all c (p ∷ rest) = (if is_own_section p.0 then [] else servers_of all c (services_of p.1)) ++ later_servers all c rest
 
 -- a leaf's servers
 abbrev pub opened_from : List Component → Component → List (Option ℕ) × List (Option ℕ)

@@ -1,10 +1,10 @@
 -- Lines of statements that open sessions for less than they need, by what is least for a service.
 use Rattle.std.specs.Prelude.{ℕ, nat_lt, if◌then◌else◌, List, [], ◌∷◌, ◌++◌, Option, Some, None, decimal, codes}
-use Rattle.gq_model.specs.declared.program.Section.{Section}
+use Rattle.gq_model.specs.declared.section.Section.{Section}
 use Rattle.gq_model.specs.machine.Accounts.{entry}
 use Rattle.gq_model.specs.machine.Program.{Program, Statements}
 use Rattle.gq_model.specs.machine.Scenario.{Component}
-use Rattle.gq_model.specs.texts.Fault_texts.{section_word}
+use Rattle.gq_model.specs.machine.Sections.{section_word}
 use Rattle.gq_sizes.specs.Size.{Given, opens_from}
 
 -- the prefix of a line

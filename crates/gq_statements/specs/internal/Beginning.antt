@@ -1,18 +1,9 @@
 -- What a request starts.
 use Rattle.std.specs.Prelude.{ℕ, suc, ◌+◌, nat_le, ◌&&◌, not, Bool, true, Option, Some, None, nat_eq}
 use Rattle.gq_tariff.specs.Prices.{up}
-use Rattle.gq_model.specs.declared.program.Section.{Section}
-use Rattle.gq_model.specs.declared.program.Section.TheVariants.{Opening, Upgrading, Calling, Closing}
 use Rattle.gq_trade.specs.declared.requests.Ask.{Ask}
 use Rattle.gq_trade.specs.declared.requests.Ask.TheVariants.{Open, Upgrade, Close, Call}
 use Rattle.gq_store.specs.Store.{Store}
-
--- the section that a request to a session of this level starts
-abbrev pub section_of : Ask → ℕ → Section
-section_of Open level = Opening
-section_of Upgrade level = Upgrading (suc level)
-section_of Close level = Closing level
-section_of (Call a) level = Calling level
 
 -- it is none, or more than 0
 abbrev pub has_some : Option ℕ → Bool

@@ -1,6 +1,6 @@
 -- Numbered statements as a list of entries, each of which leads to others by their places.
 use Rattle.std.specs.Prelude.{◌≡◌, ◌++◌, ◌-◌, ℕ, zero, suc, ◌+◌, ◌<◌, ◌∷◌, [], List, Option, Some, None, length, map, slice_get}
-use Rattle.gq_model.specs.declared.program.Section.{Section}
+use Rattle.gq_model.specs.declared.section.Section.{Section}
 use Rattle.gq_model.specs.machine.Program.{Program, Statements, size}
 use Rattle.gq_model.specs.machine.Scenario.{Scenario, components}
 use Rattle.gq_traces.specs.Step_positions.{Ahead, Chooses, Does, Ends, Entered, NumberedStatements, Repeats, numbered, past}

@@ -7,7 +7,7 @@ use Rattle.gq_model.specs.machine.Scenario.{Scenario, components, system}
 use Rattle.gq_model.specs.machine.Sums.{held}
 use Rattle.gq_model.specs.machine.World.{Leaf, World}
 use Rattle.gq_model.specs.rules.Accept.{budgets, step_budgets}
-use Rattle.gq_init.specs.Account_values.{AccountValues}
+use Rattle.gq_output.specs.Account_values.{AccountValues}
 use Rattle.gq_prepared.specs.Prepared.{names_of}
 use Rattle.gq_world.specs.Account_lines.{all_accounts}
 use Rattle.gq_world.specs.World_between_turns as worlds

@@ -3,18 +3,18 @@
 use Rattle.std.specs.Prelude.{◌≡◌, ℕ, ◌+◌, ◌++◌, Ok, Err, Bool, true, false, List, [], ◌∷◌, Option, Some, None, drop, slice_get, slice_set, codes, decimal, map}
 use Rattle.std.specs.Prelude.{MatchOption, get_or, length, max}
 use Rattle.std.specs.Io.KnownBytes.{Appends}
-use Rattle.gq_init.specs.Writer_failures.{failures_of, written_to}
-use Rattle.gq_init.specs.Account_values.{AccountValues}
-use Rattle.gq_init.specs.Writes.{IsPrefix, IsRaised}
-use Rattle.gq_init.specs.declared.counted.Counted.{Counted}
+use Rattle.gq_output.specs.Writer_failures.{failures_of, written_to}
+use Rattle.gq_output.specs.Account_values.{AccountValues}
+use Rattle.gq_output.specs.Writes.{IsPrefix, IsRaised}
+use Rattle.gq_output.specs.declared.counted.Counted.{Counted}
 use Rattle.gq_machine.specs.Events.{event_of}
 use Rattle.gq_model.specs.declared.phase.Phase.{Phase}
 use Rattle.gq_model.specs.declared.phase.Phase.TheVariants.{Running, Handling}
-use Rattle.gq_model.specs.declared.program.Section.{Section}
+use Rattle.gq_model.specs.declared.section.Section.{Section}
 use Rattle.gq_model.specs.machine.Accounts.{Account}
 use Rattle.gq_model.specs.machine.Doing.{Event}
 use Rattle.gq_model.specs.machine.Step.{next}
-use Rattle.gq_model.specs.texts.Fault_texts.{section_word}
+use Rattle.gq_model.specs.machine.Sections.{section_word}
 use Rattle.gq_model.specs.machine.Scenario.{Component, Scenario, components, system}
 use Rattle.gq_model.specs.machine.World as model
 use Rattle.gq_model.specs.rules.Accept.{budgets, step_budgets}
@@ -27,7 +27,8 @@ use Rattle.gq_world.specs.Account_lines.{all_accounts}
 use Rattle.gq_world.specs.World_between_turns as worlds
 use Rattle.gq_reports.specs.declared.run_fault.RunFault.{RunFault}
 use Rattle.gq_reports.specs.declared.run_fault.RunFault.TheVariants as fault
-use Rattle.gq_traces.specs.Step_positions.{Ahead, StepPosition, ahead, body_in, next_place, past, place, section_at}
+use Rattle.gq_traces.specs.Step_positions.{Ahead, StepPosition, ahead, body_in, next_place, past, place}
+use Rattle.gq_model.specs.machine.World.{section_of}
 use Rattle.gq_traces.specs.Traces_written.{prints_all}
 use Rattle.gq_traces.specs.Trace.{Due, Traced, account_change, account_changes, after_turns, changes, due_in, head_line, session_changes, standing_of}
 use Rattle.gq_traces.specs.Trace.{printed_step, turns_text}
@@ -117,7 +118,7 @@ PlacePrinted programs stands x section due =
 abbrev pub StepPrinted : List Entries → List places.Ahead → Scenario → model.World → ℕ → stated.Due → Type 0
 StepPrinted programs stands s w x due =
     (c : Component) (l : model.Leaf) (aheads : List Ahead) (t : Ahead) → slice_get (components s) x ≡ Some c → slice_get w.leaves x ≡ Some l
-    → AreAheads programs stands aheads → slice_get aheads x ≡ Some t → place_of due ≡ next_place c (section_at l.current) t.todo t.loops
+    → AreAheads programs stands aheads → slice_get aheads x ≡ Some t → place_of due ≡ next_place c (section_of l.current) t.todo t.loops
 
 -- the leaf stands past its next step, as one that takes steps of its own and has these operands
 abbrev pub PassesBy : List Entries → List places.Ahead → List places.Ahead → ℕ → List ℕ → Type 0
@@ -274,7 +275,7 @@ pub record IsOwnTaken (old new : worlds.World) (t : Tracing) (o : Own) (text : L
   pub taken : IsTaken old new o.leaf o.taken text
   pub noted : WasNoted new t.notes
   pub own : takes_own o.taken.before.phase ≡ true
-  pub section : (l : model.Leaf) → slice_get old.world.leaves o.leaf ≡ Some l → o.section ≡ section_at l.current
+  pub section : (l : model.Leaf) → slice_get old.world.leaves o.leaf ≡ Some l → o.section ≡ section_of l.current
   pub top : (l : model.Leaf) → slice_get old.world.leaves o.leaf ≡ Some l → IsTop o.top l.operands
 
 -- Turns were reported: of each trace that was on the way there, the text was written, and the trace that goes on from there is on the way.

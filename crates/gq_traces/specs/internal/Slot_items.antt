@@ -5,9 +5,9 @@ use Rattle.gq_model.specs.declared.program.OperandSlot.TheVariants.{Own, Shared}
 use Rattle.gq_model.specs.machine.Resource_prices.{price_pool}
 use Rattle.gq_model.specs.machine.Scenario.{System, components, system}
 use Rattle.gq_model.specs.machine.World.{Slot, Bytes, World, session_at}
-use Rattle.gq_model.specs.texts.Fault_texts.{section_word}
+use Rattle.gq_model.specs.machine.Sections.{section_word}
 use Rattle.gq_laws.specs.Stands.{Stands}
-use Rattle.gq_init.specs.declared.counted.Counted.{Counted}
+use Rattle.gq_output.specs.declared.counted.Counted.{Counted}
 use Rattle.gq_machine.specs.Machines.{Machine}
 use Rattle.gq_machine.specs.declared.world_reads.Holding.{Holding}
 use Rattle.gq_machine.specs.declared.world_reads.Holding.TheVariants as holding

@@ -5,9 +5,9 @@ use Rattle.gq_model.specs.declared.fault.Wrong.{Wrong}
 use Rattle.gq_model.specs.machine.Run.{Ran, Acts}
 use Rattle.gq_model.specs.machine.World.{World}
 use Rattle.gq_model.specs.texts.Turns.{turns_given}
-use Rattle.gq_init.specs.Writer_failures.{failures_of}
-use Rattle.gq_init.specs.Writes.{IsRaised}
-use Rattle.gq_init.specs.declared.counted.Counted.{Counted}
+use Rattle.gq_output.specs.Writer_failures.{failures_of}
+use Rattle.gq_output.specs.Writes.{IsRaised}
+use Rattle.gq_output.specs.declared.counted.Counted.{Counted}
 use Rattle.gq_laws.specs.Turn_effects.{steps_of}
 use Rattle.gq_world.specs.internal.Act_transitions.{going}
 

@@ -3,7 +3,7 @@ use Rattle.std.specs.Prelude.{◌≡◌, List, Result, Ok}
 use Rattle.gq_model.specs.machine.Lists.{greatest}
 use Rattle.gq_model.specs.rules.Kinds.{AbstractState, Subject}
 use Rattle.gq_model.specs.rules.Flow.{flow, points, context, start_of, body, section_flow}
-use Rattle.gq_model.specs.declared.program.Section.TheVariants.{Main}
+use Rattle.gq_model.specs.declared.section.Section.TheVariants.{Main}
 use Rattle.gq_caps.specs.Measured.{total_of}
 use Rattle.gq_caps.specs.declared.totals.Measure.{Measure}
 use Rattle.gq_caps.specs.declared.totals.Totals.{Totals}

@@ -1,6 +1,6 @@
 -- How requests are added up.
 use Rattle.std.specs.Prelude.{◌≡◌, ℕ, ◌<◌, ◌+◌, max, true, List, length, Option, Some, None, get_or}
-use Rattle.gq_model.specs.declared.program.Section.{Section}
+use Rattle.gq_model.specs.declared.section.Section.{Section}
 use Rattle.gq_verify.specs.Saturated_numbers.{saturated}
 use Rattle.gq_verify.specs.Requested.{Requested, requests_for, is_for}
 

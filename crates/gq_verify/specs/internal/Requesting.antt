@@ -1,7 +1,7 @@
 -- Requests, statement by statement.
 use Rattle.std.specs.Prelude.{ℕ, suc, ◌*◌, max, List}
-use Rattle.gq_model.specs.declared.program.Section.{Section}
-use Rattle.gq_model.specs.declared.program.Section.TheVariants as section
+use Rattle.gq_model.specs.declared.section.Section.{Section}
+use Rattle.gq_model.specs.declared.section.Section.TheVariants as section
 use Rattle.gq_model.specs.rules.Kinds.{AbstractState, Context, inside}
 use Rattle.gq_model.specs.rules.Budgets.{asks, requests}
 use Rattle.gq_program.specs.declared.program_tree.Statement.{Statement}

@@ -1,7 +1,7 @@
 -- Lines by what visitors keep.
 use Rattle.std.specs.Prelude.{ℕ, zero, suc, List, [], ◌∷◌, ◌++◌, Option, Some, None, codes, decimal, get_or}
 use Rattle.gq_model.specs.declared.program.Form.TheVariants.{Slice}
-use Rattle.gq_model.specs.declared.program.Section.TheVariants.{Main}
+use Rattle.gq_model.specs.declared.section.Section.TheVariants.{Main}
 use Rattle.gq_model.specs.machine.Amounts.{Resource}
 use Rattle.gq_model.specs.machine.Scenario.{Interface}
 use Rattle.gq_model.specs.rules.Kinds.{Memory, kind_price, session_cost}

@@ -5,9 +5,9 @@ use Rattle.gq_model.specs.machine.World as model
 use Rattle.gq_model.specs.machine.Run.{Ran}
 use Rattle.gq_model.specs.machine.Scenario.{Scenario, components}
 use Rattle.gq_model.specs.texts.Turns.{turned}
-use Rattle.gq_init.specs.declared.counted.Counted.{Counted}
-use Rattle.gq_init.specs.Writer_failures.{written_to, failures_of}
-use Rattle.gq_init.specs.Writes.{IsRaised}
+use Rattle.gq_output.specs.declared.counted.Counted.{Counted}
+use Rattle.gq_output.specs.Writer_failures.{written_to, failures_of}
+use Rattle.gq_output.specs.Writes.{IsRaised}
 use Rattle.gq_reports.specs.Whole.{Written, written_turns}
 use Rattle.gq_world.specs.World_between_turns.{World}
 pub use Rattle.gq_world.specs.World_between_turns.{AreBelow}

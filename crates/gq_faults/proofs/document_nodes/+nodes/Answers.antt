@@ -2,7 +2,7 @@ use Rattle.std.proofs.Common.{◌≡◌, ◌+◌, ◌-◌, ◌<◌, ◌==◌, �
 use Rattle.std.specs.Prelude.{codes}
 use Rattle.toml.specs.Data.{as_table}
 use Rattle.toml.specs.View.{view, items_view, table_view}
-use Rattle.gq_init.proofs.Written_byte_facts.{on_ok}
+use Rattle.gq_output.proofs.Written_byte_facts.{on_ok}
 use Rattle.gq_scenario.specs.Document.{list_at}
 use Rattle.gq_scenario.specs.Table_keys.{listed}
 use Rattle.gq_faults.specs.Documents.{in_table, in_tables, nodes_below, DocumentNode}

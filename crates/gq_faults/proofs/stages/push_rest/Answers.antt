@@ -1,6 +1,6 @@
 use Rattle.std.proofs.Common.{◌≡◌, ◌++◌, ◌∙◌, ap, arith, length, map}
 use Rattle.std.proofs.lemmas.Bool.Decides.{nat_tests}
-use Rattle.gq_init.proofs.Written_byte_facts.{on_ok}
+use Rattle.gq_output.proofs.Written_byte_facts.{on_ok}
 use Rattle.gq_model.specs.machine.Scenario.{components}
 use Rattle.gq_model.specs.rules.Accept.{budgets}
 use Rattle.gq_model.specs.texts.Fault_texts.{refusal_text, unresolved_text}

@@ -1,7 +1,7 @@
 use Rattle.std.proofs.Common.{◌∙◌, sym, subst, map}
 use Rattle.gq_model.specs.machine.Lists.{any_of}
 use Rattle.gq_model.specs.machine.Program.{text_eq}
-use Rattle.gq_init.specs.Writer_failures.{failures_of}
+use Rattle.gq_output.specs.Writer_failures.{failures_of}
 use Rattle.gq_reader.specs.Key_rules.{rule_of}
 use Rattle.gq_scenario.specs.Fault_words.{printed_key}
 use Rattle.gq_faults.specs.Reported_faults.{Reporting}

@@ -7,5 +7,5 @@ pub returns-then-end-gt8 : goal.returns-then-end-gt8
 returns-then-end-gt8 c is =
     let text = c.args.text.now in
     let name = c.args.name.now in
-    let same = text_is (take (length name) text) name (sym c.same_bytes.ensures ∙ is) in
+    let same = text_is (take (length name) text) name (sym c.same_text.ensures ∙ is) in
     sym (take-append-drop (length name) text) ∙ ap (λ t. t ++ drop (length name) text) same

@@ -1,6 +1,6 @@
 -- A line, and the numbers that follow it.
 use Rattle.std.proofs.Common.{◌≡◌, ◌<◌, ◌-◌, ◌++◌, ◌∙◌, ◌∷◌, ℕ, List, [], length, length-append, ap, subst, arith}
-use Rattle.gq_init.specs.LeafLines.{Lines, prefix_of, line_with}
+use Rattle.gq_output.specs.LeafLines.{Lines, prefix_of, line_with}
 use Rattle.gq_machine.specs.internal.Turn_transitions.{Says}
 use Rattle.gq_machine.proofs.Leaf_alone_turns.{label}
 use Rattle.gq_machine.proofs.output.output_on.Goals as goal

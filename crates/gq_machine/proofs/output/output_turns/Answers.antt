@@ -1,7 +1,7 @@
 -- Turns of a leaf, and the lines that they give.
 use Rattle.std.proofs.Common.{◌≡◌, ◌+◌, ◌-◌, ◌<◌, ◌≤◌, ℕ, List, Result, Ok, [], length, ap, subst, arith}
 use Rattle.gq_model.specs.declared.fault.Wrong.{Wrong}
-use Rattle.gq_init.specs.LeafLines.{line_with}
+use Rattle.gq_output.specs.LeafLines.{line_with}
 use Rattle.gq_machine.specs.Machine_world.{world_of}
 use Rattle.gq_machine.specs.Countable.{AreCountable}
 use Rattle.gq_machine.specs.declared.event.Event.{Event}

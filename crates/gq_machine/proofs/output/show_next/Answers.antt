@@ -1,7 +1,7 @@
 -- A number that a leaf shows after the turns that it takes alone.
 use Rattle.std.proofs.Common.{◌≡◌, ◌+◌, ◌-◌, ◌≤◌, ◌++◌, ℕ, zero, suc, decimal, length, Ok, refl, sym, ap, subst, arith, ◌∙◌, rules}
 use Rattle.std.proofs.Common.{length-append}
-use Rattle.gq_init.specs.LeafLines.{Lines, line_with}
+use Rattle.gq_output.specs.LeafLines.{Lines, line_with}
 use Rattle.gq_machine.specs.declared.event.Event.TheVariants as event
 use Rattle.gq_machine.specs.Shows.{StepShows}
 use Rattle.gq_machine.specs.internal.Turn_transitions.{Says}

@@ -1,7 +1,7 @@
 -- The reply to a call.
 use Rattle.std.proofs.Common.{◌≡◌, ℕ, List, [], ◌∷◌, Some, Ok, drop, get_or, refl, sym, subst, ◌∙◌, rules}
 use Rattle.std.specs.Prelude.{slice_get}
-use Rattle.gq_model.specs.declared.program.Section.TheVariants as section
+use Rattle.gq_model.specs.declared.section.Section.TheVariants as section
 use Rattle.gq_model.proofs.Small_facts.{some_same}
 use Rattle.gq_leaf.specs.Coded.{Coded}
 use Rattle.gq_machine.proofs.Section_end_reply.{client, client_is, goes_to, had, kept_two, none_to, replied_to, server, server_is}

@@ -1,6 +1,6 @@
 -- The reply to a request for the next level.
 use Rattle.std.proofs.Common.{Ok, refl, rules}
-use Rattle.gq_model.specs.declared.program.Section.TheVariants as section
+use Rattle.gq_model.specs.declared.section.Section.TheVariants as section
 use Rattle.gq_machine.proofs.Section_end_reply.{client, client_is, goes_to, had, kept_two, replied_to, server, server_is}
 use Rattle.gq_machine.proofs.Slot_system_kept.{scene_beside}
 use Rattle.gq_machine.proofs.section_replies.upgraded.Goals as goal

@@ -1,6 +1,7 @@
 use Rattle.std.proofs.Common.{◌∙◌, ◌++◌, ◌∷◌, [], ap, sym}
 use Rattle.std.proofs.lemmas.Result.{on_ok_weaker}
-use Rattle.gq_machine.specs.Readers.{StandsAt, body_in, section_of}
+use Rattle.gq_machine.specs.Readers.{StandsAt, body_in}
+use Rattle.gq_model.specs.machine.World.{section_of}
 use Rattle.gq_model.specs.machine.Program.{body_of, section_in}
 use Rattle.gq_model.specs.machine.Scenario.{components}
 use Rattle.gq_model.proofs.Small_facts.{get_within}

@@ -1,5 +1,5 @@
 use Rattle.std.proofs.Common.{◌≡◌, ◌∙◌, ap, sym, get_or, map}
-use Rattle.gq_machine.specs.Readers.{section_of}
+use Rattle.gq_model.specs.machine.World.{section_of}
 use Rattle.gq_model.specs.machine.Program.{body_of, section_in}
 use Rattle.gq_model.specs.machine.Scenario.{Component, components}
 use Rattle.gq_statements.specs.Slot_statements.{current_seen}

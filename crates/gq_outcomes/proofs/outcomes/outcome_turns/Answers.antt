@@ -1,6 +1,6 @@
 -- The text was made, and is written; and it leads to the outcome.
 use Rattle.std.proofs.Common.{Ok, ap, sym, ◌∙◌}
-use Rattle.gq_init.specs.Writer_failures.{written_to}
+use Rattle.gq_output.specs.Writer_failures.{written_to}
 use Rattle.gq_reports.proofs.Command_text_endings.{whole_text}
 use Rattle.gq_outcomes.specs.Laws.{WritesTurnsTo}
 use Rattle.gq_outcomes.specs.Written.{outcome_turns_written}

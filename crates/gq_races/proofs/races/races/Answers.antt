@@ -1,7 +1,7 @@
 -- The text was made, and is written; and where it has no line of a race, there is none.
 use Rattle.std.proofs.Common.{Ok, ap, codes, sym, ◌∙◌}
 use Rattle.std.specs.Prelude.{IsOkAnd}
-use Rattle.gq_init.specs.Writer_failures.{written_to}
+use Rattle.gq_output.specs.Writer_failures.{written_to}
 use Rattle.gq_load.specs.Load.{loaded}
 use Rattle.gq_reports.proofs.Command_text_endings.{reported_text, whole_text}
 use Rattle.gq_races.specs.Races.{IsOrderFree, IsRaceFree}

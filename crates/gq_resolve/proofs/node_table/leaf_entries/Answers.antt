@@ -13,8 +13,7 @@ overflow_cast-number c =
       c.loop-number-test.true,
       ap length places,
       places-count c.args.scenario.now,
-      c.leaf_count-leaves.ensures.count,
-      c.leaf_count-leaves.ensures.few,
+      c.bounds.ensures.leaves,
     )
 
 pub leaf_entry-requires-clause-there : goal.leaf_entry-requires-clause-there

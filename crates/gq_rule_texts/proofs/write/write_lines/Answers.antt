@@ -1,7 +1,7 @@
 -- A write failed within a line.
 use Rattle.std.proofs.Common.{List, ℕ, subst}
 use Rattle.std.proofs.lemmas.Result.{err_from_is_err_and}
-use Rattle.gq_init.specs.Writes.{IsPrefix, IsRaised}
+use Rattle.gq_output.specs.Writes.{IsPrefix, IsRaised}
 use Rattle.gq_rule_texts.specs.declared.rule_table.RuleText.{RuleText}
 use Rattle.gq_rule_texts.proofs.Rule_text_parts.{prefix_written}
 use Rattle.gq_rule_texts.proofs.write.write_lines.Goals as goal

@@ -2,7 +2,7 @@
 use Rattle.std.proofs.Common.{List, subst}
 use Rattle.std.proofs.lemmas.Result.{err_from_is_err_and}
 use Rattle.std.specs.Borrow.{Bor}
-use Rattle.gq_init.specs.Writes.{IsRaised}
+use Rattle.gq_output.specs.Writes.{IsRaised}
 use Rattle.gq_rule_texts.specs.declared.rule_table.RuleText.{RuleText}
 use Rattle.gq_rule_texts.specs.Rule_tables.{lines_of}
 use Rattle.gq_rule_texts.proofs.Rule_text_parts.{prefix_written}

@@ -1,5 +1,5 @@
 use Rattle.std.proofs.Common.{◌∙◌, ◌+◌, List, ap, sym, drop}
-use Rattle.gq_model.specs.declared.program.Section.{Section}
+use Rattle.gq_model.specs.declared.section.Section.{Section}
 use Rattle.gq_model.specs.machine.Program.{Statements, section_in}
 use Rattle.gq_sizes.specs.Size.{gifts_in, least_gift}
 use Rattle.gq_sizes.specs.Needing.{least_of}

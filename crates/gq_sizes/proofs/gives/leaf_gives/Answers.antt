@@ -1,6 +1,6 @@
 -- All sections give what is asked, or one does not.
 use Rattle.std.proofs.Common.{◌∙◌, ap, sym}
-use Rattle.gq_model.specs.declared.program.Section.{Section}
+use Rattle.gq_model.specs.declared.section.Section.{Section}
 use Rattle.gq_model.specs.machine.Lists.{all_of}
 use Rattle.gq_model.specs.machine.Program.{Statements}
 use Rattle.gq_verify.specs.Visits.{section_sights}

@@ -1,5 +1,5 @@
 use Rattle.std.proofs.Common.{◌≡◌, drop}
-use Rattle.gq_model.specs.declared.program.Section.{Section}
+use Rattle.gq_model.specs.declared.section.Section.{Section}
 use Rattle.gq_model.specs.machine.Lists.{all_of}
 use Rattle.gq_model.specs.machine.Program.{Statements}
 use Rattle.gq_verify.specs.Named_sections.{AreThere}

@@ -1,14 +1,11 @@
 use Rattle.std.proofs.Common.{◌∙◌, ◌++◌, ap, arith, codes}
 use Rattle.gq_model.specs.machine.Accounts.{leaf_count}
-use Rattle.gq_scenario.proofs.Preorder_leaves.{components-count}
 use Rattle.gq_sizes.specs.Size_text.{node_line}
 use Rattle.gq_sizes.specs.internal.Printed_sizes.{node_lines}
 use Rattle.gq_sizes.proofs.node_lines.push_tree.Goals as goal
 
 pub push_nodes-requires : goal.push_nodes-requires
-push_nodes-requires c =
-    let all = components-count c.args.scenario.now in
-    omega (arith, ap leaf_count c.nodes.ensures, all, c.leaf_count-leaves.ensures.count, c.leaf_count-leaves.ensures.few)
+push_nodes-requires c = omega (arith, ap leaf_count c.nodes.ensures, c.bounds.ensures.count)
 
 pub returns : goal.returns
 returns c all is =

@@ -1,7 +1,7 @@
 use Rattle.std.proofs.Common.{◌≡◌, ℕ, ◌<◌, ◌≤◌, ◌^◌, List, [], ◌∷◌, get_or, refl, arith}
 use Rattle.std.specs.Prelude.{sum_by}
 use Rattle.gq_tariff.specs.Prices.{classes}
-use Rattle.gq_model.specs.declared.program.Section.TheVariants.{Main}
+use Rattle.gq_model.specs.declared.section.Section.TheVariants.{Main}
 use Rattle.gq_model.specs.machine.Amounts.{Caps}
 use Rattle.gq_model.specs.rules.Kinds.{AbstractState, kind_places}
 use Rattle.gq_verify.specs.Saturated_numbers.{saturated}

@@ -3,7 +3,6 @@ use Rattle.std.proofs.Common.{◌∙◌, ap, refl, subst, sym, arith}
 use Rattle.gq_model.specs.machine.Accounts.{leaf_count}
 use Rattle.gq_model.specs.machine.Amounts.{counts_caps}
 use Rattle.gq_model.specs.machine.Scenario.{Scenario, components, system}
-use Rattle.gq_scenario.proofs.Preorder_leaves.{components-count}
 use Rattle.gq_scenario.specs.Without_quantities.{unsized}
 use Rattle.gq_sizes.specs.Endless.{NodesEnd}
 use Rattle.gq_sizes.specs.Least.{least_interfaces, least_nodes}
@@ -14,9 +13,7 @@ use Rattle.gq_sizes.proofs.sized.is_sized_by.Goals as goal
 
 pub nodes_sized-requires : goal.nodes_sized-requires
 nodes_sized-requires c =
-    let all = components-count c.args.scenario.now in
-    let nodes = c.nodes-old.ensures ∙ c.nodes-2.ensures in
-    omega (arith, ap leaf_count nodes, all, c.leaf_count-count.ensures.count, c.leaf_count-count.ensures.few)
+    let nodes = c.nodes-old.ensures ∙ c.nodes-2.ensures in omega (arith, ap leaf_count nodes, c.bounds.ensures.count)
 
 pub returns-in-Some-clause-sized : goal.returns-in-Some-clause-sized
 returns-in-Some-clause-sized c h =

@@ -1,4 +1,4 @@
-use Rattle.std.proofs.Common.{◌≡◌, None, ap, ◌∙◌}
+use Rattle.std.proofs.Common.{◌≡◌, ◌<◌, None, ap, sym, subst, ◌∙◌}
 use Rattle.std.specs.Prelude.{IfNone, IfSome}
 use Rattle.gq_trade.specs.Queues.{oldest_to}
 use Rattle.gq_trade.specs.Trading.{session_at}
@@ -16,8 +16,9 @@ returns-then-not-has-clause-step c e f d is same sections begins =
     let r = c.args.request in
     let first = c.requires.first.oldest in
     let level = c.level-level.ensures ∙ ap (λ (w : Trades). (session_at w.trading r.session).level) c.trades.ensures in
-    let has = has_is d c.args.provider.now.sections.now s r c.section_of-section.result c.level-level.result c.has.result sections
-    c.section_of-section.ensures.section c.section_of-section.ensures.is level c.has.ensures ∙ c.if-not-has.true in
+    let within = c.section_asked-section.ensures.section (λ e. subst (λ l. l < 3) (sym level) (c.requires.first.level e)) in
+    let has = has_is d c.args.provider.now.sections.now s r c.section_asked-section.result c.level-level.result c.has.result sections
+    within c.section_asked-section.ensures.is level c.has.ensures ∙ c.if-not-has.true in
     without d e s x is same l c.laws.ensures.sound r first.rest first.is c.requires.first.there f begins c.args.provider.now.object c.wrong_without.result has
     c.requires.first.its c.requires.knows.object c.wrong_without.ensures
 
@@ -49,8 +50,9 @@ returns-in-Ok-clause-step c e f d is same sections begins =
     let r = c.args.request in
     let first = c.requires.first.oldest in
     let level = c.level-level.ensures ∙ ap (λ (w : Trades). (session_at w.trading r.session).level) c.trades.ensures in
-    let has = has_is d c.args.provider.now.sections.now s r c.section_of-section.result c.level-level.result c.has.result sections
-    c.section_of-section.ensures.section c.section_of-section.ensures.is level c.has.ensures ∙ c.if-not-has.false in
+    let within = c.section_asked-section.ensures.section (λ e. subst (λ l. l < 3) (sym level) (c.requires.first.level e)) in
+    let has = has_is d c.args.provider.now.sections.now s r c.section_asked-section.result c.level-level.result c.has.result sections
+    within c.section_asked-section.ensures.is level c.has.ensures ∙ c.if-not-has.false in
     let t = c.accept.new.slots in
     let m = c.lawful-in-Ok.ensures in
     outcome d e s x is same l c.laws.ensures.sound r first.rest first.is c.requires.first.there f begins t m has (returns-in-Ok-clause-takes c)

@@ -1,6 +1,6 @@
 -- The turns are taken, and all lines are written.
 use Rattle.std.proofs.Common.{◌≡◌, ◌∙◌, Bool, List, ℕ, Option, length, refl, subst, sym, true}
-use Rattle.gq_init.specs.declared.counted.Counted.{Counted}
+use Rattle.gq_output.specs.declared.counted.Counted.{Counted}
 use Rattle.gq_model.specs.machine.Run.{Ran, Acts, run, run_on}
 use Rattle.gq_model.specs.machine.Scenario.{Scenario, components, system}
 use Rattle.gq_model.specs.machine.World.{start}

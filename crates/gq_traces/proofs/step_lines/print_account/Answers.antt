@@ -5,7 +5,7 @@ use Rattle.std.specs.Prelude.{slice_get, slice_set}
 use Rattle.gq_model.specs.machine.Scenario.{Scenario}
 use Rattle.gq_resolve.specs.NodeTables.{node_rows}
 use Rattle.gq_scenario.specs.Component_trees.{version_number}
-use Rattle.gq_init.specs.Account_values.{reported_of}
+use Rattle.gq_output.specs.Account_values.{reported_of}
 use Rattle.gq_world.specs.Account_lines.{all_accounts}
 use Rattle.gq_model.proofs.Small_facts.{set_there}
 use Rattle.gq_traces.specs.internal.Noted.{standing_in}

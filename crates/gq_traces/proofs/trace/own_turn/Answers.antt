@@ -4,10 +4,9 @@ use Rattle.std.specs.Prelude.{IfSome, slice_get}
 use Rattle.gq_machine.specs.Events.{event_of}
 use Rattle.gq_machine.specs.Machines.{Machine}
 use Rattle.gq_model.specs.machine.Scenario.{Scenario, components, system}
-use Rattle.gq_model.specs.machine.World.{Leaf}
+use Rattle.gq_model.specs.machine.World.{Leaf, section_of}
 use Rattle.gq_statements.specs.Slot_statements.{current_seen}
 use Rattle.gq_model.specs.machine.Run.{label_at}
-use Rattle.gq_traces.specs.Step_positions.{section_at}
 use Rattle.gq_traces.specs.Trace.{after_turn}
 use Rattle.gq_traces.specs.internal.Flat.{AllStand, ArePrograms, programs_of}
 use Rattle.gq_traces.specs.internal.Printed_steps.{IsOn, IsTop, budgets_of}
@@ -99,7 +98,7 @@ report_own-requires-clause-taken g c =
         noted = was_noted w step.new.self c.args.tracing.now.notes step.ensures.scenario c.requires.can.noted c.counted.ensures.accounts
             c.counted-2.ensures.accounts;
         own = c.requires.own;
-        section = λ l there. c.section_of-section.ensures ∙ ap section_at
+        section = λ l there. c.section_of-section.ensures ∙ ap section_of
             (from_some (slice_get w.world.leaves x) (λ z. current_seen c.current.result ≡ z.current) l there
             (subst (λ (m : Machine). IfSome (slice_get m.world.leaves x) (λ z. current_seen c.current.result ≡ z.current)) c.machine-2.ensures.is
             c.current.ensures));
@@ -127,7 +126,7 @@ returns-clause-reported g c =
       noted = was_noted w step.new.self c.args.tracing.now.notes step.ensures.scenario c.requires.can.noted c.counted.ensures.accounts
           c.counted-2.ensures.accounts;
       own = c.requires.own;
-      section = λ l there. c.section_of-section.ensures ∙ ap section_at
+      section = λ l there. c.section_of-section.ensures ∙ ap section_of
           (from_some (slice_get w.world.leaves x) (λ z. current_seen c.current.result ≡ z.current) l there
           (subst (λ (m : Machine). IfSome (slice_get m.world.leaves x) (λ z. current_seen c.current.result ≡ z.current)) c.machine-2.ensures.is
           c.current.ensures));

@@ -1,7 +1,7 @@
 -- The leaves stand at the start of their programs, one after the other.
 use Rattle.std.proofs.Common.{◌∙◌, ◌+◌, ◌++◌, ◌∷◌, [], ap, sym, subst, take, arith}
 use Rattle.std.proofs.lemmas.List.{take_all, take_more}
-use Rattle.gq_model.specs.declared.program.Section.TheVariants.{Main}
+use Rattle.gq_model.specs.declared.section.Section.TheVariants.{Main}
 use Rattle.gq_traces.specs.Step_positions.{ahead, body_in, start_aheads}
 use Rattle.gq_traces.specs.internal.Flat.{AreAheads}
 use Rattle.gq_traces.proofs.Leaves_standing.{at_start, next_component, one_more, programs_long}

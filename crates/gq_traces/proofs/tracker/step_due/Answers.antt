@@ -3,7 +3,8 @@ use Rattle.std.proofs.Common.{◌≡◌, ◌∙◌, ap, arith}
 use Rattle.std.specs.Prelude.{slice_get}
 use Rattle.gq_model.specs.machine.Scenario.{components}
 use Rattle.gq_statements.specs.Slot_statements.{current_seen}
-use Rattle.gq_traces.specs.Step_positions.{next_place, section_at}
+use Rattle.gq_traces.specs.Step_positions.{next_place}
+use Rattle.gq_model.specs.machine.World.{section_of}
 use Rattle.gq_traces.proofs.Leaves_standing.{from_some, programs_long}
 use Rattle.gq_traces.proofs.tracker.step_due.Goals as goal
 
@@ -18,4 +19,4 @@ returns c d l ts t there leaf aheads at =
     let m = c.args.machine.now in
     let current = from_some (slice_get m.world.leaves c.args.leaf) (λ z. current_seen c.current.result ≡ z.current) l leaf c.current.ensures in
     c.due_in.ensures (components m.scenario) d ts t c.requires.programs there aheads at
-    ∙ ap (λ s. next_place d s t.todo t.loops) (c.section_of.ensures ∙ ap section_at current)
+    ∙ ap (λ s. next_place d s t.todo t.loops) (c.section_of.ensures ∙ ap section_of current)

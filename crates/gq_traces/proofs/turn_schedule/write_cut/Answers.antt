@@ -1,7 +1,7 @@
 -- The line that turns were cut, put together.
 use Rattle.std.proofs.Common.{◌≡◌, ◌∙◌, ◌≤◌, ◌+◌, ℕ, List, ◌∷◌, ◌++◌, [], length, length-append, append_assoc, ap, sym, subst, arith, codes, true}
 use Rattle.std.specs.Prelude.{decimal}
-use Rattle.gq_init.specs.Writer_failures.{Writes}
+use Rattle.gq_output.specs.Writer_failures.{Writes}
 use Rattle.gq_views.specs.Listing.{joined}
 use Rattle.gq_traces.specs.Schedule.{cut_lines}
 use Rattle.gq_traces.proofs.Printed_line_parts.{short_count}

@@ -5,7 +5,7 @@ use Rattle.gq_model.specs.machine.Run.{run_on}
 use Rattle.gq_model.specs.machine.Scenario.{Scenario, components, system}
 use Rattle.gq_model.specs.machine.World.{World}
 use Rattle.std.specs.Io.KnownBytes.{Appends}
-use Rattle.gq_init.specs.Writes.{IsPrefix}
+use Rattle.gq_output.specs.Writes.{IsPrefix}
 use Rattle.gq_world.specs.Account_lines.{accounts_by}
 use Rattle.gq_unverified.specs.internal.Taking.{HasCome, HasRoom, turns_in}
 use Rattle.gq_unverified.proofs.Tested_step_counts.{start_room, start_count}

@@ -5,8 +5,8 @@ use Rattle.gq_model.specs.machine.Doing as doing
 use Rattle.gq_model.specs.machine.Run.{label_at}
 use Rattle.gq_model.specs.machine.Scenario.{Scenario, components, system}
 use Rattle.gq_machine.specs.Events.{event_of}
-use Rattle.gq_init.specs.Writes.{IsPrefix}
-use Rattle.gq_init.proofs.Written_byte_facts.{appends_nothing}
+use Rattle.gq_output.specs.Writes.{IsPrefix}
+use Rattle.gq_output.proofs.Written_byte_facts.{appends_nothing}
 use Rattle.gq_world.specs.World_between_turns.{line_reported}
 use Rattle.gq_world.proofs.World_turn_facts.{silent}
 use Rattle.gq_unverified.proofs.Tested_step_counts.{countable, near_turn}

@@ -2,7 +2,7 @@ use Rattle.std.proofs.Common.{◌≡◌, drop, IsTrue}
 use Rattle.std.specs.Prelude.{nat_le}
 use Rattle.gq_model.specs.machine.Program.{size}
 use Rattle.gq_model.specs.machine.Lists.{all_of}
-use Rattle.gq_model.specs.texts.Code.{is_section}
+use Rattle.gq_model.specs.machine.Sections.{is_section}
 use Rattle.gq_model.specs.rules.Verdict.{first_fault}
 use Rattle.gq_verify.proofs.section_rules.first_fault.Given as goal
 

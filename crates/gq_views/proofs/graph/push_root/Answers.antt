@@ -1,14 +1,11 @@
 use Rattle.std.proofs.Common.{◌∙◌, ap, arith, codes}
 use Rattle.gq_model.specs.machine.Accounts.{leaf_count}
 use Rattle.gq_model.specs.rules.Accept.{budgets}
-use Rattle.gq_scenario.proofs.Preorder_leaves.{components-count}
 use Rattle.gq_views.proofs.Printed_boxes.{root_box}
 use Rattle.gq_views.proofs.graph.push_root.Goals as goal
 
 pub push_cluster-requires-clause-leaves : goal.push_cluster-requires-clause-leaves
-push_cluster-requires-clause-leaves c =
-    let all = components-count c.scenario-scenario.result.now in
-    omega (arith, ap leaf_count c.nodes.ensures, all, c.leaf_count-leaves.ensures.count, c.leaf_count-leaves.ensures.few)
+push_cluster-requires-clause-leaves c = omega (arith, ap leaf_count c.nodes.ensures, c.bounds.ensures.count)
 
 pub returns : goal.returns
 returns c =

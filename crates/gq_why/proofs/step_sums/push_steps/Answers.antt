@@ -22,11 +22,10 @@ times_of-requires-clause-counted c =
 pub invariant_of-counts : goal.invariant_of-counts
 invariant_of-counts c =
     let same = ap (λ (l : List Component). length l) c.requires.components in
-    let few = c.leaf_count-count.ensures.few in
-    let count = c.leaf_count-count.ensures.count in
+    let few = c.bounds.ensures.leaves in
     record {
       leaves = c.requires.components;
-      few = omega (arith, same, few, count);
+      few = omega (arith, same, few);
       counted = counted_so c.args.free.now c.args.components.now c.args.found.now.surveys.counted.items c.args.found.now.surveys.counted.items
           c.requires.components refl c.requires.surveys.counted;
       servers = c.requires.servers;

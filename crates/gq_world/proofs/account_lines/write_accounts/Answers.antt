@@ -5,8 +5,8 @@ use Rattle.std.specs.Io.KnownBytes.{Appends}
 use Rattle.gq_model.specs.machine.Accounts.{account_line, account_lines}
 use Rattle.gq_model.specs.rules.Accept.{step_budgets}
 use Rattle.gq_world.specs.Account_lines.{accounts_by}
-use Rattle.gq_init.specs.Writes.{IsPrefix, IsRaised}
-use Rattle.gq_init.proofs.Written_byte_facts.{appends_nothing}
+use Rattle.gq_output.specs.Writes.{IsPrefix, IsRaised}
+use Rattle.gq_output.proofs.Written_byte_facts.{appends_nothing}
 use Rattle.gq_world.proofs.Line_text_prefixes.{next_line, next_prefix, all_lines}
 use Rattle.gq_world.proofs.account_lines.write_accounts.Goals as goal
 

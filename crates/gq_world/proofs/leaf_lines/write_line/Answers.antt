@@ -5,7 +5,7 @@ use Rattle.gq_model.specs.machine.Run.{line_of}
 use Rattle.gq_model.specs.machine.Scenario.{Component, components}
 use Rattle.gq_resolve.specs.NodeTables.{node_rows}
 use Rattle.gq_resolve.proofs.Node_table_rows.{leaf_at, label_of_node}
-use Rattle.gq_init.specs.Writer_failures.{Writes}
+use Rattle.gq_output.specs.Writer_failures.{Writes}
 use Rattle.gq_world.specs.World_between_turns.{line_reported}
 use Rattle.gq_world.proofs.World_turn_facts.{label_reported}
 use Rattle.gq_world.proofs.leaf_lines.write_line.Goals as goal

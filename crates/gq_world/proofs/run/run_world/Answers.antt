@@ -2,9 +2,9 @@ use Rattle.std.proofs.Common.{◌∙◌, List, ℕ, Option, subst}
 use Rattle.std.proofs.lemmas.Result.{err_from_is_err_and}
 use Rattle.std.specs.Io.KnownBytes.{Appends}
 use Rattle.gq_world.specs.Account_lines.{accounts_text}
-use Rattle.gq_init.specs.Writes.{IsPrefix}
+use Rattle.gq_output.specs.Writes.{IsPrefix}
 use Rattle.gq_reports.specs.Whole.{whole_of}
-use Rattle.gq_init.proofs.Written_byte_facts.{on_ok, on_err}
+use Rattle.gq_output.proofs.Written_byte_facts.{on_ok, on_err}
 use Rattle.gq_reports.proofs.Command_text_endings.{since}
 use Rattle.gq_world.proofs.Run_text.{complete, cut_lines, cut_turns}
 use Rattle.gq_world.proofs.run.run_world.Goals as goal

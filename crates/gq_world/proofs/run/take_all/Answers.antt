@@ -1,6 +1,6 @@
 use Rattle.std.proofs.Common.{◌∙◌, length, subst}
 use Rattle.std.proofs.lemmas.Result.{err_from_is_err_and}
-use Rattle.gq_init.specs.Writes.{IsRaised}
+use Rattle.gq_output.specs.Writes.{IsRaised}
 use Rattle.gq_model.specs.machine.Scenario.{components}
 use Rattle.gq_world.proofs.Turn_sequence_runs.{here_is, below_at, goes_on_all, cut_all}
 use Rattle.gq_world.proofs.run.take_all.Goals as goal

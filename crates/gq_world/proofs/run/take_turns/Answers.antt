@@ -1,6 +1,6 @@
 use Rattle.std.proofs.Common.{◌∙◌, subst, arith}
 use Rattle.std.proofs.lemmas.Result.{err_from_is_err_and}
-use Rattle.gq_init.specs.Writes.{IsRaised}
+use Rattle.gq_output.specs.Writes.{IsRaised}
 use Rattle.gq_model.specs.machine.Run.{turns_of}
 use Rattle.gq_model.specs.machine.Scenario.{system}
 use Rattle.gq_world.proofs.Turn_sequence_runs.{cut_on, goes_on}

@@ -1,6 +1,6 @@
 use Rattle.std.proofs.Common.{List, ap, subst}
 use Rattle.gq_model.specs.machine.Program.{Statements}
-use Rattle.gq_model.specs.declared.program.Section.{Section}
+use Rattle.gq_model.specs.declared.section.Section.{Section}
 use Rattle.gq_model.specs.rules.Kinds.{Subject}
 use Rattle.gq_budget.specs.Leaf_routes.{BudgetLeaf}
 use Rattle.gq_budget.specs.internal.Counted.{AreRequests}

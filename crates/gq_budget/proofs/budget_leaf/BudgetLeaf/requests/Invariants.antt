@@ -1,6 +1,6 @@
 use Rattle.std.proofs.Common.{drop, IsTrue}
 use Rattle.gq_model.specs.machine.Lists.{all_of}
-use Rattle.gq_model.specs.texts.Code.{is_section}
+use Rattle.gq_model.specs.machine.Sections.{is_section}
 use Rattle.gq_budget.proofs.Counted_section_requests.{Leads}
 use Rattle.gq_budget.proofs.budget_leaf.BudgetLeaf.requests.Given as goal
 

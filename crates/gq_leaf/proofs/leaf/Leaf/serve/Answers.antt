@@ -1,6 +1,6 @@
 -- The first place of `main`.
 use Rattle.std.proofs.Common.{ap}
-use Rattle.gq_model.specs.declared.program.Section.TheVariants.{Main}
+use Rattle.gq_model.specs.declared.section.Section.TheVariants.{Main}
 use Rattle.gq_bytecode.specs.Cores.{Core}
 use Rattle.gq_leaf.proofs.Sound_program_code.{first_inside}
 use Rattle.gq_leaf.proofs.leaf.Leaf.serve.Goals as goal

@@ -4,7 +4,8 @@ use Rattle.std.proofs.lemmas.Option.{slice_get_read}
 use Rattle.gq_model.specs.machine.Program.{body_of, section_in}
 use Rattle.gq_model.specs.machine.Scenario.{components}
 use Rattle.gq_model.specs.machine.World as model
-use Rattle.gq_machine.specs.Readers.{StandsAt, section_of}
+use Rattle.gq_machine.specs.Readers.{StandsAt}
+use Rattle.gq_model.specs.machine.World.{section_of}
 use Rattle.gq_statements.specs.Slot_statements.{current_seen}
 use Rattle.gq_outcomes.specs.internal.Asks.{AreOfSections, asks_of}
 use Rattle.gq_outcomes.specs.internal.Left.{ahead_in}

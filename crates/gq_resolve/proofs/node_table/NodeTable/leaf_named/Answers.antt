@@ -19,22 +19,22 @@ loop-number-preserved c =
     let less : x < length (components s) = omega (arith, c.loop-number-test.true, ap length all, leaf_rows-count s) in
     let own = c.as_bytes.ensures.bytes ∙ ap (λ r. r.name) c.leaf.view_is in
     let next = found_later s c.leaves-leaf-items.result.now x c.leaf-item.result all less c.leaf-item.is c.args.name.now c.as_bytes.result.now own
-    (sym c.same_bytes.ensures ∙ c.if-same_bytes.false) in
+    (sym c.same_text.ensures ∙ c.if-same_text.false) in
     sym next ∙ c.loop-number.invariant
 
-pub returns-then-same_bytes-clause-number : goal.returns-then-same_bytes-clause-number
-returns-then-same_bytes-clause-number c =
+pub returns-then-same_text-clause-number : goal.returns-then-same_text-clause-number
+returns-then-same_text-clause-number c =
     let s = c.args.self.now in
     let x = c.loop-number.number in
     let all = c.leaves-leaf-items.ensures ∙ (ap (λ r. r.leaves) c.self.invariant.rows_are ∙ ap leaf_rows c.self.view_is) in
     let less : x < length (components s) = omega (arith, c.loop-number-test.true, ap length all, leaf_rows-count s) in
     let own = c.as_bytes.ensures.bytes ∙ ap (λ r. r.name) c.leaf.view_is in
     let here = found_here s c.leaves-leaf-items.result.now x c.leaf-item.result all less c.leaf-item.is c.args.name.now c.as_bytes.result.now own
-    (sym c.same_bytes.ensures ∙ c.if-same_bytes.true) in
+    (sym c.same_text.ensures ∙ c.if-same_text.true) in
     ap Some c.new.ensures ∙ (sym here ∙ c.loop-number.invariant)
 
-pub returns-then-same_bytes-clause-there : goal.returns-then-same_bytes-clause-there
-returns-then-same_bytes-clause-there c =
+pub returns-then-same_text-clause-there : goal.returns-then-same_text-clause-there
+returns-then-same_text-clause-there c =
     let s = c.args.self.now in
     let all = c.leaves-leaf-items.ensures ∙ (ap (λ r. r.leaves) c.self.invariant.rows_are ∙ ap leaf_rows c.self.view_is) in
     omega (arith, c.new.ensures, c.loop-number-test.true, ap length all, leaf_rows-count s)

@@ -6,4 +6,4 @@ pub returns-clause-few : goal.returns-clause-few
 returns-clause-few c =
     let s = c.self.inside.scenario in
     let all = c.nodes.ensures ∙ ap (λ r. r.nodes) c.self.invariant.rows_are in
-    omega (arith, ap length all, length-rows_of (codes "init") 0 1 0 s.nodes, c.node_count-nodes.ensures.count, c.node_count-nodes.ensures.few)
+    omega (arith, ap length all, length-rows_of (codes "init") 0 1 0 s.nodes, c.bounds.ensures.nodes)

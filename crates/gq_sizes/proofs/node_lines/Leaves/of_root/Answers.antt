@@ -2,7 +2,6 @@
 use Rattle.std.proofs.Common.{◌∙◌, ap, ap₂, arith}
 use Rattle.gq_model.specs.machine.Accounts.{leaf_count}
 use Rattle.gq_model.specs.machine.Amounts.{Amount}
-use Rattle.gq_scenario.proofs.Preorder_leaves.{components-count}
 use Rattle.gq_sizes.specs.Endless.{children_endless}
 use Rattle.gq_sizes.specs.Size_text.{unless}
 use Rattle.gq_sizes.specs.internal.Printed_sizes.{init_least_printed}
@@ -10,14 +9,10 @@ use Rattle.gq_sizes.proofs.Printed_size_nodes.{root_is}
 use Rattle.gq_sizes.proofs.node_lines.Leaves.of_root.Goals as goal
 
 pub least_of_children-after-requires : goal.least_of_children-after-requires
-least_of_children-after-requires c =
-    let all = components-count c.args.scenario.now in
-    omega (arith, ap leaf_count c.nodes.ensures, all, c.leaf_count-leaves.ensures.count, c.leaf_count-leaves.ensures.few)
+least_of_children-after-requires c = omega (arith, ap leaf_count c.nodes.ensures, c.bounds.ensures.count)
 
 pub of_children-endless-requires : goal.of_children-endless-requires
-of_children-endless-requires c =
-    let all = components-count c.args.scenario.now in
-    omega (arith, ap leaf_count c.nodes-2.ensures, all, c.leaf_count-leaves.ensures.count, c.leaf_count-leaves.ensures.few)
+of_children-endless-requires c = omega (arith, ap leaf_count c.nodes-2.ensures, c.bounds.ensures.count)
 
 pub returns : goal.returns
 returns c all is =

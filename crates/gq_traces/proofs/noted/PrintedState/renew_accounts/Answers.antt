@@ -1,7 +1,7 @@
 -- The accounts, one after the other.
 use Rattle.std.proofs.Common.{◌≡◌, ◌∙◌, arith, refl, subst}
 use Rattle.std.specs.Prelude.{IfSome, slice_get}
-use Rattle.gq_init.specs.Account_values.{reported_of}
+use Rattle.gq_output.specs.Account_values.{reported_of}
 use Rattle.gq_world.specs.Account_lines.{all_accounts}
 use Rattle.gq_traces.specs.internal.Noted.{standing_in}
 use Rattle.gq_traces.proofs.Renewed_trace_notes.{accounts_all, accounts_more, length_set}

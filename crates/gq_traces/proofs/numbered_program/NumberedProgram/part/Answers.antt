@@ -1,7 +1,7 @@
 -- A section is found.
 use Rattle.std.proofs.Common.{◌∙◌, ◌∷◌, ◌+◌, drop, get_or, ap, sym, None}
 use Rattle.std.proofs.lemmas.List.{drop_all, drop_more}
-use Rattle.gq_model.specs.declared.program.Section.TheVariants.{Main}
+use Rattle.gq_model.specs.declared.section.Section.TheVariants.{Main}
 use Rattle.gq_traces.specs.declared.numbered_program.NumberedSection.{NumberedSection}
 use Rattle.gq_traces.proofs.Sections_put.{found_part, left_next, none_found}
 use Rattle.gq_traces.proofs.numbered_program.NumberedProgram.part.Goals as goal

@@ -1,7 +1,7 @@
 use Rattle.std.proofs.Common.{◌≡◌, ◌∙◌, ℕ, ◌<◌, ◌≤◌, ◌^◌, None, ap, get_or, map, refl, arith}
 use Rattle.std.specs.Prelude.{option_map}
 use Rattle.gq_laws.proofs.verified_programs.Accepted_program_facts.{main_there}
-use Rattle.gq_model.specs.declared.program.Section.TheVariants.{Main}
+use Rattle.gq_model.specs.declared.section.Section.TheVariants.{Main}
 use Rattle.gq_model.specs.machine.Amounts.{Resource, Ram, Caps}
 use Rattle.gq_model.specs.rules.Flow.{body, context, start_of}
 use Rattle.gq_model.specs.rules.Kinds.{Subject}

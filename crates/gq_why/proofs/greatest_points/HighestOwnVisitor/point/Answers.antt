@@ -2,7 +2,7 @@ use Rattle.std.proofs.Common.{◌≡◌, ◌∙◌, ℕ, ◌≤◌, ◌^◌, Lis
 use Rattle.std.specs.Prelude.{nat_lt, if◌then◌else◌, option_map, sum_by}
 use Rattle.gq_caps.specs.Measured.{total_of}
 use Rattle.gq_caps.specs.declared.totals.Measure.TheVariants.{Places}
-use Rattle.gq_model.specs.declared.program.Section.TheVariants.{Main}
+use Rattle.gq_model.specs.declared.section.Section.TheVariants.{Main}
 use Rattle.gq_model.specs.machine.Amounts.{Ram, Caps}
 use Rattle.gq_model.specs.rules.Kinds.{Kind, kind_places, kinds_cost}
 use Rattle.gq_tariff.specs.Prices.{class_size, classes}

@@ -1,7 +1,7 @@
 use Rattle.std.proofs.Common.{◌≡◌, ◌<◌, ◌∙◌, ℕ, List, IfSome, ap, sym, subst}
 use Rattle.std.specs.Prelude.{slice_get}
 use Rattle.gq_model.specs.machine.Accounts.{Account}
-use Rattle.gq_init.specs.Account_values.{reported_of}
+use Rattle.gq_output.specs.Account_values.{reported_of}
 use Rattle.gq_world.proofs.World_account_lines.{all_by, all_count, fits_at, leaves_count}
 use Rattle.gq_world.proofs.World_turn_facts.{stands_seen}
 use Rattle.gq_world.proofs.world.World.account.Goals as goal

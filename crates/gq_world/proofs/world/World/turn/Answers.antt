@@ -13,7 +13,7 @@ use Rattle.gq_machine.specs.declared.event.Event.TheVariants as events
 use Rattle.gq_laws.specs.Stands.{Stands}
 use Rattle.gq_world.specs.World_between_turns.{World}
 use Rattle.gq_world.specs.internal.World_invariant.{IsBudgeted}
-use Rattle.gq_init.proofs.Written_byte_facts.{appends_nothing}
+use Rattle.gq_output.proofs.Written_byte_facts.{appends_nothing}
 use Rattle.gq_world.proofs.World_turn_facts.{countable, defined, kept_by_step, silent, shown-event_of, stepped_in, reported_in}
 use Rattle.gq_world.proofs.world.World.turn.Goals as goal
 

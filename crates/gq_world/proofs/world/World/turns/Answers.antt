@@ -8,7 +8,7 @@ use Rattle.gq_machine.specs.declared.event.Event.{Event}
 use Rattle.gq_machine.specs.declared.event.Event.TheVariants as events
 use Rattle.gq_machine.proofs.Resting_phases.{no_line_in}
 use Rattle.gq_world.specs.World_between_turns.{World}
-use Rattle.gq_init.proofs.Written_byte_facts.{appends_nothing}
+use Rattle.gq_output.proofs.Written_byte_facts.{appends_nothing}
 use Rattle.gq_world.proofs.Turn_sequence_runs.{has_run, is_cut}
 use Rattle.gq_world.proofs.World_turn_facts.{countable_turns, kept_reported, never_wrong, no_lines, reported_seen}
 use Rattle.gq_world.proofs.world.World.turns.Goals as goal

@@ -1,5 +1,5 @@
 use Rattle.std.proofs.Common.{◌∙◌, ap, subst}
-use Rattle.gq_init.specs.Writer_failures.{Writes}
+use Rattle.gq_output.specs.Writer_failures.{Writes}
 use Rattle.gq_world.proofs.World_account_lines.{lines_by, leaves_count}
 use Rattle.gq_world.proofs.world.World.write_accounts.Goals as goal
 
