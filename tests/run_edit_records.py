@@ -49,7 +49,7 @@ class Repository(unittest.TestCase):
             files[f"crates/shapes/must-fail/e{number}.edit"] = f"file: src/lib.rt\nold: 7 + {100 + number}\nnew: 8 + {100 + number}\n"
         for name, text in files.items():
             self.write(name, text)
-        for path, text in ((kit / "bin/rattle", KIT.format(log=str(self.log))), (words / "rt", f"#!/bin/sh\necho {kit}/START\n"), (kit / "KIT-ID", "kit")):
+        for path, text in ((kit / "bin/rattle", KIT.format(log=str(self.log))), (words / "rt", f"#!/bin/sh\necho {kit}/START\n"), (kit / "KIT-ID", "kit-1 logic 1\n")):
             path.parent.mkdir(parents=True, exist_ok=True)
             path.write_text(text, encoding="utf-8")
             path.chmod(0o755)
@@ -111,6 +111,24 @@ class Repository(unittest.TestCase):
         self.assertEqual((status, lines[-1]), (1, "40 edits, 1 tried, 0 refused, 1 not refused, 0 mistakes"))
         self.assertTrue(any("shapes/e5.edit: NOT REFUSED: the crate is still proved with it" in line for line in lines))
         self.assertNotIn("e5.edit", self.records().sums)
+
+    def kit(self, name):
+        """Makes the toolchain one of another name."""
+        path = pathlib.Path(self.environment["PATH"].split(":")[0]).parent / "kit/KIT-ID"
+        path.write_text(name, encoding="utf-8")
+
+    def test_a_record_is_of_a_logic(self):
+        self.tried()
+        self.kit("kit-2 logic 1\n")
+        self.assertEqual(self.tried()[2], [])
+        self.kit("kit-2 logic 2\n")
+        self.assertEqual(len(self.tried()[2]), EDITS)
+
+    def test_a_toolchain_without_a_logic(self):
+        self.kit("kit-3\n")
+        status, lines, asked = self.tried()
+        self.assertEqual((status, asked), (1, []))
+        self.assertTrue(lines[-1].endswith("KIT-ID does not end in `logic` and a number: records of edits are of a logic"))
 
     def sampled(self, message):
         self.commit(message)

@@ -1,7 +1,7 @@
 """The records of must-fail edits: which the prover refused, over which sources, and above which contracts.
 
-`crates/NAME/must-fail/refused.md` has a line for each edit of a crate that was refused: its file and two checksums. The first is of what was tried: the toolchain,
-the edit, and the crate's own sources, definitions and proofs. The second is of what a check of the crate reads of the crates below it: their contracts and
+`crates/NAME/must-fail/refused.md` has a line for each edit of a crate that was refused: its file and two checksums. The first is of what was tried: the toolchain's
+logic, the edit, and the crate's own sources, definitions and proofs. The second is of what a check of the crate reads of the crates below it: their contracts and
 definitions, without bodies, as the toolchain writes them into a built library. Only tools/try_edits.py writes these files.
 """
 import hashlib
@@ -26,6 +26,10 @@ class NoLibrary(Exception):
     """A crate whose library is not built."""
 
 
+class NoLogic(Exception):
+    """A toolchain that does not name its logic."""
+
+
 def digest(parts):
     """A checksum of byte strings, in 32 hexadecimal digits. No two lists of strings are taken for one."""
     total = hashlib.sha256()
@@ -47,6 +51,14 @@ def named(folder, parts):
             yield path.read_bytes()
 
 
+def logic_of(kit):
+    """What names the logic of a toolchain: the words `logic X` at the end of what `rt version` prints. Kits of other names may have the same."""
+    words = (pathlib.Path(kit) / "KIT-ID").read_text(encoding="utf-8").split()
+    if words[-2:-1] != ["logic"]:
+        raise NoLogic(f"{kit}/KIT-ID does not end in `logic` and a number: records of edits are of a logic")
+    return " ".join(words[-2:]).encode()
+
+
 class Sums:
     """The checksums of edits, over the crates and libraries below a folder."""
 
@@ -54,9 +66,9 @@ class Sums:
         self.crates, self.sources, self.stated = crates, {}, {}
 
     def own(self, name, edit):
-        """A checksum of the toolchain, an edit of a crate, and the crate's own sources, definitions and proofs."""
+        """A checksum of the toolchain's logic, an edit of a crate, and the crate's own sources, definitions and proofs."""
         if name not in self.sources:
-            self.sources[name] = digest([(self.crates.kit / "KIT-ID").read_bytes(), *named(self.crates.folder(name), PARTS)])
+            self.sources[name] = digest([logic_of(self.crates.kit), *named(self.crates.folder(name), PARTS)])
         return digest([self.sources[name].encode(), edit.name.encode(), edit.path.read_bytes()])
 
     def below(self, name):

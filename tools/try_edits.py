@@ -34,7 +34,7 @@ import time
 from crates import PARTS, TOP, Crates, listed
 from edits import BadEdit, cycle_named, read_edit, replaced
 from processors import wanted_jobs
-from records import BadRecord, NoLibrary, Records, Sums, digest
+from records import BadRecord, NoLibrary, NoLogic, Records, Sums, digest
 
 # Of the edits with a record one in so many is tried all the same, and of those with other contracts below one in so many.
 ONE_IN, ONE_IN_CHANGED = 10, 4
@@ -358,7 +358,7 @@ def main():
         if not given.list:
             for plan in plans:
                 _ = sums.below(plan.name) if plan.owed or plan.sample else ""
-    except (BadRecord, NoLibrary) as error:
+    except (BadRecord, NoLibrary, NoLogic) as error:
         raise SystemExit(str(error)) from None
     for plan in plans:
         for line in plan.wrong:

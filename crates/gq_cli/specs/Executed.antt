@@ -197,8 +197,8 @@ IsRefusedBy (Of_fit fitting scenario) line = IsUnfit fitting scenario (judged_wi
 IsRefusedBy (Of_faults path scenario turns) line = faults_written scenario (option_map (λ t. t.1) turns) ≡ Err line
 IsRefusedBy (Of_nothing written) line = written ≡ Err line
 
--- What a command promises beside its text. A run upholds every promise. Turns lead to rest. Where `races` wrote no line `race`, there is no race; where it
--- wrote no line `order`, there is no order. The turns of an outcome, as far as a list may have them, lead to it.
+-- What a command promises beside its text. A run upholds every promise. Turns lead to rest, unless they were cut. Where `races` wrote no line `race`, there is
+-- no race; where it wrote no line `order`, there is no order. Within the limits of a list, the turns of an outcome lead to it.
 abbrev pub IsUpheldBy : Asked → (before after : Option (List ℕ)) → Type 0
 IsUpheldBy (Of_both Run scenario turns) before after = WritesPromised scenario turns before after
 IsUpheldBy (Of_scenario (Turns seed) scenario) before after = WritesToRest seed scenario before after
