@@ -3,6 +3,7 @@ use Rattle.std.proofs.Common.{◌≡◌, ℕ, zero, suc, ◌+◌, ◌<◌, ◌�
 use Rattle.std.proofs.Common.{subst, append_assoc, append-nil, arith}
 use Rattle.std.specs.Prelude.{if◌then◌else◌, Some, slice_get}
 use Rattle.gq_model.specs.machine.Program.{Program}
+use Rattle.gq_model.specs.machine.Routes.{server_of}
 use Rattle.gq_model.specs.machine.Scenario.{Component, System}
 use Rattle.gq_model.specs.machine.World.{World}
 use Rattle.gq_model.proofs.Small_facts.{none_some, some_same}
@@ -98,19 +99,20 @@ program_there cs programs k p c same at is = by cs k at (is ∙ ap (λ l. get_or
     by (d ∷ cs) (suc k) at is = by cs k at is
 
 -- the table of one more leaf
-pub asks_more : {A : Type 0} (items : A → List SectionAsks) (all cs : List Component) (found : List A) (new : A) (c : Component) (k : ℕ) → length found ≡ k
-    → slice_get cs k ≡ Some c → AreOfSections all c c.node.program.sections (items new)
-    → ((x : ℕ) (c : Component) (a : A) → slice_get cs x ≡ Some c → slice_get found x ≡ Some a → AreOfSections all c c.node.program.sections (items a))
-    → (x : ℕ) (c : Component) (a : A) → slice_get cs x ≡ Some c → slice_get (found ++ new ∷ []) x ≡ Some a → AreOfSections all c c.node.program.sections (items
-    a)
-asks_more items all [] found new c k count at is each x d a e f = absurd (none_some e)
-asks_more items all (b ∷ cs) [] new c zero count at is each zero d a e f =
+pub asks_more : {A : Type 0} (items : A → List SectionAsks) (s : System) (cs : List Component) (found : List A) (new : A) (c : Component) (k : ℕ)
+    → length found ≡ k → slice_get cs k ≡ Some c → AreOfSections (server_of s c) c.node.program.sections (items new)
+    → ((x : ℕ) (c : Component) (a : A) → slice_get cs x ≡ Some c → slice_get found x ≡ Some a
+    → AreOfSections (server_of s c) c.node.program.sections (items a))
+    → (x : ℕ) (c : Component) (a : A) → slice_get cs x ≡ Some c → slice_get (found ++ new ∷ []) x ≡ Some a
+    → AreOfSections (server_of s c) c.node.program.sections (items a)
+asks_more items s [] found new c k count at is each x d a e f = absurd (none_some e)
+asks_more items s (b ∷ cs) [] new c zero count at is each zero d a e f =
     let both : c ≡ d = sym (some_same at) ∙ some_same e in
-    subst (λ a. AreOfSections all d d.node.program.sections (items a)) (some_same f)
-    (subst (λ (c : Component). AreOfSections all c c.node.program.sections (items new)) both is)
-asks_more items all (b ∷ cs) [] new c zero count at is each (suc x) d a e f = absurd (none_some f)
-asks_more items all (b ∷ cs) [] new c (suc k) count at is each x d a e f = absurd (omega (arith, count))
-asks_more items all (b ∷ cs) (p ∷ found) new c zero count at is each x d a e f = absurd (omega (arith, count))
-asks_more items all (b ∷ cs) (p ∷ found) new c (suc k) count at is each zero d a e f = each zero d a e f
-asks_more items all (b ∷ cs) (p ∷ found) new c (suc k) count at is each (suc x) d a e f =
-    asks_more items all cs found new c k (omega (arith, count)) at is (λ x. each (suc x)) x d a e f
+    subst (λ a. AreOfSections (server_of s d) d.node.program.sections (items a)) (some_same f)
+    (subst (λ (c : Component). AreOfSections (server_of s c) c.node.program.sections (items new)) both is)
+asks_more items s (b ∷ cs) [] new c zero count at is each (suc x) d a e f = absurd (none_some f)
+asks_more items s (b ∷ cs) [] new c (suc k) count at is each x d a e f = absurd (omega (arith, count))
+asks_more items s (b ∷ cs) (p ∷ found) new c zero count at is each x d a e f = absurd (omega (arith, count))
+asks_more items s (b ∷ cs) (p ∷ found) new c (suc k) count at is each zero d a e f = each zero d a e f
+asks_more items s (b ∷ cs) (p ∷ found) new c (suc k) count at is each (suc x) d a e f =
+    asks_more items s cs found new c k (omega (arith, count)) at is (λ x. each (suc x)) x d a e f

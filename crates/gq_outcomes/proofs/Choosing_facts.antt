@@ -10,6 +10,7 @@ use Rattle.gq_model.specs.declared.phase.Phase.TheVariants as phase
 use Rattle.gq_model.specs.declared.program.Instruction.{Instruction}
 use Rattle.gq_model.specs.declared.program.Instruction.TheVariants as instruction
 use Rattle.gq_model.specs.machine.Program.{Statements, Done, Do, If, Loop, body_of, section_in}
+use Rattle.gq_model.specs.machine.Routes.{server_of}
 use Rattle.gq_model.specs.machine.Scenario.{Component, System, components, system}
 use Rattle.gq_model.specs.machine.World as model
 use Rattle.gq_model.proofs.Small_facts.{get_within, none_some, some_same}
@@ -103,7 +104,7 @@ module _ (s : System) (w : model.World) (x : ℕ) (c : Component) (l : model.Lea
   asked_of None = None
   asked_of (Some i) = spec.asked_by s w x c l i
 
-  asked_is : (i : Instruction) → spec.asked_by s w x c l i ≡ server_asked w x l (asked s.components c i)
+  asked_is : (i : Instruction) → spec.asked_by s w x c l i ≡ server_asked w x l (asked (server_of s c) i)
   asked_is (instruction.Say text) = refl
   asked_is instruction.Out = refl
   asked_is (instruction.Operands o) = refl
@@ -127,7 +128,7 @@ module _ (s : System) (w : model.World) (x : ℕ) (c : Component) (l : model.Lea
   next_is (If arm other rest) = refl
   next_is (Loop n body rest) = refl
 
-  ahead_is : (a : Ahead) → asked_of (instruction_of a) ≡ server_asked w x l (asks_of s.components c a)
+  ahead_is : (a : Ahead) → asked_of (instruction_of a) ≡ server_asked w x l (asks_of (server_of s c) a)
   ahead_is Nothing = refl
   ahead_is (Instructs i) = asked_is i
   ahead_is Other = refl
@@ -137,7 +138,7 @@ module _ (s : System) (w : model.World) (x : ℕ) (c : Component) (l : model.Lea
 
   -- a leaf that takes steps of its own
   asks_active : (core : Core) → StandsAt c l core → is_active l.phase ≡ true
-      → spec.next_asked s w x c l l.todo ≡ server_asked w x l (asks_of s.components c (ahead_in body core.position))
+      → spec.next_asked s w x c l l.todo ≡ server_asked w x l (asks_of (server_of s c) (ahead_in body core.position))
   asks_active core stands active =
       ap (λ st. spec.next_asked s w x c l st.todo) stands
       ∙ ap (λ b. spec.next_asked s w x c l (place_at b core.position).todo) (active_body l.phase body active)
@@ -156,7 +157,7 @@ module _ (s : System) (w : model.World) (x : ℕ) (c : Component) (l : model.Lea
 
   -- whether it stands at a choice, by its phase and what it asks
   by_phase : (racy : List Bool) (core : Core) (asks : Asks) → StandsAt c l core
-      → asks ≡ asks_of s.components c (ahead_in body core.position)
+      → asks ≡ asks_of (server_of s c) (ahead_in body core.position)
       → (p : Phase) → l.phase ≡ p
       → (runs w x p && spec.is_one_of racy (spec.next_asked s w x c l l.todo)) ≡ (is_active p && spec.is_one_of racy (server_asked w x l asks))
   by_phase racy core a stands is phase.Pending e = refl
@@ -169,7 +170,7 @@ module _ (s : System) (w : model.World) (x : ℕ) (c : Component) (l : model.Lea
       ap (spec.is_one_of racy) (asks_active core stands (ap is_active e) ∙ ap (server_asked w x l) (sym is))
   by_phase racy core a stands is phase.Exited e = refl
 
-  pub choice_is : (racy : List Bool) (core : Core) (asks : Asks) → StandsAt c l core → asks ≡ asks_of s.components c (ahead_in body core.position)
+  pub choice_is : (racy : List Bool) (core : Core) (asks : Asks) → StandsAt c l core → asks ≡ asks_of (server_of s c) (ahead_in body core.position)
       → slice_get s.components x ≡ Some c → slice_get w.leaves x ≡ Some l
       → spec.is_at_choice s racy w x ≡ (is_active l.phase && spec.is_one_of racy (server_asked w x l asks))
   choice_is racy core a stands is ec el =

@@ -2,12 +2,12 @@
 use Rattle.std.proofs.Common.{◌≡◌, ℕ, zero, suc, ◌+◌, ◌-◌, ◌<◌, ◌≤◌, Bool, true, false, List, [], ◌∷◌, ◌++◌, Option, Some, None, length, drop, map, get_or}
 use Rattle.std.proofs.Common.{refl, ap, sym, ◌∙◌, subst, append_assoc, append-nil, arith}
 use Rattle.std.specs.Prelude.{All, if◌then◌else◌, is_ok, is_some, option_map, slice_get, slice_set, Result, Ok, Err, OnOk}
-use Rattle.gq_model.proofs.Small_facts.{some_same}
 use Rattle.gq_model.specs.machine.Doing.{Event}
 use Rattle.gq_model.specs.machine.Run.{line_of}
 use Rattle.gq_model.specs.machine.Scenario.{Component, Scenario, components, system}
 use Rattle.gq_model.specs.machine.Step.{next}
 use Rattle.gq_model.specs.machine.World.{World, start}
+use Rattle.gq_laws.specs.Ready.{IsReady}
 use Rattle.gq_load.specs.Load.{LoadRefusal}
 use Rattle.gq_world.specs.World_between_turns.{World as Running}
 use Rattle.gq_machine.specs.Machines.{Machine}
@@ -193,9 +193,6 @@ pub some_map : {A B : Type 0} (f : A → B) (o : Option A) → is_some (option_m
 some_map f None = refl
 some_map f (Some a) = refl
 
-pub node_of : {N : Type 0} (f : Component → N) (o : Option Component) (c : Component) (node : N) → option_map f o ≡ Some node → o ≡ Some c → f c ≡ node
-node_of f o c node e at = some_same (ap (option_map f) (sym at) ∙ e)
-
 pub provided : (o : Option Component) (event : Event) → ((c : Component) → o ≡ Some c → is_some c.node.provides ≡ true) → line_by o event ≡ []
 provided None event h = refl
 provided (Some c) event h = provider_has c.node.provides (line_of c.label event) (h c refl)
@@ -220,11 +217,12 @@ all_ok (Err e) f p q h = p
 -- STARTS
 
 -- a walk at the start of a scenario
-pub begins : (s : Scenario) (w : Walk) → w.world.scenario ≡ s → w.world.world ≡ start (system w.world.scenario) → AreChoices s w.choices
+pub begins : (s : Scenario) (w : Walk) → w.world.scenario ≡ s → IsReady s → w.world.world ≡ start (system w.world.scenario) → AreChoices s w.choices
     → said_of w ≡ no_lines (components s) → length w.said.items ≡ length (components s) → w.past.items ≡ [] → IsOnWay s w
-begins s w of world choices said count past = record {
+begins s w of ready world choices said count past = record {
   walk = record {
     scenario = of;
+    ready = ready;
     choices = choices;
     count = count;
     turns = subst (λ l. All (λ x. x < length (components s)) l) (sym past) (λ k d less. absurd (omega (arith, less)));
@@ -244,4 +242,4 @@ same_loaded r a b first other = ap (λ q. scenario_or q a) (sym first ∙ other)
 pub walk_moved : (s : Scenario) (old : Walk) (world : Running) → world.scenario ≡ s → IsWalk s old → IsWalk world.scenario (record old { world = world })
 walk_moved s old world of h =
     subst (λ z. IsWalk z (record old { world = world })) (sym of)
-    (record { scenario = of; choices = h.choices; count = h.count; turns = h.turns })
+    (record { scenario = of; ready = h.ready; choices = h.choices; count = h.count; turns = h.turns })

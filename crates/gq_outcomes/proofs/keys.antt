@@ -6,3 +6,4 @@ pub mod Worlds
 pub mod Left
 pub mod Asked
 pub mod Section_asks
+pub mod Served_asks

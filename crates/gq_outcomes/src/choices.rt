@@ -1,9 +1,11 @@
 // Where leaves stand at a choice: the next statement makes a request to a racy server.
-ghost use Rattle.std.specs.Prelude.{◌≡◌, ◌<◌, ◌≤◌, ◌&&◌, ℕ, Some, None, true, false, map, IfOk, length, slice_get};
+ghost use Rattle.std.specs.Prelude.{◌≡◌, ◌<◌, ◌&&◌, ℕ, Some, None, true, false, IfOk, length, slice_get};
+ghost use Rattle.gq_model.specs.machine.Routes.{server_of};
 ghost use Rattle.gq_model.specs.machine.Scenario.{Component, components, system};
 ghost use Rattle.gq_model.specs.machine.World as model;
 ghost use Rattle.gq_machine.specs.Readers.{HasSlotId};
 ghost use Rattle.gq_model.specs.machine.World.{section_of};
+ghost use Rattle.gq_laws.specs.Ready.{IsReady};
 ghost use Rattle.gq_laws.specs.Turn_effects.{can_run};
 ghost use Rattle.gq_statements.specs.Slot_statements.{current_seen};
 ghost use Rattle.gq_trade.specs.Seen_sessions.{slot_id_seen};
@@ -21,9 +23,8 @@ use gq_model::limits::{GREATEST_LEAVES, OWN_SLOTS, SESSION_SLOTS};
 use gq_model::phase::Phase;
 use gq_model::program::OperandSlot;
 use gq_model::section::Section;
-use gq_program::program_tree::Program;
+use gq_races::table_leaf::TableLeaf;
 use gq_resolve::NodeTable;
-use gq_resolve::component::{Component, components};
 use gq_scenario::scenario::LeafNo;
 use gq_statements::actor::section_of;
 use gq_statements::{Actor, Current};
@@ -140,21 +141,17 @@ fn is_one_of(racy: &[bool], leaf: Option<usize>) -> bool
     }
 }
 
-// What comes next at each place of the programs of these leaves.
-fn all_asks(
-    alloc: Global,
-    components: &[Component<'_>],
-    programs: &[Program],
-) -> Result<Vec<Vec<SectionAsks>>, AllocError>
-    requires few { length components.now ≤ 64 }
-    requires programs { programs.now ≡ map (λ c. c.node.program) components.now }
-    ensures count { IfOk result (λ r. length r.items ≡ length components.now) }
-    ensures each { IfOk result (λ r. (x : ℕ) (c : Component) (asks : _) → slice_get components.now x ≡ Some c → slice_get r.items x ≡ Some asks
-        → AreOfSections components.now c c.node.program.sections asks.items) }
+// What comes next at each place of the programs of all leaves.
+fn all_asks(alloc: Global, table: &NodeTable) -> Result<Vec<Vec<SectionAsks>>, AllocError>
+    requires { IsReady table.now }
+    ensures count { IfOk result (λ r. length r.items ≡ length (components table.now)) }
+    ensures each { IfOk result (λ r. (x : ℕ) (c : Component) (asks : _) → slice_get (components table.now) x ≡ Some c → slice_get r.items x ≡ Some asks
+        → AreOfSections (server_of (system table.now) c) c.node.program.sections asks.items) }
 {
     let mut all = Vec::new(alloc);
-    for place in 0..components.len() {
-        all.push(program_asks(alloc, components, &components[place], &programs[place])?)?;
+    for number in 0..table.leaf_count() {
+        let client = TableLeaf::new(table, LeafNo::new(number as u32));
+        all.push(program_asks(alloc, &client)?)?;
     }
     Ok(all)
 }
@@ -166,17 +163,12 @@ impl Choices {
         table: &NodeTable,
         racy: Vec<bool>,
     ) -> Result<Choices, AllocError>
-        requires { racy.items ≡ racy_servers (system table.now) }
+        requires ready { IsReady table.now }
+        requires racy { racy.items ≡ racy_servers (system table.now) }
         ensures { IfOk result (λ c. AreChoices table.now c) }
     {
-        let _leaves = table.leaf_count();
-        let components = components(alloc, table.scenario())?;
-        let asks = all_asks(alloc, components.as_slice(), table.programs());
-        drop(components);
-        match asks {
-            Ok(asks) => Ok(Choices { racy, asks }),
-            Err(refused) => Err(refused),
-        }
+        let asks = all_asks(alloc, table)?;
+        Ok(Choices { racy, asks })
     }
 
     // What comes next for a leaf.

@@ -1,9 +1,9 @@
 // Which servers are racy: by the order of whose requests the outcome could depend on the turns.
-ghost use Rattle.std.specs.Prelude.{◌≡◌, ◌<◌, ◌≤◌, ◌^◌, ◌&&◌, ◌||◌, ◌∷◌, [], List, IfOk, length, map, not};
+ghost use Rattle.std.specs.Prelude.{◌≡◌, ◌&&◌, ◌||◌, ◌∷◌, [], List, IfOk, length, map, not};
 ghost use Rattle.gq_model.specs.machine.Lists.{any_of};
-ghost use Rattle.gq_model.specs.machine.Routes.{leaf_routed, route};
-ghost use Rattle.gq_model.specs.machine.Scenario as model;
-ghost use Rattle.gq_model.specs.machine.Scenario.{Component, Scenario, system};
+ghost use Rattle.gq_model.specs.machine.Scenario.{Component, components, system};
+ghost use Rattle.gq_laws.specs.Ready.{IsReady};
+ghost use Rattle.gq_races.specs.internal.Table_leaves.{served_by};
 ghost use Rattle.gq_outcomes.specs.Choices as choices;
 ghost use Rattle.gq_model.specs.machine.Sections.{is_own_section};
 ghost use Rattle.gq_program.specs.Statement_trees.{tree_of};
@@ -15,10 +15,9 @@ use gq_model::section::Section;
 use gq_program::program_tree::{Body, Program, Statement};
 use gq_races::effects::changes_own;
 use gq_races::races::all_shared;
+use gq_races::table_leaf::TableLeaf;
 use gq_resolve::NodeTable;
-use gq_resolve::component::{Component, components};
 use gq_resolve::opened_services::opened;
-use gq_resolve::routes::server_of;
 use gq_scenario::scenario::LeafNo;
 use std::alloc::{AllocError, Global};
 
@@ -86,18 +85,12 @@ fn with_race(alloc: Global, shared: &[bool], programs: &[Program]) -> Result<Vec
     Ok(all)
 }
 
-// Whether a service of these leads to a leaf that is marked.
-fn leads_to_marked(
-    components: &[Component<'_>],
-    component: &Component<'_>,
-    services: &[Name],
-    marked: &[bool],
-) -> bool
-    requires few { length components.now < 2 ^ 32 }
-    ensures { result ≡ any_of (λ service. is_marked marked.now (leaf_routed (route component.now.levels service) components.now)) services.now }
+// Whether a service of these that a leaf opens leads to a leaf that is marked.
+fn leads_to_marked(client: &TableLeaf<'_>, services: &[Name], marked: &[bool]) -> bool
+    ensures { result ≡ any_of (λ service. is_marked marked.now (served_by client.now service)) services.now }
 {
     for service in services {
-        if is_marked(marked, server_of(components, component, service)) {
+        if is_marked(marked, client.server(service)) {
             return true;
         }
     }
@@ -117,20 +110,12 @@ fn is_marked(marked: &[bool], leaf: Option<LeafNo>) -> bool
     }
 }
 
-// Whether a leaf of this program uses one of those that are marked.
-fn uses_marked(
-    alloc: Global,
-    components: &[Component<'_>],
-    component: &Component<'_>,
-    program: &Program,
-    marked: &[bool],
-) -> Result<bool, AllocError>
-    requires few { length components.now < 2 ^ 32 }
-    requires program { program.now ≡ component.now.node.program }
-    ensures { IfOk result (λ r. r ≡ spec.uses_marked components.now component.now marked.now) }
+// Whether a leaf uses one of those that are marked.
+fn uses_marked(alloc: Global, client: &TableLeaf<'_>, marked: &[bool]) -> Result<bool, AllocError>
+    ensures { IfOk result (λ r. r ≡ spec.uses_marked client.now.all client.now.component marked.now) }
 {
-    let services = opened(alloc, program)?;
-    let uses = leads_to_marked(components, component, services.as_slice(), marked);
+    let services = opened(alloc, client.program())?;
+    let uses = leads_to_marked(client, services.as_slice(), marked);
     drop(services);
     Ok(uses)
 }
@@ -145,45 +130,32 @@ fn is_either(first: bool, second: bool) -> bool
 // The leaves that are marked, and those that use one that was found.
 fn with_users(
     alloc: Global,
-    components: &[Component<'_>],
-    programs: &[Program],
+    table: &NodeTable,
     marked: &[bool],
     found: &[bool],
 ) -> Result<Vec<bool>, AllocError>
-    requires few { length components.now < 2 ^ 32 }
-    requires programs { programs.now ≡ map (λ c. c.node.program) components.now }
-    requires marked { length marked.now ≡ length components.now }
-    ensures { IfOk result (λ r. r.items ≡ spec.with_users components.now marked.now found.now 0 components.now) }
+    requires ready { IsReady table.now }
+    requires marked { length marked.now ≡ length (components table.now) }
+    ensures { IfOk result (λ r. r.items ≡ spec.with_users (components table.now) marked.now found.now 0 (components table.now)) }
 {
     let mut all = Vec::new(alloc);
-    for place in 0..components.len() {
-        let uses = uses_marked(
-            alloc,
-            components,
-            &components[place],
-            &programs[place],
-            found,
-        )?;
-        all.push(is_either(marked[place], uses))?;
+    for number in 0..table.leaf_count() {
+        let client = TableLeaf::new(table, LeafNo::new(number as u32));
+        let uses = uses_marked(alloc, &client, found)?;
+        all.push(is_either(marked[number], uses))?;
     }
     Ok(all)
 }
 
 // The leaves from which uses lead to a leaf that is marked, over any number of leaves.
-fn leading(
-    alloc: Global,
-    components: &[Component<'_>],
-    programs: &[Program],
-    marked: &[bool],
-) -> Result<Vec<bool>, AllocError>
-    requires few { length components.now < 2 ^ 32 }
-    requires programs { programs.now ≡ map (λ c. c.node.program) components.now }
-    requires marked { length marked.now ≡ length components.now }
-    ensures { IfOk result (λ r. r.items ≡ spec.leading (length components.now) components.now marked.now) }
+fn leading(alloc: Global, table: &NodeTable, marked: &[bool]) -> Result<Vec<bool>, AllocError>
+    requires ready { IsReady table.now }
+    requires marked { length marked.now ≡ length (components table.now) }
+    ensures { IfOk result (λ r. r.items ≡ spec.leading (length (components table.now)) (components table.now) marked.now) }
 {
     let mut found = Vec::from_slice(alloc, marked)?;
-    for _round in 0..components.len() {
-        found = with_users(alloc, components, programs, marked, found.as_slice())?;
+    for _round in 0..table.leaf_count() {
+        found = with_users(alloc, table, marked, found.as_slice())?;
     }
     Ok(found)
 }
@@ -207,29 +179,13 @@ fn both(alloc: Global, first: &[bool], second: &[bool]) -> Result<Vec<bool>, All
     Ok(all)
 }
 
-// Whether each of these leaves, which have these programs, is a racy server.
-fn racy_among(
-    alloc: Global,
-    components: &[Component<'_>],
-    programs: &[Program],
-) -> Result<Vec<bool>, AllocError>
-    requires few { length components.now ≤ 64 }
-    requires programs { programs.now ≡ map (λ c. c.node.program) components.now }
-    ensures { (s : Scenario) → components.now ≡ model.components s → IfOk result (λ r. r.items ≡ choices.racy_servers (system s)) }
-{
-    let shared = all_shared(alloc, components, programs)?;
-    let marked = with_race(alloc, shared.as_slice(), programs)?;
-    let leading = leading(alloc, components, programs, marked.as_slice())?;
-    both(alloc, shared.as_slice(), leading.as_slice())
-}
-
 /// Whether each leaf of a scenario is a racy server. Refused only if the host refuses memory.
 pub(crate) fn racy_servers(alloc: Global, table: &NodeTable) -> Result<Vec<bool>, AllocError>
+    requires { IsReady table.now }
     ensures { IfOk result (λ r. r.items ≡ choices.racy_servers (system table.now)) }
 {
-    let _leaves = table.leaf_count();
-    let components = components(alloc, table.scenario())?;
-    let racy = racy_among(alloc, components.as_slice(), table.programs());
-    drop(components);
-    racy
+    let shared = all_shared(alloc, table)?;
+    let marked = with_race(alloc, shared.as_slice(), table.programs())?;
+    let leading = leading(alloc, table, marked.as_slice())?;
+    both(alloc, shared.as_slice(), leading.as_slice())
 }

@@ -1,5 +1,6 @@
 // A world on the way: its turns, and what leaves that provide nothing have written.
 ghost use Rattle.std.specs.Prelude.{◌≡◌, ◌<◌, ◌≤◌, ◌++◌, ◌∷◌, [], Ok, OnOk, IfOk, IfErr, List, length, map, take};
+ghost use Rattle.gq_laws.specs.Ready.{IsReady};
 ghost use Rattle.gq_load.specs.Load.{loaded};
 ghost use Rattle.gq_model.specs.machine.Doing.{Line};
 ghost use Rattle.gq_model.specs.machine.Scenario.{Component, components, system};
@@ -12,8 +13,10 @@ ghost use Rattle.gq_outcomes.specs.internal.Walks.{Comes, IsOnWay, IsWalk, PutsL
 use crate::choices::Choices;
 use crate::racy::racy_servers;
 use arrayvec::ArrayVec;
+use gq_load::read::read_laws;
 use gq_machine::event::Event;
 use gq_output::leaf_line::text_line;
+use gq_races::table_leaf::TableLeaf;
 use gq_reports::RunFault;
 use gq_resolve::NodeTable;
 use gq_scenario::scenario::LeafNo;
@@ -46,6 +49,7 @@ fn no_lines(alloc: Global, count: usize) -> Result<Vec<Vec<u8>>, AllocError>
 
 // The choices of a scenario, and no lines of each leaf.
 fn start_parts(alloc: Global, table: &NodeTable) -> Result<(Choices, Vec<Vec<u8>>), AllocError>
+    requires { IsReady table.now }
     ensures choices { IfOk result (λ p. AreChoices table.now p.0) }
     ensures count { IfOk result (λ p. length p.1.items ≡ length (components table.now)) }
     ensures none { IfOk result (λ p. map (λ v. v.items) p.1.items ≡ spec.no_lines (components table.now)) }
@@ -64,6 +68,7 @@ impl Walk {
         ensures past { IfOk result (λ w. w.past.items ≡ []) }
         ensures refused { IfErr result (λ fault. GivesOf fault scenario.now) }
     {
+        read_laws();
         let world = World::load(alloc, scenario)?;
         match start_parts(alloc, world.table()) {
             Ok(parts) => Ok(Walk {
@@ -88,11 +93,11 @@ impl Walk {
         ensures past { self.new.past ≡ self.old.past }
         ensures puts { OnOk result (PutsLine self.old self.new leaf (Line text.now)) }
     {
-        let table = self.world.table();
-        if table.scenario().leaf(leaf).provides().is_some() {
+        let own = TableLeaf::new(self.world.table(), leaf);
+        if own.provides().is_some() {
             return Ok(());
         }
-        let line = text_line(table.label(table.node(leaf)), text);
+        let line = text_line(own.label(), text);
         self.said[leaf.index()].extend_from_slice(line.as_slice())
     }
 

@@ -5,6 +5,7 @@ use Rattle.gq_model.specs.machine.Scenario.{Component, Scenario, System, compone
 use Rattle.std.proofs.Common.{Result, Ok, Err}
 use Rattle.std.specs.Prelude.{OnOk, is_ok}
 use Rattle.std.proofs.lemmas.List.{map-append}
+use Rattle.gq_resolve.specs.Served.{server_among}
 use Rattle.gq_resolve.proofs.Mapped_list_growth.{next_is, onto}
 use Rattle.gq_model.specs.declared.program.Instruction.{Instruction}
 use Rattle.gq_model.specs.declared.program.Instruction.TheVariants.{Open}
@@ -36,11 +37,11 @@ module _ (system : System) (all : List Component) (x : ℕ) (c : Component) (wit
 
 -- where sessions are opened, among the leaves of a scenario
 opens_same : (s : Scenario) (c : Component) (x n : ℕ) (b : Statements)
-    → found_in (opens_among (components s) c x) n b ≡ found_in (opens_with (system s) x c) n b
+    → found_in (opens_among (server_among (components s) c) x) n b ≡ found_in (opens_with (system s) x c) n b
 opens_same s c x n Done = refl
 opens_same s c x n (Do i rest) = ap (λ l. l) (λ e. cond (one i e) ((n, i) ∷ []) [] ++ opens_same s c x (suc n) rest e)
   where
-    one : (i : Instruction) → opens_among (components s) c x i ≡ opens_with (system s) x c i
+    one : (i : Instruction) → opens_among (server_among (components s) c) x i ≡ opens_with (system s) x c i
     one (Open place service n) = refl
     one _ = refl
 opens_same s c x n (If arm other rest) =
@@ -48,7 +49,7 @@ opens_same s c x n (If arm other rest) =
 opens_same s c x n (Loop count body rest) = λ e. opens_same s c x (suc n) body e ++ opens_same s c x (suc n + size body) rest e
 
 stated_same : (s : Scenario) (c : Component) (x : ℕ) (leaf : List ℕ) (sections : List (Section × Statements))
-    → stated_in (λ section. opens_among (components s) c x) leaf sections ≡ stated_in (λ section. opens_with (system s) x c) leaf sections
+    → stated_in (λ section. opens_among (server_among (components s) c) x) leaf sections ≡ stated_in (λ section. opens_with (system s) x c) leaf sections
 stated_same s c x leaf [] = refl
 stated_same s c x leaf (p ∷ rest) = λ e. each_stated leaf p.0 (opens_same s c x 1 p.1 e) ++ stated_same s c x leaf rest e
 
@@ -57,12 +58,11 @@ openers_from s x [] = refl
 openers_from s x (c ∷ cs) = λ e. stated_same s c x c.label c.node.program.sections e ++ openers_from s x cs e
 
 -- the lines of a leaf, as the code makes them
-pub lines_are : (s : Scenario) (all : List Component) → all ≡ components s → (x : ℕ) (c : Component) (shared : Bool) → is_shared (system s) x ≡ shared
-    → heading (sharing_lines shared c (opened_among all x all)) (stated_of has_effect shared c) ≡ leaf_lines (system s) x c
-lines_are s all same x c shared is =
-    ap (λ cs. heading (sharing_lines shared c (opened_among cs x cs)) (stated_of has_effect shared c)) same
-    ∙ (ap (λ l. heading (sharing_lines shared c l) (stated_of has_effect shared c)) (openers_from s x (components s))
-    ∙ ap (λ b. heading (sharing_lines b c (openers (system s) x)) (stated_of has_effect b c)) (sym is))
+pub lines_are : (s : Scenario) (x : ℕ) (c : Component) (shared : Bool) → is_shared (system s) x ≡ shared
+    → heading (sharing_lines shared c (opened_among (components s) x (components s))) (stated_of has_effect shared c) ≡ leaf_lines (system s) x c
+lines_are s x c shared is =
+    ap (λ l. heading (sharing_lines shared c l) (stated_of has_effect shared c)) (openers_from s x (components s))
+    ∙ ap (λ b. heading (sharing_lines b c (openers (system s) x)) (stated_of has_effect b c)) (sym is)
 
 -- a text that is empty is of no statements
 pub none_found : (found : List Stated) → joined (map effect_text found) ≡ [] → found ≡ []
@@ -101,7 +101,8 @@ module _ (all : List Component) (x i : ℕ) (c : Component) (within : i < length
   opened_here : opened_among all x (drop i all) ≡ opened_among all x (c ∷ []) ++ opened_among all x (drop (i + 1) all)
   opened_here =
       ap (opened_among all x) (next_is all i c within is)
-      ∙ ap (λ l. l ++ opened_among all x (drop (i + 1) all)) (sym (append-nil (stated_in (λ section. opens_among all c x) c.label c.node.program.sections)))
+      ∙ ap (λ l. l ++ opened_among all x (drop (i + 1) all))
+      (sym (append-nil (stated_in (λ section. opens_among (server_among all c) x) c.label c.node.program.sections)))
 
   lines_here : lines (drop i all) ≡ lines (c ∷ []) ++ lines (drop (i + 1) all)
   lines_here =

@@ -1,7 +1,7 @@
 -- Leaves that are shared, by the servers of what each leaf opens.
 use Rattle.std.proofs.Common.{◌≡◌, ◌∙◌, ℕ, zero, suc, ◌==◌, ◌+◌, ◌<◌, Bool, true, false, ◌||◌, ◌&&◌, cond, List, []}
-use Rattle.std.proofs.Common.{◌∷◌, ◌++◌, map, length, get_or, drop, Option, ap, sym}
-use Rattle.std.proofs.Common.{refl, append-nil, arith}
+use Rattle.std.proofs.Common.{◌∷◌, ◌++◌, map, length, get_or, Option, ap, sym}
+use Rattle.std.proofs.Common.{refl, arith}
 use Rattle.std.specs.Prelude.{not}
 use Rattle.std.proofs.lemmas.List.{length-map}
 use Rattle.gq_model.specs.declared.section.Section.{Section}
@@ -12,7 +12,6 @@ use Rattle.gq_model.specs.machine.Sections.{is_own_section}
 use Rattle.gq_model.specs.rules.Use.{is_there, services_of}
 use Rattle.gq_resolve.specs.Served.{once, server_among}
 use Rattle.gq_resolve.proofs.Opened_service_lists.{any_once}
-use Rattle.gq_resolve.proofs.Mapped_list_growth.{next_is}
 use Rattle.gq_races.specs.Races.{all_for, any_below, implies, is_shared, opens, opens_first, opens_later, owns}
 use Rattle.gq_races.specs.internal.Openers.{first_servers, later_servers, opened_from, servers_of}
 use Rattle.gq_races.specs.internal.Owners.{AreShared, all_kept, owns_kept}
@@ -33,35 +32,38 @@ any_map test f (x ∷ a) = ap (λ r. test (f x) || r) (any_map test f a)
 
 module _ (s : Scenario) (x : ℕ) (c : Component) where
   -- the x-th leaf is among the servers of what a section opens
-  opens_is : (body : Statements) → any_of (is_there x) (servers_of (components s) c (services_of body)) ≡ opens (system s) x c body
+  opens_is : (body : Statements) → any_of (is_there x) (servers_of (server_among (components s) c) (services_of body)) ≡ opens (system s) x c body
   opens_is body =
       any_map (is_there x) (server_among (components s) c) (once (services_of body))
       ∙ any_once (λ service. is_there x (server_among (components s) c service)) (services_of body)
 
   first_one : (b : Bool) (body : Statements) (rest : List (Option ℕ))
-      → any_of (is_there x) (cond b (servers_of (components s) c (services_of body)) [] ++ rest) ≡ (b && opens (system s) x c body || any_of (is_there x) rest)
+      → any_of (is_there x) (cond b (servers_of (server_among (components s) c) (services_of body)) [] ++ rest)
+      ≡ (b && opens (system s) x c body || any_of (is_there x) rest)
   first_one true body rest =
-      any_append (is_there x) (servers_of (components s) c (services_of body)) rest ∙ ap (λ o. o || any_of (is_there x) rest) (opens_is body)
+      any_append (is_there x) (servers_of (server_among (components s) c) (services_of body)) rest ∙ ap (λ o. o || any_of (is_there x) rest) (opens_is body)
   first_one false body rest = refl
 
   later_one : (b : Bool) (body : Statements) (rest : List (Option ℕ))
-      → any_of (is_there x) (cond b [] (servers_of (components s) c (services_of body)) ++ rest) ≡ (not b && opens (system s) x c body || any_of
+      → any_of (is_there x) (cond b [] (servers_of (server_among (components s) c) (services_of body)) ++ rest) ≡ (not b && opens (system s) x c body || any_of
       (is_there x) rest)
   later_one true body rest = refl
   later_one false body rest =
-      any_append (is_there x) (servers_of (components s) c (services_of body)) rest ∙ ap (λ o. o || any_of (is_there x) rest) (opens_is body)
+      any_append (is_there x) (servers_of (server_among (components s) c) (services_of body)) rest ∙ ap (λ o. o || any_of (is_there x) rest) (opens_is body)
 
   first_in : (sections : List (Section × Statements))
-      → any_of (is_there x) (first_servers (components s) c sections) ≡ any_of (λ p. is_own_section p.0 && opens (system s) x c p.1) sections
+      → any_of (is_there x) (first_servers (server_among (components s) c) sections) ≡ any_of (λ p. is_own_section p.0 && opens (system s) x c p.1) sections
   first_in [] = refl
   first_in (p ∷ rest) =
-      first_one (is_own_section p.0) p.1 (first_servers (components s) c rest) ∙ ap (λ r. is_own_section p.0 && opens (system s) x c p.1 || r) (first_in rest)
+      first_one (is_own_section p.0) p.1 (first_servers (server_among (components s) c) rest)
+      ∙ ap (λ r. is_own_section p.0 && opens (system s) x c p.1 || r) (first_in rest)
 
   later_in : (sections : List (Section × Statements))
-      → any_of (is_there x) (later_servers (components s) c sections) ≡ any_of (λ p. not (is_own_section p.0) && opens (system s) x c p.1) sections
+      → any_of (is_there x) (later_servers (server_among (components s) c) sections)
+      ≡ any_of (λ p. not (is_own_section p.0) && opens (system s) x c p.1) sections
   later_in [] = refl
   later_in (p ∷ rest) =
-      later_one (is_own_section p.0) p.1 (later_servers (components s) c rest)
+      later_one (is_own_section p.0) p.1 (later_servers (server_among (components s) c) rest)
       ∙ ap (λ r. not (is_own_section p.0) && opens (system s) x c p.1 || r) (later_in rest)
 
 -- LEAVES
@@ -100,32 +102,16 @@ module _ (s : Scenario) where
       ap (λ n. not (any_below (λ z. owns_kept n (map (opened_from (components s)) (components s)) z x) n)) count
       ∙ ap not (below_is _ _ (λ z. owns_is (length (components s)) z x) (length (components s)))
 
--- ONE SECTION MORE
-
--- the servers of what is left are those of the section that stands there and those of what follows
-module _ (all : List Component) (c : Component) (sections : List (Section × Statements)) (i : ℕ) (p : Section × Statements) (within : i < length sections)
-    (is : p ≡ get_or sections i p) where
-  pub first_here : first_servers all c (drop i sections) ≡ first_servers all c (p ∷ []) ++ first_servers all c (drop (i + 1) sections)
-  first_here =
-      ap (first_servers all c) (next_is sections i p within is)
-      ∙ ap (λ l. l ++ first_servers all c (drop (i + 1) sections)) (sym (append-nil (cond (is_own_section p.0) (servers_of all c (services_of p.1)) [])))
-
-  pub later_here : later_servers all c (drop i sections) ≡ later_servers all c (p ∷ []) ++ later_servers all c (drop (i + 1) sections)
-  later_here =
-      ap (later_servers all c) (next_is sections i p within is)
-      ∙ ap (λ l. l ++ later_servers all c (drop (i + 1) sections)) (sym (append-nil (cond (is_own_section p.0) [] (servers_of all c (services_of p.1)))))
-
 get_same : (l : List Bool) (x : ℕ) (a b : Bool) → x < length l → get_or l x a ≡ get_or l x b
 get_same [] x a b within = absurd (omega (arith, within))
 get_same (c ∷ l) zero a b within = refl
 get_same (c ∷ l) (suc x) a b within = get_same l x a b (omega (arith, within))
 
 -- a test of the code, by the place of a leaf
-pub shared_test : (s : Scenario) (all : List Component) → all ≡ components s → (shared : List Bool) → AreShared all shared → (x : ℕ) → x < length all
+pub shared_test : (s : Scenario) (shared : List Bool) → AreShared (components s) shared → (x : ℕ) → x < length (components s)
     → (d b : Bool) → get_or shared x d ≡ b → is_shared (system s) x ≡ b
-shared_test s all same shared h x within d b is =
-    let count = length-map all (opened_from all) in
+shared_test s shared h x within d b is =
+    let count = length-map (components s) (opened_from (components s)) in
     let there = h.0 in
     let test = h.1 x b (omega (arith, within, count)) (sym is ∙ get_same shared x d b (omega (arith, within, count, there))) in
-    sym (test ∙ (ap (λ cs. not (any_below (λ z. owns_kept (length (map (opened_from cs) cs)) (map (opened_from cs) cs) z x) (length (map (opened_from cs) cs))))
-    same ∙ shared_is s x))
+    sym (test ∙ shared_is s x)

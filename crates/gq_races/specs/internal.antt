@@ -1,3 +1,4 @@
 pub mod Openers
 pub mod Owners
 pub mod Kind_lines
+pub mod Table_leaves

@@ -1,17 +1,20 @@
 // Which leaves serve what a leaf opens.
 ghost use Rattle.std.specs.Prelude.{◌≡◌, ◌≤◌, ◌++◌, ◌∷◌, [], OnOk, IfOk, length, map};
 ghost use Rattle.gq_model.specs.machine.Lists.{any_of};
+ghost use Rattle.gq_model.specs.machine.Scenario.{components};
 ghost use Rattle.gq_model.specs.rules.Use as spec;
 ghost use Rattle.gq_model.specs.rules.Use.{is_there};
 ghost use Rattle.gq_resolve.specs.Served as served;
-ghost use Rattle.gq_races.specs.internal.Openers.{first_servers, later_servers, opened_from, servers_of};
+ghost use Rattle.gq_laws.specs.Ready.{IsReady};
+ghost use Rattle.gq_races.specs.internal.Table_leaves.{served_by};
+ghost use Rattle.gq_races.specs.internal.Openers.{first_servers, later_servers, opened_from};
 
+use crate::table_leaf::TableLeaf;
 use gq_model::program::Name;
 use gq_model::section::Section;
-use gq_program::program_tree::{Body, Program};
-use gq_resolve::component::Component;
+use gq_program::program_tree::Body;
+use gq_resolve::NodeTable;
 use gq_resolve::opened_services::{once, push_opened};
-use gq_resolve::routes::server_of;
 use gq_scenario::scenario::LeafNo;
 use std::alloc::{AllocError, Global};
 use std::marker::Model;
@@ -45,15 +48,13 @@ fn services_of(alloc: Global, body: &Body) -> Result<Vec<Name>, AllocError>
 // Puts the leaves that serve these services of a leaf at the end.
 fn push_servers(
     servers: &mut Vec<Option<LeafNo>>,
-    components: &[Component<'_>],
-    component: &Component<'_>,
+    client: &TableLeaf<'_>,
     services: &[Name],
 ) -> Result<(), AllocError>
-    requires { length components.now ≤ 64 }
-    ensures { OnOk result (servers.new.items ≡ servers.old.items ++ map (served.server_among components.now component.now) services.now) }
+    ensures { OnOk result (servers.new.items ≡ servers.old.items ++ map (served_by client.now) services.now) }
 {
     for service in services {
-        servers.push(server_of(components, component, service))?;
+        servers.push(client.server(service))?;
     }
     Ok(())
 }
@@ -63,43 +64,33 @@ impl OpenedFrom {
     fn push_section(
         &mut self,
         alloc: Global,
-        components: &[Component<'_>],
-        component: &Component<'_>,
+        client: &TableLeaf<'_>,
         section: Section,
         body: &Body,
     ) -> Result<(), AllocError>
-        requires { length components.now ≤ 64 }
-        ensures first { OnOk result (self.new.0 ≡ self.old.0 ++ first_servers components.now component.now ((section, body.now) ∷ [])) }
-        ensures later { OnOk result (self.new.1 ≡ self.old.1 ++ later_servers components.now component.now ((section, body.now) ∷ [])) }
+        ensures first { OnOk result (self.new.0 ≡ self.old.0 ++ first_servers (served_by client.now) ((section, body.now) ∷ [])) }
+        ensures later { OnOk result (self.new.1 ≡ self.old.1 ++ later_servers (served_by client.now) ((section, body.now) ∷ [])) }
     {
         let services = services_of(alloc, body)?;
         let pushed = match section {
-            Section::Main => {
-                push_servers(&mut self.first, components, component, services.as_slice())
-            }
-            _ => push_servers(&mut self.later, components, component, services.as_slice()),
+            Section::Main => push_servers(&mut self.first, client, services.as_slice()),
+            _ => push_servers(&mut self.later, client, services.as_slice()),
         };
         drop(services);
         pushed
     }
 
-    // Those of a leaf of this program.
-    fn of(
-        alloc: Global,
-        components: &[Component<'_>],
-        component: &Component<'_>,
-        program: &Program,
-    ) -> Result<OpenedFrom, AllocError>
-        requires few { length components.now ≤ 64 }
-        requires program { program.now ≡ component.now.node.program }
-        ensures { IfOk result (λ o. o ≡ opened_from components.now component.now) }
+    // Those of a leaf.
+    fn of(alloc: Global, client: &TableLeaf<'_>) -> Result<OpenedFrom, AllocError>
+        ensures first { IfOk result (λ o. o.0 ≡ first_servers (served_by client.now) client.now.component.node.program.sections) }
+        ensures later { IfOk result (λ o. o.1 ≡ later_servers (served_by client.now) client.now.component.node.program.sections) }
     {
         let mut opened = OpenedFrom {
             first: Vec::new(alloc),
             later: Vec::new(alloc),
         };
-        for (section, body) in program.sections() {
-            opened.push_section(alloc, components, component, *section, body)?;
+        for (section, body) in client.program().sections() {
+            opened.push_section(alloc, client, *section, body)?;
         }
         Ok(opened)
     }
@@ -133,19 +124,16 @@ fn is_among(servers: &[Option<LeafNo>], leaf: LeafNo) -> bool
     false
 }
 
-// Those of all leaves, which have these programs.
-pub(crate) fn all_opened(
-    alloc: Global,
-    components: &[Component<'_>],
-    programs: &[Program],
-) -> Result<Vec<OpenedFrom>, AllocError>
-    requires few { length components.now ≤ 64 }
-    requires programs { programs.now ≡ map (λ c. c.node.program) components.now }
-    ensures { IfOk result (λ l. l.items ≡ map (opened_from components.now) components.now) }
+// Those of all leaves.
+pub(crate) fn all_opened(alloc: Global, table: &NodeTable) -> Result<Vec<OpenedFrom>, AllocError>
+    requires { IsReady table.now }
+    ensures opened { IfOk result (λ l. l.items ≡ map (opened_from (components table.now)) (components table.now)) }
+    ensures few { IfOk result (λ l. length l.items ≤ 64) }
 {
     let mut all = Vec::new(alloc);
-    for (place, component) in components.iter().enumerate() {
-        all.push(OpenedFrom::of(alloc, components, component, &programs[place])?)?;
+    for number in 0..table.leaf_count() {
+        let client = TableLeaf::new(table, LeafNo::new(number as u32));
+        all.push(OpenedFrom::of(alloc, &client)?)?;
     }
     Ok(all)
 }

@@ -1,36 +1,33 @@
 // Where sessions with a leaf are opened.
-ghost use Rattle.std.specs.Prelude.{◌≡◌, ◌≤◌, ◌+◌, ◌++◌, ◌∷◌, [], OnOk, IfOk, codes, decimal, length, map, sum_by};
+ghost use Rattle.std.specs.Prelude.{◌≡◌, ◌≤◌, ◌+◌, ◌++◌, ◌∷◌, [], OnOk, IfOk, codes, decimal, map, sum_by};
 ghost use Rattle.gq_model.specs.machine.Program.{Do, Done, size};
+ghost use Rattle.gq_model.specs.machine.Scenario.{components};
 ghost use Rattle.gq_model.specs.texts.Code.{greatest_statements};
 ghost use Rattle.gq_program.specs.Statement_trees.{tree_of};
+ghost use Rattle.gq_laws.specs.Ready.{IsReady};
 ghost use Rattle.gq_races.specs.Races.{found_in, stated_in};
 ghost use Rattle.gq_races.specs.Race_text.{opened_text};
 ghost use Rattle.gq_races.specs.internal.Kind_lines.{opened_line};
 ghost use Rattle.gq_races.specs.internal.Openers.{opened_among, opens_among};
 ghost use Rattle.gq_views.specs.Listing.{joined, line};
+ghost use Rattle.gq_races.specs.internal.Table_leaves.{served_by};
 
 use crate::statement_prefix::prefix_of;
+use crate::table_leaf::TableLeaf;
 use gq_model::program::Instruction;
 use gq_model::section::Section;
-use gq_program::program_tree::{Body, Program, Statement};
-use gq_resolve::component::Component;
-use gq_resolve::routes::server_of;
+use gq_program::program_tree::{Body, Statement};
+use gq_resolve::NodeTable;
 use gq_scenario::scenario::LeafNo;
 use itoa::Buffer;
 use std::alloc::{AllocError, Global};
 
 // Whether a statement of a leaf opens a session with this one.
-fn opens(
-    components: &[Component<'_>],
-    component: &Component<'_>,
-    leaf: LeafNo,
-    instruction: &Instruction,
-) -> bool
-    requires { length components.now ≤ 64 }
-    ensures { result ≡ opens_among components.now component.now leaf instruction.now }
+fn opens(client: &TableLeaf<'_>, leaf: LeafNo, instruction: &Instruction) -> bool
+    ensures { result ≡ opens_among (served_by client.now) leaf instruction.now }
 {
     if let Instruction::Open(_, service, _) = instruction {
-        if let Some(server) = server_of(components, component, service) {
+        if let Some(server) = client.server(service) {
             return server.number() == leaf.number();
         }
     }
@@ -50,18 +47,16 @@ fn push_number(text: &mut Vec<u8>, prefix: &[u8], number: usize) -> Result<(), A
 // The line of a statement without statements in it, if it opens a session with this leaf.
 fn push_if_opens(
     text: &mut Vec<u8>,
-    components: &[Component<'_>],
-    component: &Component<'_>,
+    client: &TableLeaf<'_>,
     leaf: LeafNo,
     prefix: &[u8],
     number: usize,
     instruction: &Instruction,
 ) -> Result<(), AllocError>
-    requires { length components.now ≤ 64 }
     ensures { OnOk result (text.new.items ≡ text.old.items
-        ++ joined (map (opened_line prefix.now) (found_in (opens_among components.now component.now leaf) number (Do instruction.now Done)))) }
+        ++ joined (map (opened_line prefix.now) (found_in (opens_among (served_by client.now) leaf) number (Do instruction.now Done)))) }
 {
-    if opens(components, component, leaf, instruction) {
+    if opens(client, leaf, instruction) {
         push_number(text, prefix, number)
     } else {
         Ok(())
@@ -72,39 +67,27 @@ fn push_if_opens(
 #[cycle(opens)]
 fn push_opens_in(
     text: &mut Vec<u8>,
-    components: &[Component<'_>],
-    component: &Component<'_>,
+    client: &TableLeaf<'_>,
     leaf: LeafNo,
     prefix: &[u8],
     number: usize,
     statement: &Statement,
 ) -> Result<usize, AllocError>
-    requires few { length components.now ≤ 64 }
-    requires numbers { number + size (tree_of (statement.now ∷ [])) ≤ 65536 }
+    requires { number + size (tree_of (statement.now ∷ [])) ≤ 65536 }
     ensures lines { OnOk result (text.new.items ≡ text.old.items
-        ++ joined (map (opened_line prefix.now) (found_in (opens_among components.now component.now leaf) number (tree_of (statement.now ∷ []))))) }
+        ++ joined (map (opened_line prefix.now) (found_in (opens_among (served_by client.now) leaf) number (tree_of (statement.now ∷ []))))) }
     ensures next { IfOk result (λ next. next ≡ number + size (tree_of (statement.now ∷ []))) }
 {
     match statement {
         Statement::Plain(instruction) => {
-            push_if_opens(
-                text,
-                components,
-                component,
-                leaf,
-                prefix,
-                number,
-                instruction,
-            )?;
+            push_if_opens(text, client, leaf, prefix, number, instruction)?;
             Ok(number + 1)
         }
         Statement::If(arm, other) => {
-            let between = push_opens(text, components, component, leaf, prefix, number + 1, arm)?;
-            push_opens(text, components, component, leaf, prefix, between, other)
+            let between = push_opens(text, client, leaf, prefix, number + 1, arm)?;
+            push_opens(text, client, leaf, prefix, between, other)
         }
-        Statement::Loop(_, body) => {
-            push_opens(text, components, component, leaf, prefix, number + 1, body)
-        }
+        Statement::Loop(_, body) => push_opens(text, client, leaf, prefix, number + 1, body),
     }
 }
 
@@ -112,22 +95,20 @@ fn push_opens_in(
 #[cycle(opens)]
 fn push_opens(
     text: &mut Vec<u8>,
-    components: &[Component<'_>],
-    component: &Component<'_>,
+    client: &TableLeaf<'_>,
     leaf: LeafNo,
     prefix: &[u8],
     first: usize,
     body: &Body,
 ) -> Result<usize, AllocError>
-    requires few { length components.now ≤ 64 }
-    requires numbers { first + size body.now ≤ 65536 }
+    requires { first + size body.now ≤ 65536 }
     ensures lines { OnOk result (text.new.items ≡ text.old.items
-        ++ joined (map (opened_line prefix.now) (found_in (opens_among components.now component.now leaf) first body.now))) }
+        ++ joined (map (opened_line prefix.now) (found_in (opens_among (served_by client.now) leaf) first body.now))) }
     ensures next { IfOk result (λ next. next ≡ first + size body.now) }
 {
     let mut number = first;
     for statement in body.statements() {
-        number = push_opens_in(text, components, component, leaf, prefix, number, statement)?;
+        number = push_opens_in(text, client, leaf, prefix, number, statement)?;
     }
     Ok(number)
 }
@@ -136,27 +117,17 @@ fn push_opens(
 fn push_section(
     alloc: Global,
     text: &mut Vec<u8>,
-    components: &[Component<'_>],
-    component: &Component<'_>,
+    client: &TableLeaf<'_>,
     leaf: LeafNo,
     section: Section,
     body: &Body,
 ) -> Result<(), AllocError>
-    requires few { length components.now ≤ 64 }
-    requires statements { size body.now ≤ 4096 }
+    requires { size body.now ≤ 4096 }
     ensures { OnOk result (text.new.items ≡ text.old.items
-        ++ joined (map opened_text (stated_in (λ section. opens_among components.now component.now leaf) component.now.label ((section, body.now) ∷ [])))) }
+        ++ joined (map opened_text (stated_in (λ section. opens_among (served_by client.now) leaf) client.now.component.label ((section, body.now) ∷ [])))) }
 {
-    let prefix = prefix_of(alloc, component.label(), section)?;
-    let pushed = push_opens(
-        text,
-        components,
-        component,
-        leaf,
-        prefix.as_slice(),
-        1,
-        body,
-    );
+    let prefix = prefix_of(alloc, client.label(), section)?;
+    let pushed = push_opens(text, client, leaf, prefix.as_slice(), 1, body);
     drop(prefix);
     match pushed {
         Ok(_) => Ok(()),
@@ -168,53 +139,50 @@ fn push_section(
 fn push_sections(
     alloc: Global,
     text: &mut Vec<u8>,
-    components: &[Component<'_>],
-    component: &Component<'_>,
+    client: &TableLeaf<'_>,
     leaf: LeafNo,
     sections: &[(Section, Body)],
 ) -> Result<(), AllocError>
-    requires few { length components.now ≤ 64 }
-    requires statements { sum_by (λ p. size p.1) sections.now ≤ greatest_statements }
+    requires { sum_by (λ p. size p.1) sections.now ≤ greatest_statements }
     ensures { OnOk result (text.new.items ≡ text.old.items
-        ++ joined (map opened_text (stated_in (λ section. opens_among components.now component.now leaf) component.now.label sections.now))) }
+        ++ joined (map opened_text (stated_in (λ section. opens_among (served_by client.now) leaf) client.now.component.label sections.now))) }
 {
     for (section, body) in sections {
-        push_section(alloc, text, components, component, leaf, *section, body)?;
+        push_section(alloc, text, client, leaf, *section, body)?;
     }
     Ok(())
 }
 
-// The lines of a leaf of this program.
+// The lines of a leaf.
 fn push_client(
     alloc: Global,
     text: &mut Vec<u8>,
-    components: &[Component<'_>],
-    component: &Component<'_>,
+    client: &TableLeaf<'_>,
     leaf: LeafNo,
-    program: &Program,
 ) -> Result<(), AllocError>
-    requires few { length components.now ≤ 64 }
-    requires program { program.now ≡ component.now.node.program }
-    ensures { OnOk result (text.new.items ≡ text.old.items ++ joined (map opened_text (opened_among components.now leaf (component.now ∷ [])))) }
+    ensures { OnOk result (text.new.items ≡ text.old.items
+        ++ joined (map opened_text (stated_in (λ section. opens_among (served_by client.now) leaf)
+        client.now.component.label client.now.component.node.program.sections))) }
 {
+    let program = client.program();
     program.laws();
-    push_sections(alloc, text, components, component, leaf, program.sections())
+    push_sections(alloc, text, client, leaf, program.sections())
 }
 
-// The lines of all leaves, which have these programs.
+// The lines of all leaves.
 pub(crate) fn push_openers(
     alloc: Global,
     text: &mut Vec<u8>,
-    components: &[Component<'_>],
-    programs: &[Program],
+    table: &NodeTable,
     leaf: LeafNo,
 ) -> Result<(), AllocError>
-    requires few { length components.now ≤ 64 }
-    requires programs { programs.now ≡ map (λ c. c.node.program) components.now }
-    ensures { OnOk result (text.new.items ≡ text.old.items ++ joined (map opened_text (opened_among components.now leaf components.now))) }
+    requires { IsReady table.now }
+    ensures { OnOk result (text.new.items ≡ text.old.items
+        ++ joined (map opened_text (opened_among (components table.now) leaf (components table.now)))) }
 {
-    for (place, component) in components.iter().enumerate() {
-        push_client(alloc, text, components, component, leaf, &programs[place])?;
+    for number in 0..table.leaf_count() {
+        let client = TableLeaf::new(table, LeafNo::new(number as u32));
+        push_client(alloc, text, &client, leaf)?;
     }
     Ok(())
 }

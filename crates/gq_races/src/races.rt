@@ -1,6 +1,7 @@
 // The statements by which the outcome of an accepted scenario could depend on the turns.
-ghost use Rattle.std.specs.Prelude.{◌≡◌, ◌≤◌, ◌++◌, ◌∷◌, [], List, IfOk, IfErr, IsOkAnd, OnOk, codes, length, map};
-ghost use Rattle.gq_model.specs.machine.Scenario as model;
+ghost use Rattle.std.specs.Prelude.{◌≡◌, ◌<◌, ◌++◌, ◌∷◌, [], List, IfOk, IfErr, IsOkAnd, OnOk, codes, length, map};
+ghost use Rattle.gq_model.specs.machine.Scenario.{components};
+ghost use Rattle.gq_laws.specs.Ready.{IsReady};
 ghost use Rattle.gq_output.specs.Writer_failures.{written_to};
 ghost use Rattle.gq_load.specs.Load_faults.{Refuses};
 ghost use Rattle.gq_load.specs.Load.{loaded};
@@ -10,122 +11,116 @@ ghost use Rattle.gq_races.specs.Races_written.{MeansWithout, races_written, Wrot
 ghost use Rattle.gq_races.specs.internal.Openers.{opened_among};
 ghost use Rattle.gq_races.specs.internal.Owners.{AreShared};
 ghost use Rattle.gq_views.specs.Listing.{joined};
+ghost use Rattle.gq_races.specs.internal.Table_leaves.{leaf_of};
 ghost use Rattle.gq_reports.specs.Command_outcomes.{WritesAs};
 
 use crate::effects::push_leaf_effects;
 use crate::openers::all_opened;
 use crate::opens::push_openers;
 use crate::owners::shared;
+use crate::table_leaf::TableLeaf;
 use gq_load::accepted::Accepted;
 use gq_load::load_fault::LoadError;
+use gq_load::read::read_laws;
 use gq_output::counted::Counted;
-use gq_program::program_tree::Program;
 use gq_reports::RunFault;
 use gq_reports::command_text::put_text;
 use gq_resolve::NodeTable;
-use gq_resolve::component::{Component, components};
 use gq_scenario::scenario::LeafNo;
 use std::alloc::{AllocError, Global};
 use std::io::Write;
 
 // The first line of a shared leaf.
-fn push_shared(text: &mut Vec<u8>, component: &Component<'_>) -> Result<(), AllocError>
-    ensures { OnOk result (text.new.items ≡ text.old.items ++ joined (shared_text component.now ∷ [])) }
+fn push_shared(text: &mut Vec<u8>, server: &TableLeaf<'_>) -> Result<(), AllocError>
+    ensures { OnOk result (text.new.items ≡ text.old.items ++ joined (shared_text server.now.component ∷ [])) }
 {
     text.extend_from_slice(b"shared ")?;
-    text.extend_from_slice(component.label())?;
-    if let Some(service) = component.leaf().provides() {
+    text.extend_from_slice(server.label())?;
+    if let Some(service) = server.provides() {
         text.extend_from_slice(b" ")?;
         text.extend_from_slice(service.as_bytes())?;
     }
     text.extend_from_slice(b"\n")
 }
 
-// The lines of the races and orders of a leaf of this program, which is shared or not.
-fn leaf_effects(
-    alloc: Global,
-    component: &Component<'_>,
-    shared: bool,
-    program: &Program,
-) -> Result<Vec<u8>, AllocError>
-    requires { program.now ≡ component.now.node.program }
-    ensures { IfOk result (λ effects. effects.items ≡ joined (map effect_text (stated_of has_effect shared component.now))) }
+// The lines of the races and orders of a leaf, which is shared or not.
+fn leaf_effects(alloc: Global, server: &TableLeaf<'_>, shared: bool) -> Result<Vec<u8>, AllocError>
+    ensures { IfOk result (λ effects. effects.items ≡ joined (map effect_text (stated_of has_effect shared server.now.component))) }
 {
     let mut effects = Vec::new(alloc);
-    push_leaf_effects(alloc, &mut effects, component.label(), shared, program)?;
+    push_leaf_effects(
+        alloc,
+        &mut effects,
+        server.label(),
+        shared,
+        server.program(),
+    )?;
     Ok(effects)
 }
 
-// What stands before the races and orders of a leaf, if it is shared.
+// What stands before the races and orders of a leaf of this number, if it is shared.
 fn push_sharing(
     alloc: Global,
     text: &mut Vec<u8>,
-    components: &[Component<'_>],
-    programs: &[Program],
-    component: &Component<'_>,
+    table: &NodeTable,
     leaf: LeafNo,
+    server: &TableLeaf<'_>,
     shared: bool,
 ) -> Result<(), AllocError>
-    requires few { length components.now ≤ 64 }
-    requires programs { programs.now ≡ map (λ c. c.node.program) components.now }
+    requires { IsReady table.now }
     ensures { OnOk result (text.new.items ≡ text.old.items
-        ++ joined (sharing_lines shared component.now (opened_among components.now leaf components.now))) }
+        ++ joined (sharing_lines shared server.now.component (opened_among (components table.now) leaf (components table.now)))) }
 {
     if !shared {
         return Ok(());
     }
-    push_shared(text, component)?;
-    push_openers(alloc, text, components, programs, leaf)
+    push_shared(text, server)?;
+    push_openers(alloc, text, table, leaf)
 }
 
-// The lines of a leaf with these races and orders.
+// The lines of a leaf of this number with these races and orders.
 fn push_with_effects(
     alloc: Global,
     text: &mut Vec<u8>,
-    components: &[Component<'_>],
-    programs: &[Program],
-    component: &Component<'_>,
+    table: &NodeTable,
     leaf: LeafNo,
+    server: &TableLeaf<'_>,
     shared: bool,
     effects: &[u8],
 ) -> Result<(), AllocError>
-    requires few { length components.now ≤ 64 }
-    requires programs { programs.now ≡ map (λ c. c.node.program) components.now }
+    requires { IsReady table.now }
     ensures { (found : List Stated) → effects.now ≡ joined (map effect_text found) → OnOk result (text.new.items ≡ text.old.items
-        ++ joined (heading (sharing_lines shared component.now (opened_among components.now leaf components.now)) found)) }
+        ++ joined (heading (sharing_lines shared server.now.component (opened_among (components table.now) leaf (components table.now))) found)) }
 {
     if effects.is_empty() {
         return Ok(());
     }
-    push_sharing(alloc, text, components, programs, component, leaf, shared)?;
+    push_sharing(alloc, text, table, leaf, server, shared)?;
     text.extend_from_slice(effects)
 }
 
-// The lines of a leaf of this program.
-fn push_component(
+// The lines of a leaf.
+fn push_leaf(
     alloc: Global,
     text: &mut Vec<u8>,
-    components: &[Component<'_>],
-    programs: &[Program],
-    component: &Component<'_>,
+    table: &NodeTable,
     leaf: LeafNo,
     shared: bool,
-    program: &Program,
 ) -> Result<(), AllocError>
-    requires few { length components.now ≤ 64 }
-    requires programs { programs.now ≡ map (λ c. c.node.program) components.now }
-    requires program { program.now ≡ component.now.node.program }
+    requires ready { IsReady table.now }
+    requires leaf { leaf < length (components table.now) }
     ensures { OnOk result (text.new.items ≡ text.old.items ++ joined (heading
-        (sharing_lines shared component.now (opened_among components.now leaf components.now)) (stated_of has_effect shared component.now))) }
+        (sharing_lines shared (leaf_of table.now leaf).component (opened_among (components table.now) leaf (components table.now)))
+        (stated_of has_effect shared (leaf_of table.now leaf).component))) }
 {
-    let effects = leaf_effects(alloc, component, shared, program)?;
+    let server = TableLeaf::new(table, leaf);
+    let effects = leaf_effects(alloc, &server, shared)?;
     let pushed = push_with_effects(
         alloc,
         text,
-        components,
-        programs,
-        component,
+        table,
         leaf,
+        &server,
         shared,
         effects.as_slice(),
     );
@@ -137,70 +132,43 @@ fn push_component(
 fn push_leaves(
     alloc: Global,
     text: &mut Vec<u8>,
-    components: &[Component<'_>],
-    programs: &[Program],
+    table: &NodeTable,
     shared: &[bool],
 ) -> Result<(), AllocError>
-    requires few { length components.now ≤ 64 }
-    requires programs { programs.now ≡ map (λ c. c.node.program) components.now }
-    requires shared { AreShared components.now shared.now }
-    ensures { (s : model.Scenario) → components.now ≡ model.components s → OnOk result (text.new.items ≡ text.old.items ++ races_text s) }
+    requires ready { IsReady table.now }
+    requires shared { AreShared (components table.now) shared.now }
+    ensures { OnOk result (text.new.items ≡ text.old.items ++ races_text table.now) }
 {
-    for (place, component) in components.iter().enumerate() {
-        let leaf = LeafNo::new(place as u32);
-        let program = &programs[place];
-        let is_shared = shared[place];
-        push_component(
-            alloc, text, components, programs, component, leaf, is_shared, program,
-        )?;
+    for number in 0..table.leaf_count() {
+        let leaf = LeafNo::new(number as u32);
+        push_leaf(alloc, text, table, leaf, shared[number])?;
     }
     Ok(())
 }
 
-/// Whether each of these leaves is shared, where they have these programs. Refused only if the host refuses memory.
-pub fn all_shared(
-    alloc: Global,
-    components: &[Component<'_>],
-    programs: &[Program],
-) -> Result<Vec<bool>, AllocError>
-    requires few { length components.now ≤ 64 }
-    requires programs { programs.now ≡ map (λ c. c.node.program) components.now }
-    ensures shared { IfOk result (λ shared. AreShared components.now shared.items) }
-    ensures defined { (s : model.Scenario) → components.now ≡ model.components s → IfOk result (λ shared. AreSharedOf s shared.items) }
+/// Whether each leaf of a scenario is shared. Refused only if the host refuses memory.
+pub fn all_shared(alloc: Global, table: &NodeTable) -> Result<Vec<bool>, AllocError>
+    requires { IsReady table.now }
+    ensures shared { IfOk result (λ shared. AreShared (components table.now) shared.items) }
+    ensures defined { IfOk result (λ shared. AreSharedOf table.now shared.items) }
 {
-    let opened = all_opened(alloc, components, programs)?;
+    let opened = all_opened(alloc, table)?;
     let shared = shared(alloc, opened.as_slice());
     drop(opened);
     shared
 }
 
-// The text of the leaves of a scenario, which have these programs.
-fn leaves_text(
-    alloc: Global,
-    components: &[Component<'_>],
-    programs: &[Program],
-) -> Result<Vec<u8>, AllocError>
-    requires few { length components.now ≤ 64 }
-    requires programs { programs.now ≡ map (λ c. c.node.program) components.now }
-    ensures { (s : model.Scenario) → components.now ≡ model.components s → IfOk result (λ text. text.items ≡ races_text s) }
+// The text of the scenario of a table.
+fn table_text(alloc: Global, table: &NodeTable) -> Result<Vec<u8>, AllocError>
+    requires { IsReady table.now }
+    ensures { IfOk result (λ text. text.items ≡ races_text table.now) }
 {
-    let shared = all_shared(alloc, components, programs)?;
+    let shared = all_shared(alloc, table)?;
     let mut text = Vec::new(alloc);
-    let pushed = push_leaves(alloc, &mut text, components, programs, shared.as_slice());
+    let pushed = push_leaves(alloc, &mut text, table, shared.as_slice());
     drop(shared);
     pushed?;
     Ok(text)
-}
-
-// The text of the scenario of a table.
-fn table_text(alloc: Global, table: &NodeTable) -> Result<Vec<u8>, AllocError>
-    ensures { IfOk result (λ text. text.items ≡ races_text table.now) }
-{
-    let _leaves = table.leaf_count();
-    let components = components(alloc, table.scenario())?;
-    let text = leaves_text(alloc, components.as_slice(), table.programs());
-    drop(components);
-    text
 }
 
 // The text of the scenario of a text.
@@ -208,6 +176,7 @@ fn loaded_text(alloc: Global, scenario: &[u8]) -> Result<Vec<u8>, LoadError>
     ensures text { IfOk result (λ text. IsOkAnd (loaded scenario.now) (λ s. text.items ≡ races_text s)) }
     ensures refused { IfErr result (λ e. Refuses e (loaded scenario.now)) }
 {
+    read_laws();
     let accepted = Accepted::read(alloc, scenario)?;
     let text = table_text(alloc, accepted.table());
     drop(accepted);

@@ -47,7 +47,7 @@ impl WrongStep {
         ensures { result ≡ (name_at (slice_get (components table.now) leaf), wrong) }
     {
         WrongStep {
-            leaf: copied(table.scenario().leaf(leaf).name()),
+            leaf: copied(table.name(leaf)),
             wrong,
         }
     }

@@ -1,11 +1,10 @@
 -- What comes next at a place of a list of statements.
-use Rattle.std.proofs.Common.{◌≡◌, ℕ, zero, suc, ◌+◌, ◌-◌, ◌<◌, ◌≤◌, inl, inr, Bool, true, false, List, [], ◌∷◌, length, drop, get_or}
+use Rattle.std.proofs.Common.{◌≡◌, ℕ, zero, suc, ◌+◌, ◌-◌, ◌<◌, ◌≤◌, inl, inr, Bool, true, false, List, [], ◌∷◌, length, drop, get_or, Option}
 use Rattle.std.proofs.Common.{refl, ap, sym, ◌∙◌, arith}
 use Rattle.std.proofs.lemmas.Bool.{cases_lt}
 use Rattle.gq_model.specs.declared.program.Instruction.{Instruction}
 use Rattle.gq_model.specs.declared.program.Instruction.TheVariants as instruction
 use Rattle.gq_model.specs.machine.Program.{Statements, Done, If, Loop}
-use Rattle.gq_model.specs.machine.Scenario.{Component}
 use Rattle.gq_program.proofs.Statement_list_sizes.{here_is}
 use Rattle.gq_program.specs.Statement_trees.{tree_of}
 use Rattle.gq_program.specs.declared.program_tree.Statement.{Statement}
@@ -35,54 +34,53 @@ is_nothing (asks.Opens server) = false
 is_nothing (asks.Names slot) = false
 is_nothing asks.Other = false
 
-something : (components : List Component) (c : Component) (i : Instruction) → is_nothing (asked components c i) ≡ false
-something components c (instruction.Say text) = refl
-something components c instruction.Out = refl
-something components c (instruction.Operands s) = refl
-something components c (instruction.Make form p n) = refl
-something components c (instruction.MakePool p n m) = refl
-something components c (instruction.Load width p) = refl
-something components c (instruction.Store width p) = refl
-something components c (instruction.Free p) = refl
-something components c (instruction.Take p) = refl
-something components c (instruction.Give p) = refl
-something components c (instruction.Peek p) = refl
-something components c (instruction.Poke p) = refl
-something components c (instruction.Open p service n) = refl
-something components c (instruction.Upgrade p n) = refl
-something components c (instruction.Call p) = refl
-something components c (instruction.Close p) = refl
+something : (server : List ℕ → Option ℕ) (i : Instruction) → is_nothing (asked server i) ≡ false
+something server (instruction.Say text) = refl
+something server instruction.Out = refl
+something server (instruction.Operands s) = refl
+something server (instruction.Make form p n) = refl
+something server (instruction.MakePool p n m) = refl
+something server (instruction.Load width p) = refl
+something server (instruction.Store width p) = refl
+something server (instruction.Free p) = refl
+something server (instruction.Take p) = refl
+something server (instruction.Give p) = refl
+something server (instruction.Peek p) = refl
+something server (instruction.Poke p) = refl
+something server (instruction.Open p service n) = refl
+something server (instruction.Upgrade p n) = refl
+something server (instruction.Call p) = refl
+something server (instruction.Close p) = refl
 
-not_nothing : (components : List Component) (c : Component) (i : Instruction) → asked components c i ≡ asks.Nothing → ⊥
-not_nothing components c i e = apart (sym (something components c i) ∙ ap is_nothing e)
+not_nothing : (server : List ℕ → Option ℕ) (i : Instruction) → asked server i ≡ asks.Nothing → ⊥
+not_nothing server i e = apart (sym (something server i) ∙ ap is_nothing e)
   where
     apart : false ≡ true → ⊥
     apart h = cc
 
 -- where one asks nothing, the other one counts
-pub when_nothing : (components : List Component) (c : Component) (a b : Ahead) → asks_of components c a ≡ asks.Nothing
-    → asks_of components c (or_else a b) ≡ asks_of components c b
-when_nothing components c Nothing b e = refl
-when_nothing components c (Instructs i) b e = absurd (not_nothing components c i e)
-when_nothing components c Other b e = absurd (cc e)
+pub when_nothing : (server : List ℕ → Option ℕ) (a b : Ahead) → asks_of server a ≡ asks.Nothing
+    → asks_of server (or_else a b) ≡ asks_of server b
+when_nothing server Nothing b e = refl
+when_nothing server (Instructs i) b e = absurd (not_nothing server i e)
+when_nothing server Other b e = absurd (cc e)
 
-pub when_some : (components : List Component) (c : Component) (a b : Ahead) → (asks_of components c a ≡ asks.Nothing → ⊥)
-    → asks_of components c (or_else a b) ≡ asks_of components c a
-when_some components c Nothing b n = absurd (n refl)
-when_some components c (Instructs i) b n = refl
-when_some components c Other b n = refl
+pub when_some : (server : List ℕ → Option ℕ) (a b : Ahead) → (asks_of server a ≡ asks.Nothing → ⊥)
+    → asks_of server (or_else a b) ≡ asks_of server a
+when_some server Nothing b n = absurd (n refl)
+when_some server (Instructs i) b n = refl
+when_some server Other b n = refl
 
-pub round_over : (components : List Component) (c : Component) (a : Ahead) → asks_of components c a ≡ asks.Nothing → asks_of components c (in_round a) ≡
-    asks.Other
-round_over components c Nothing e = refl
-round_over components c (Instructs i) e = absurd (not_nothing components c i e)
-round_over components c Other e = absurd (cc e)
+pub round_over : (server : List ℕ → Option ℕ) (a : Ahead) → asks_of server a ≡ asks.Nothing → asks_of server (in_round a) ≡ asks.Other
+round_over server Nothing e = refl
+round_over server (Instructs i) e = absurd (not_nothing server i e)
+round_over server Other e = absurd (cc e)
 
-pub round_goes : (components : List Component) (c : Component) (a : Ahead) → (asks_of components c a ≡ asks.Nothing → ⊥)
-    → asks_of components c (in_round a) ≡ asks_of components c a
-round_goes components c Nothing n = absurd (n refl)
-round_goes components c (Instructs i) n = refl
-round_goes components c Other n = refl
+pub round_goes : (server : List ℕ → Option ℕ) (a : Ahead) → (asks_of server a ≡ asks.Nothing → ⊥)
+    → asks_of server (in_round a) ≡ asks_of server a
+round_goes server Nothing n = absurd (n refl)
+round_goes server (Instructs i) n = refl
+round_goes server Other n = refl
 
 -- STATEMENTS IN A LIST
 

@@ -1,6 +1,6 @@
 -- What comes next at the places of the sections of a program.
 use Rattle.std.proofs.Common.{◌≡◌, ℕ, zero, suc, ◌+◌, ◌<◌, ◌≤◌, inl, inr, true, false, ◌&&◌, List, [], ◌∷◌, ◌++◌, length, drop, get_or}
-use Rattle.std.proofs.Common.{Some, refl, ap, sym, ◌∙◌, subst, arith}
+use Rattle.std.proofs.Common.{Option, Some, refl, ap, sym, ◌∙◌, subst, arith}
 use Rattle.std.specs.Prelude.{if◌then◌else◌, slice_get, sum_by, nat_le, ◌==◌}
 use Rattle.std.proofs.lemmas.Bool.{and_parts, cases_lt, leb-true}
 use Rattle.std.proofs.lemmas.List.{get_or_past}
@@ -12,7 +12,6 @@ use Rattle.gq_model.specs.machine.Program.{Program, Statements, body_of, section
 use Rattle.gq_model.specs.machine.Sections.{same_section}
 use Rattle.gq_model.specs.texts.Code.{IsProgram, are_sections, greatest_statements}
 use Rattle.gq_model.specs.texts.Operands.{greatest_number}
-use Rattle.gq_model.specs.machine.Scenario.{Component}
 use Rattle.gq_model.proofs.Small_facts.{none_some, some_same}
 use Rattle.gq_bytecode.specs.Bytecode_layout.{width}
 use Rattle.gq_bytecode.proofs.Numbered_long_statements.{width_size}
@@ -38,27 +37,27 @@ count_more [] x n e = omega (arith, e)
 count_more (y ∷ xs) x zero e = absurd (omega (arith, e))
 count_more (y ∷ xs) x (suc n) e = let h = count_more xs x n (omega (arith, e)) in omega (arith, h)
 
-module _ (all : List Component) (c : Component) where
+module _ (server : List ℕ → Option ℕ) where
   -- one section more
   pub sections_more : (sections : List (Section × Statements)) (found : List SectionAsks) (p : Section × Statements) (s : SectionAsks)
-      → AreOfSections all c sections found → IsOfSection all c p s → AreOfSections all c (sections ++ p ∷ []) (found ++ s ∷ [])
+      → AreOfSections server sections found → IsOfSection server p s → AreOfSections server (sections ++ p ∷ []) (found ++ s ∷ [])
   sections_more [] [] p s h here = (here, tt)
   sections_more [] (t ∷ found) p s h here = absurd h
   sections_more (q ∷ sections) [] p s h here = absurd h
   sections_more (q ∷ sections) (t ∷ found) p s h here = (h.0, sections_more sections found p s h.1 here)
 
   -- the section of a part
-  pub part_here : (sections : List (Section × Statements)) (found : List SectionAsks) (k : ℕ) (s : SectionAsks) → AreOfSections all c sections found
-      → k < length found → s ≡ get_or found k s → (p : Section × Statements) × (drop k sections ≡ p ∷ drop (k + 1) sections) × IsOfSection all c p s
+  pub part_here : (sections : List (Section × Statements)) (found : List SectionAsks) (k : ℕ) (s : SectionAsks) → AreOfSections server sections found
+      → k < length found → s ≡ get_or found k s → (p : Section × Statements) × (drop k sections ≡ p ∷ drop (k + 1) sections) × IsOfSection server p s
   part_here [] [] k s h l e = absurd (omega (arith, l))
   part_here [] (t ∷ found) k s h l e = absurd h
   part_here (q ∷ sections) [] k s h l e = absurd h
-  part_here (q ∷ sections) (t ∷ found) zero s h l e = (q, refl, subst (IsOfSection all c q) (sym e) h.0)
+  part_here (q ∷ sections) (t ∷ found) zero s h l e = (q, refl, subst (IsOfSection server q) (sym e) h.0)
   part_here (q ∷ sections) (t ∷ found) (suc k) s h l e =
       let r = part_here sections found k s h.1 (omega (arith, l)) e in
       let on : suc (k + 1) ≡ suc k + 1 = omega arith in (r.0, r.1 ∙ ap (λ n. r.0 ∷ drop n (q ∷ sections)) on, r.2)
 
-  pub no_part : (sections : List (Section × Statements)) (found : List SectionAsks) (k : ℕ) → AreOfSections all c sections found → length found ≤ k
+  pub no_part : (sections : List (Section × Statements)) (found : List SectionAsks) (k : ℕ) → AreOfSections server sections found → length found ≤ k
       → drop k sections ≡ []
   no_part [] [] zero h l = refl
   no_part [] [] (suc k) h l = refl
@@ -68,7 +67,7 @@ module _ (all : List Component) (c : Component) where
   no_part (q ∷ sections) (t ∷ found) (suc k) h l = no_part sections found k h.1 (omega (arith, l))
 
   module _ (section : Section) (sections : List (Section × Statements)) (found : List SectionAsks) (k : ℕ) (s : SectionAsks)
-      (h : AreOfSections all c sections found) (l : k < length found) (e : s ≡ get_or found k s)
+      (h : AreOfSections server sections found) (l : k < length found) (e : s ≡ get_or found k s)
       (so_far : section_in section sections ≡ section_in section (drop k sections)) where
     -- another section
     pub part_past : same_section section s.section ≡ false → section_in section sections ≡ section_in section (drop (k + 1) sections)
@@ -79,7 +78,8 @@ module _ (all : List Component) (c : Component) where
         ∙ ap (λ b. if b then Some p.1 else section_in section (drop (k + 1) sections)) (sym (ap (same_section section) here.2.section) ∙ other)
 
     -- this section
-    pub part_found : same_section section s.section ≡ true → IsOfSection all c (section, body_of (section_in section sections)) (record s { section = section })
+    pub part_found : same_section section s.section ≡ true
+        → IsOfSection server (section, body_of (section_in section sections)) (record s { section = section })
     part_found this =
         let here = part_here sections found k s h l e in
         let p = here.0 in
@@ -88,27 +88,27 @@ module _ (all : List Component) (c : Component) where
         record {
           section = refl;
           count = here.2.count ∙ ap (λ o. suc (width (body_of o))) (sym is);
-          each = λ j a found. here.2.each j a found ∙ ap (λ o. asks_of all c (ahead_in (body_of o) j)) (sym is);
+          each = λ j a found. here.2.each j a found ∙ ap (λ o. asks_of server (ahead_in (body_of o) j)) (sym is);
         }
 
     -- what comes next at a place of it
     pub at_place : same_section section s.section ≡ true → (j : ℕ)
-        → get_or s.asks.items j asks.Nothing ≡ asks_of all c (ahead_in (body_of (section_in section sections)) j)
+        → get_or s.asks.items j asks.Nothing ≡ asks_of server (ahead_in (body_of (section_in section sections)) j)
     at_place this j = elim (cases_lt j (length s.asks.items)) [
       | inl less ↦ (part_found this).each j (get_or s.asks.items j asks.Nothing) (slice_get-get_or s.asks.items j asks.Nothing less)
       | inr past ↦
           let count = (part_found this).count in
           get_or_past s.asks.items j asks.Nothing past
-          ∙ ap (asks_of all c) (sym (no_more (body_of (section_in section sections)) j (omega (arith, count, past))))
+          ∙ ap (asks_of server) (sym (no_more (body_of (section_in section sections)) j (omega (arith, count, past))))
     ]
 
   -- no section
-  pub none_found : (section : Section) (sections : List (Section × Statements)) (found : List SectionAsks) (k j : ℕ) → AreOfSections all c sections found
+  pub none_found : (section : Section) (sections : List (Section × Statements)) (found : List SectionAsks) (k j : ℕ) → AreOfSections server sections found
       → length found ≤ k → section_in section sections ≡ section_in section (drop k sections)
-      → asks.Nothing ≡ asks_of all c (ahead_in (body_of (section_in section sections)) j)
+      → asks.Nothing ≡ asks_of server (ahead_in (body_of (section_in section sections)) j)
   none_found section sections found k j h l so_far =
       let is = so_far ∙ ap (section_in section) (no_part sections found k h l) in
-      ap (λ o. asks_of all c (ahead_in (body_of o) j)) (sym is)
+      ap (λ o. asks_of server (ahead_in (body_of o) j)) (sym is)
 
 -- WIDTHS
 

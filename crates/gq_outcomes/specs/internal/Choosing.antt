@@ -2,6 +2,7 @@
 use Rattle.std.specs.Prelude.{◌≡◌, ℕ, Bool, true, false, length, Some, slice_get}
 use Rattle.gq_model.specs.declared.phase.Phase.{Phase}
 use Rattle.gq_model.specs.declared.phase.Phase.TheVariants.{Pending, Running, Blocked, Serving, Handling, Exited}
+use Rattle.gq_model.specs.machine.Routes.{server_of}
 use Rattle.gq_model.specs.machine.Scenario.{Component, Scenario, components, system}
 use Rattle.gq_model.specs.machine.Program.{body_of, section_in}
 use Rattle.gq_model.specs.machine.World.{Leaf, section_of}
@@ -33,10 +34,10 @@ pub record AreChoices (s : Scenario) (c : Choices) : Type 0 where
   pub racy_are : c.racy.items ≡ racy_servers (system s)
   pub count : length c.asks.items ≡ length (components s)
   pub each : (x : ℕ) (component : Component) (asks : _) → slice_get (components s) x ≡ Some component → slice_get c.asks.items x ≡ Some asks
-      → AreOfSections (components s) component component.node.program.sections asks.items
+      → AreOfSections (server_of (system s) component) component.node.program.sections asks.items
 
 -- this is what comes next for a leaf
 pub record IsNext (s : Scenario) (c : Component) (l : Leaf) (a : Asks) : Type 0 where
   pub core : Core
   pub stands : StandsAt c l core
-  pub is : a ≡ asks_of (components s) c (ahead_in (body_of (section_in (section_of l.current) c.node.program.sections)) core.position)
+  pub is : a ≡ asks_of (server_of (system s) c) (ahead_in (body_of (section_in (section_of l.current) c.node.program.sections)) core.position)

@@ -2,6 +2,7 @@
 use Rattle.std.specs.Prelude.{◌≡◌, ◌<◌, ◌++◌, ℕ, zero, suc, All, List, [], ◌∷◌, map, get_or, length, slice_get, slice_set}
 use Rattle.gq_model.specs.machine.Doing.{Event}
 use Rattle.gq_model.specs.machine.Scenario.{Scenario, System, components, system}
+use Rattle.gq_laws.specs.Ready.{IsReady}
 use Rattle.gq_outcomes.specs.Outcomes.{Going, Point, after_turn, first_point, line_by}
 use Rattle.gq_outcomes.specs.declared.walk.Walk.{Walk}
 use Rattle.gq_outcomes.specs.internal.Choosing.{AreChoices}
@@ -23,6 +24,7 @@ said_of w = map (λ v. v.items) w.said.items
 -- it is a walk of this scenario
 pub record IsWalk (s : Scenario) (w : Walk) : Type 0 where
   pub scenario : w.world.scenario ≡ s
+  pub ready : IsReady s
   pub choices : AreChoices s w.choices
   pub count : length w.said.items ≡ length (components s)
   pub turns : All (λ x. x < length (components s)) w.past.items

@@ -11,7 +11,7 @@ asked_at-asked_inside-requires t c =
     let here = size_here items l.number s c.loop-number-test.true c.index-statements-number.is in
     let wide = width_here items l.number s c.loop-number-test.true c.index-statements-number.is in
     let within = l.invariant.wide in
-    let small = c.requires.small in
+    let small = c.requires in
     let test = c.if-left-width.true in
     let is = c.width_of-width.ensures in
-    (omega (arith, c.decreases, here), (c.requires.few, (omega (arith, test, is), omega (arith, wide, within, small))))
+    (omega (arith, c.decreases, here), (omega (arith, test, is), omega (arith, wide, within, small)))

@@ -1,10 +1,11 @@
 use Rattle.std.proofs.Common.{◌≡◌, ◌+◌, ◌∙◌, suc, ap, arith}
+use Rattle.gq_model.specs.machine.Scenario.{components}
 use Rattle.gq_outcomes.specs.internal.Racy.{leading, with_users}
 use Rattle.gq_outcomes.proofs.racy.leading.Goals as goal
 
 pub loop-round-preserved : goal.loop-round-preserved
 loop-round-preserved c =
-    let cs = c.args.components.now in
+    let cs = components c.args.table.now in
     let marked = c.args.marked.now in
     let n = c.loop-round._round in
     let on : suc n ≡ n + 1 = omega arith in

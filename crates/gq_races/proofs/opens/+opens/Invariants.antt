@@ -3,6 +3,7 @@ use Rattle.gq_model.specs.machine.Program.{size}
 use Rattle.gq_program.specs.Statement_trees.{tree_of}
 use Rattle.gq_races.specs.Races.{found_in}
 use Rattle.gq_races.specs.internal.Openers.{opens_among}
+use Rattle.gq_races.specs.internal.Table_leaves.{served_by}
 use Rattle.gq_races.specs.internal.Kind_lines.{opened_line}
 use Rattle.gq_views.specs.Listing.{joined}
 use Rattle.gq_races.proofs.opens.+opens.Given as goal
@@ -18,8 +19,8 @@ abbrev pub invariant-push_opens-loop-statement : goal.invariant-push_opens-loop-
 invariant-push_opens-loop-statement l =
     record {
       lines :
-          l.text.items ++ joined (map (opened_line l.prefix) (found_in (opens_among l.components l.component l.leaf) l.number (tree_of (drop
+          l.text.items ++ joined (map (opened_line l.prefix) (found_in (opens_among (served_by l.client) l.leaf) l.number (tree_of (drop
           l.statement-index l.statement-items))))
-          ≡ l.fn.text.items ++ joined (map (opened_line l.prefix) (found_in (opens_among l.components l.component l.leaf) l.first (tree_of l.statement-items)));
+          ≡ l.fn.text.items ++ joined (map (opened_line l.prefix) (found_in (opens_among (served_by l.client) l.leaf) l.first (tree_of l.statement-items)));
       numbers : l.number + size (tree_of (drop l.statement-index l.statement-items)) ≡ l.first + size (tree_of l.statement-items);
     }

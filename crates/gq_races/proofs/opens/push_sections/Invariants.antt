@@ -5,6 +5,7 @@ use Rattle.gq_model.specs.texts.Code.{greatest_statements}
 use Rattle.gq_races.specs.Races.{stated_in}
 use Rattle.gq_races.specs.Race_text.{opened_text}
 use Rattle.gq_races.specs.internal.Openers.{opens_among}
+use Rattle.gq_races.specs.internal.Table_leaves.{served_by}
 use Rattle.gq_views.specs.Listing.{joined}
 use Rattle.gq_races.proofs.opens.push_sections.Given as goal
 
@@ -12,8 +13,8 @@ use Rattle.gq_races.proofs.opens.push_sections.Given as goal
 abbrev pub invariant-loop-section : goal.invariant-loop-section
 invariant-loop-section l = record {
   lines :
-      l.text.items ++ joined (map opened_text (stated_in (λ section. opens_among l.components l.component l.leaf) l.component.label (drop l.section-index
+      l.text.items ++ joined (map opened_text (stated_in (λ section. opens_among (served_by l.client) l.leaf) l.client.component.label (drop l.section-index
       l.sections)))
-      ≡ l.fn.text.items ++ joined (map opened_text (stated_in (λ section. opens_among l.components l.component l.leaf) l.component.label l.sections));
+      ≡ l.fn.text.items ++ joined (map opened_text (stated_in (λ section. opens_among (served_by l.client) l.leaf) l.client.component.label l.sections));
   few : sum_by (λ p. size p.1) (drop l.section-index l.sections) ≤ greatest_statements;
 }

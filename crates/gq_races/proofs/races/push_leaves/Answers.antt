@@ -1,24 +1,34 @@
-use Rattle.std.proofs.Common.{◌∙◌, ◌++◌, ap, false, get_or, refl}
-use Rattle.gq_model.specs.machine.Scenario.{system}
+use Rattle.std.proofs.Common.{◌∙◌, ◌++◌, ap, arith, false, get_or, refl}
+use Rattle.std.proofs.lemmas.List.{length-map}
+use Rattle.gq_model.specs.machine.Scenario.{components, system}
 use Rattle.gq_races.specs.Races.{stated_of}
 use Rattle.gq_races.specs.Race_text.{has_effect, heading, sharing_lines}
-use Rattle.gq_races.specs.internal.Openers.{opened_among}
+use Rattle.gq_races.specs.internal.Openers.{opened_among, opened_from}
 use Rattle.gq_views.specs.Listing.{joined}
+use Rattle.gq_races.specs.internal.Table_leaves.{leaf_of}
+use Rattle.gq_races.proofs.Table_leaf_servers.{leaf_there}
 use Rattle.gq_races.proofs.Shared_leaf_servers.{shared_test}
 use Rattle.gq_races.proofs.Race_leaf_lines.{leaf_put, lines_are}
 use Rattle.gq_races.proofs.races.push_leaves.Goals as goal
 
-pub loop-place-preserved : goal.loop-place-preserved
-loop-place-preserved c s same =
-    let l = c.loop-place in
-    let all = c.args.components.now in
-    let leaf = c.index-components-place.result in
-    let within = c.loop-place-test.true in
-    let is = c.index-components-place.is in
-    let shared = get_or c.args.shared.now l.place false in
-    let is_shared = shared_test s all same c.args.shared.now c.requires.shared l.place within false shared refl in
-    leaf_put (system s) all l.place leaf within is l.text.items c.push_component.new.text.items _
-    (c.in_ok-push_component.ensures
-    ∙ ap (λ b. l.text.items ++ joined b) (ap (λ x. heading (sharing_lines shared leaf (opened_among all x all)) (stated_of has_effect shared leaf))
-    c.new-leaf.ensures ∙ lines_are s all same l.place leaf shared is_shared))
-    (l.invariant s same)
+pub bounds-shared-number : goal.bounds-shared-number
+bounds-shared-number c =
+    let all = components c.args.table.now in
+    let count = c.requires.shared.0 ∙ length-map all (opened_from all) in
+    omega (arith, count, c.leaf_count-number-end.ensures.count, c.loop-number-test.true)
+
+pub loop-number-preserved : goal.loop-number-preserved
+loop-number-preserved c =
+    let l = c.loop-number in
+    let s = c.args.table.now in
+    let all = components s in
+    let leaf = leaf_of s l.number in
+    let at = leaf_there s leaf l.number l.number _ refl refl c.leaf_count-number-end.ensures.count c.loop-number-test.true in
+    let shared = get_or c.args.shared.now l.number false in
+    let is_shared = shared_test s c.args.shared.now c.requires.shared l.number at.within false shared refl in
+    leaf_put (system s) all l.number leaf.component at.within at.is l.text.items c.push_leaf.new.text.items _
+    (c.in_ok-push_leaf.ensures
+    ∙ ap (λ n. l.text.items ++ joined (heading (sharing_lines shared (leaf_of s n).component (opened_among all n all))
+    (stated_of has_effect shared (leaf_of s n).component))) c.new-leaf.ensures
+    ∙ ap (λ b. l.text.items ++ joined b) (lines_are s l.number leaf.component shared is_shared))
+    l.invariant

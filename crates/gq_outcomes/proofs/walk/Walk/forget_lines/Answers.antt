@@ -16,6 +16,7 @@ loop-place-preserved c =
     record {
       walk = record {
         scenario = l.invariant.walk.scenario;
+        ready = l.invariant.walk.ready;
         choices = l.invariant.walk.choices;
         count = count ∙ l.invariant.walk.count;
         turns = l.invariant.walk.turns;

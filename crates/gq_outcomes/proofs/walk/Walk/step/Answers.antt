@@ -40,6 +40,7 @@ returns-in-Idle c =
     record {
       walk = record {
         scenario = c.step.ensures.scenario;
+        ready = c.requires.walk.ready;
         choices = c.requires.walk.choices;
         count = c.requires.walk.count;
         turns = c.requires.walk.turns;
