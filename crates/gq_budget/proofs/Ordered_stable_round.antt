@@ -5,7 +5,7 @@ use Rattle.std.proofs.lemmas.List.{get_or_past}
 use Rattle.std.proofs.lemmas.Bool.{cases_lt}
 use Rattle.gq_model.specs.machine.Sections.{same_section}
 use Rattle.gq_model.specs.declared.section.Section.{Section}
-use Rattle.gq_model.specs.declared.section.Section.TheVariants.{Main, Opening, Upgrading, Calling, Closing}
+use Rattle.gq_model.specs.declared.section.Section.TheVariants.{Main, Opening, Upgrading, Calling, Closing, Reacting}
 use Rattle.gq_verify.specs.declared.asked.Asker.{Asker}
 use Rattle.gq_verify.specs.Saturated_numbers.{saturated}
 use Rattle.gq_budget.specs.internal.Run_rounds.{Asks, runs, asked_sum, often, leaf_round, round, rounds}
@@ -30,6 +30,7 @@ same_often Opening askers a b h = ap saturated (same_sum Opening askers a b h)
 same_often (Upgrading l) askers a b h = ap saturated (same_sum (Upgrading l) askers a b h)
 same_often (Calling l) askers a b h = ap saturated (same_sum (Calling l) askers a b h)
 same_often (Closing l) askers a b h = ap saturated (same_sum (Closing l) askers a b h)
+same_often (Reacting i) askers a b h = refl
 
 -- ROUNDS
 

@@ -5,7 +5,7 @@ use Rattle.std.specs.Prelude.{if◌then◌else◌, slice_get}
 use Rattle.std.proofs.lemmas.Bool.{true≢false}
 use Rattle.gq_model.specs.machine.Program.{Statements}
 use Rattle.gq_model.specs.declared.section.Section.{Section}
-use Rattle.gq_model.specs.declared.section.Section.TheVariants.{Main, Opening, Upgrading, Calling, Closing}
+use Rattle.gq_model.specs.declared.section.Section.TheVariants.{Main, Opening, Upgrading, Calling, Closing, Reacting}
 use Rattle.gq_model.specs.machine.Scenario.{System, Component}
 use Rattle.gq_model.specs.machine.Routes.{server_of}
 use Rattle.gq_model.specs.rules.Budgets.{section_cost}
@@ -100,6 +100,7 @@ leaves_kept f system x service section y (c ∷ rest) (n ∷ ns) (b ∷ row) tab
 -- how often a section runs in the round after the n-th, where the leaf provides this service
 abbrev next_times : ℕ → System → ℕ → Option (List ℕ) → Section → ℕ
 next_times n system x provides Main = 1
+next_times n system x provides (Reacting i) = 0
 next_times n system x provides section = asked_of (times n system) system x section provides
 
 module _ (system : System) (ns : List Counted) (counts : AreCountsOf ns (leaves_of system)) where
@@ -128,6 +129,7 @@ module _ (system : System) (ns : List Counted) (counts : AreCountsOf ns (leaves_
   next_often n x provides (Upgrading l) row agree = next_asked n x provides (Upgrading l) row agree
   next_often n x provides (Calling l) row agree = next_asked n x provides (Calling l) row agree
   next_often n x provides (Closing l) row agree = next_asked n x provides (Closing l) row agree
+  next_often n x provides (Reacting i) row agree = refl
 
   next_is : (n x : ℕ) (section : Section) → times (suc n) system x section ≡ next_times n system x (provided_by (slice_get system.components x)) section
   next_is n x Main = refl
@@ -135,6 +137,7 @@ module _ (system : System) (ns : List Counted) (counts : AreCountsOf ns (leaves_
   next_is n x (Upgrading l) = refl
   next_is n x (Calling l) = refl
   next_is n x (Closing l) = refl
+  next_is n x (Reacting i) = refl
 
   next_kept : (n : ℕ) → IsKept (now_table n) (times (suc n) system)
   next_kept n x provides section row e agree =
@@ -148,6 +151,7 @@ module _ (system : System) (ns : List Counted) (counts : AreCountsOf ns (leaves_
   first_kept x provides (Upgrading l) row e agree = ap saturated (never (Upgrading l) (askers_for ns row provides))
   first_kept x provides (Calling l) row e agree = ap saturated (never (Calling l) (askers_for ns row provides))
   first_kept x provides (Closing l) row e agree = ap saturated (never (Closing l) (askers_for ns row provides))
+  first_kept x provides (Reacting i) row e agree = refl
 
   leaf_kept : (table : List (List ℕ)) (f : ℕ → Section → ℕ) (x : ℕ) (provides : Option (List ℕ)) (row : List Bool) (ps : List (Section × Statements)) →
       IsKept table f → provided_by (slice_get system.components x) ≡ provides → Agree provides ns row (leads_for system x provides system.components) →

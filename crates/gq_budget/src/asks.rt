@@ -63,6 +63,7 @@ fn often(section: Section, askers: &[Asker], table: &[Numbers]) -> u64
 {
     match section {
         Section::Main => 1,
+        Section::Reacting(_) => 0,
         _ => asked(section, askers, table),
     }
 }

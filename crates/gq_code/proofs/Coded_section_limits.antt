@@ -150,25 +150,21 @@ sections_stop (Fault fault) made order i bits k left all h b inv e =
 abbrev pub program : List ℕ → Sections → Program
 program limits sections = record { sections = sections; locals = limits }
 
-few : (n : ℕ) → n < 8192 → nat_lt n 8192 ≡ true
-few n h = lt-ltb n 8192 h
-
 -- what stands before the sections is read
 pub decoded_sections : (bytes first second third limits : List ℕ) (bits present : ℕ) → number_at 1 Truncated bytes ≡ Ok (bits, first) →
-    limits_at 8 bits first ≡ Ok (limits, second) → number_at 2 Truncated second ≡ Ok (present, third) → present < 8192 →
+    limits_at 8 bits first ≡ Ok (limits, second) → number_at 2 Truncated second ≡ Ok (present, third) →
     decoded bytes ≡ decoded_then (sections_at all_sections present 0 third) (λ sections. Ok (program limits sections))
-decoded_sections bytes first second third limits bits present a b c h =
-    then_along _ a ∙ (then_along _ b ∙ (then_along _ c ∙ then_along _ (ap (λ t. checked t BadOperand (present, third)) (few present h))))
+decoded_sections bytes first second third limits bits present a b c = then_along _ a ∙ (then_along _ b ∙ then_along _ c)
 
 pub decoded_ok : (bytes first second third limits : List ℕ) (bits present : ℕ) (sections : Sections) → number_at 1 Truncated bytes ≡ Ok (bits, first) →
-    limits_at 8 bits first ≡ Ok (limits, second) → number_at 2 Truncated second ≡ Ok (present, third) → present < 8192 →
+    limits_at 8 bits first ≡ Ok (limits, second) → number_at 2 Truncated second ≡ Ok (present, third) →
     sections_at all_sections present 0 third ≡ Ok sections → decoded bytes ≡ Ok (program limits sections)
-decoded_ok bytes first second third limits bits present sections a b c h e =
-    decoded_sections bytes first second third limits bits present a b c h ∙ then_along _ e
+decoded_ok bytes first second third limits bits present sections a b c e =
+    decoded_sections bytes first second third limits bits present a b c ∙ then_along _ e
 
 pub decoded_err : (bytes first second third limits : List ℕ) (bits present : ℕ) (error : DecodeError) → number_at 1 Truncated bytes ≡ Ok (bits, first) →
-    limits_at 8 bits first ≡ Ok (limits, second) → number_at 2 Truncated second ≡ Ok (present, third) → present < 8192 →
+    limits_at 8 bits first ≡ Ok (limits, second) → number_at 2 Truncated second ≡ Ok (present, third) →
     Fails error (sections_at all_sections present 0 third) → IsDecoded (Err error) (decoded bytes)
-decoded_err bytes first second third limits bits present (Memory error) a b c h e = tt
-decoded_err bytes first second third limits bits present (Fault fault) a b c h e =
-    decoded_sections bytes first second third limits bits present a b c h ∙ then_along _ e
+decoded_err bytes first second third limits bits present (Memory error) a b c e = tt
+decoded_err bytes first second third limits bits present (Fault fault) a b c e =
+    decoded_sections bytes first second third limits bits present a b c ∙ then_along _ e

@@ -61,7 +61,7 @@ code_read p rest h =
     let head : number_at 1 Truncated (b ∷ first) ≡ Ok (b, first) = ap (λ n. Ok (n, first)) {x = b + 256 * 0} {y = b} (omega arith) in
     ap decoded (parts_code b limits (spelled 2 bits) (sections_code p.sections) rest)
     ∙ (decoded_sections (b ∷
-    first) first second third p.locals b bits head eight (number_at-spelled_2 Truncated bits third (omega (arith, below))) (omega (arith, below))
+    first) first second third p.locals b bits head eight (number_at-spelled_2 Truncated bits third (omega (arith, below)))
     ∙ (ap (λ x. decoded_then x (λ sections.
     Ok (program p.locals sections))) (sections_back all_sections 0 bits 0 p.sections rest all_in_order refl h.sections (omega arith) (let few =
     h.few in omega (arith, few)))

@@ -31,8 +31,8 @@ sections_have n (p ∷ rest) h =
 twice : (k : ℕ) → 2 ^ (1 + k) ≡ 2 * 2 ^ k
 twice k = ap (λ n. 2 ^ n) {x = 1 + k} {y = suc k} (omega arith) ∙ pow-succ' 2 k
 
--- their bits are below the 13th
-pub bits_below : (n : ℕ) (sections : Sections) → n ≤ 13 → IsTrue (are_sections n sections) → section_bits sections + 2 ^ n ≤ 8192
+-- their bits are below the 16th
+pub bits_below : (n : ℕ) (sections : Sections) → n ≤ 16 → IsTrue (are_sections n sections) → section_bits sections + 2 ^ n ≤ 65536
 bits_below n [] less h = let e = pow_mono less in omega (arith, e)
 bits_below n (p ∷ rest) less h =
     let f = first_of n p rest h in

@@ -86,7 +86,7 @@ read_first s order bits half k m bytes rest body after e f g =
     section_given (bits % 2 == 1) s order bits k bytes (eq-eqb (bits % 2) 1 (omega (arith, e)))
     ∙ (then_along _ f ∙ ap (after_sections ((s, body) ∷ [])) (ap (λ h. sections_at order h m rest) {x = bits / 2} {y = half} (omega (arith, e)) ∙ g))
 
-pub sections_back : (order : List Section) (j bits k : ℕ) (sections : Sections) (rest : List ℕ) → InOrder j order → j + length order ≡ 13 →
+pub sections_back : (order : List Section) (j bits k : ℕ) (sections : Sections) (rest : List ℕ) → InOrder j order → j + length order ≡ 16 →
     are_sections j sections ≡ true → 2 ^ j * bits ≡ section_bits sections → k + sum_by (λ s. size s.1) sections ≤ greatest_statements →
     sections_at order bits k (sections_code sections ++ rest) ≡ ended rest sections
 sections_back [] j bits k [] [] o end h b few = refl

@@ -377,9 +377,6 @@ pub fn decode(alloc: Global, bytes: &[u8]) -> Result<Program, DecodeError>
     let (bits, rest) = number(bytes, 1, CodeFault::Truncated)?;
     let (limits, rest) = limits(bits, rest)?;
     let (present, rest) = number(rest, 2, CodeFault::Truncated)?;
-    if present >= 1 << Section::ALL.len() {
-        return Err(DecodeError::Fault(CodeFault::BadOperand));
-    }
     let sections = sections(alloc, &Section::ALL, present, rest)?;
     Ok(Program::from_parts(sections, limits))
 }

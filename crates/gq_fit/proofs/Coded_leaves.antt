@@ -1,5 +1,5 @@
 -- Leaves whose programs are code, in a list.
-use Rattle.std.proofs.Common.{◌≡◌, ◌≤◌, ◌∙◌, ◌∷◌, [], ◌&&◌, ◌||◌, Bool, true, ℕ, List, arith, length, ap, refl, sym}
+use Rattle.std.proofs.Common.{◌≡◌, ◌≤◌, ◌∙◌, ◌∷◌, [], ◌&&◌, ◌||◌, Bool, true, ℕ, List, arith, length, ap, sym}
 use Rattle.std.specs.Prelude.{get_or}
 use Rattle.gq_model.proofs.Small_facts.{text_self}
 use Rattle.gq_model.specs.machine.Lists.{any_of}

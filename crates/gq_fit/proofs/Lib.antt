@@ -7,3 +7,4 @@ mod Programs_compared
 mod Same_texts
 mod Coded_leaves
 mod Place_rows
+mod Due_quantities

@@ -1,5 +1,5 @@
 -- What was read again, and why a text is refused.
-use Rattle.std.proofs.Common.{◌≡◌, ◌≢◌, ◌∙◌, Bool, true, false, List, ℕ, Option, Some, None, Result, Ok, Err, [], ap, refl, subst, sym}
+use Rattle.std.proofs.Common.{◌≡◌, ◌≢◌, ◌∙◌, Bool, true, false, List, ℕ, Option, Some, None, Result, Ok, Err, [], ap, ap₂, refl, subst, sym}
 use Rattle.std.specs.Prelude.{IfSome, IsOkAnd}
 use Rattle.gq_model.specs.machine.Scenario.{Scenario}
 use Rattle.gq_scenario.specs.Top_table.{scenario_in}
@@ -20,7 +20,10 @@ use Rattle.gq_fit.specs.declared.fit_fault.FitFault.{FitFault}
 use Rattle.gq_fit.specs.declared.fit_fault.FitFault.TheVariants as faults
 use Rattle.gq_fit.specs.declared.fit_fault.MakeError.{MakeError}
 use Rattle.gq_fit.specs.declared.fit_fault.MakeError.TheVariants as errors
-use Rattle.gq_fit.specs.internal.Making.{IsCodeFault, IsEndlessFault, IsShort, IsRefusedBy}
+use Rattle.gq_fit.specs.Reasons.{IsDue, quantities_by}
+use Rattle.gq_fit.specs.internal.Making.{IsCodeFault, IsDueError, IsEndlessFault, IsShort, IsRefusedBy}
+use Rattle.gq_sizes.specs.Least_numbers.{interfaces_least, nodes_least}
+use Rattle.gq_sizes.specs.declared.quantity_lines.Least.{Least}
 
 abbrev IsErr : {A B : Type 0} → Result A B → Type 0
 IsErr (Ok a) = ⊥
@@ -74,10 +77,13 @@ module _ (text : List ℕ) (s : Scenario) (read : scenario_in text ≡ Ok s) whe
     short_reason faults.Memory shorts e h = tt {0}
     short_reason faults.Write shorts e h = absurd h
 
-    pub made_reason : (e : MakeError) → NoneShort s → (IsOwnFit text s → ⊥) → IsReason (made_fault_of e) text
-    made_reason errors.Memory h other = tt {0}
-    made_reason (errors.Misfit reason) h other =
-        subst (λ r. IsOkAnd r (HasReason (reasons.Misfit reason) text)) (sym judged) (record { none_short = h; why = other })
+    pub made_reason : (interfaces : List (List Least)) (nodes : List Least) → interfaces ≡ interfaces_least s → nodes ≡ nodes_least s → (e : MakeError)
+        → NoneShort s → (IsOwnFit text s → ⊥) → IsDueError e (quantities_by s interfaces nodes) → IsReason (made_fault_of e) text
+    made_reason interfaces nodes f g errors.Memory h other due = tt {0}
+    made_reason interfaces nodes f g (errors.Misfit reason) h other due =
+        let due_here = subst (IsDue reason) (ap₂ (quantities_by s) f g) due in
+        subst (λ r. IsOkAnd r (HasReason (reasons.Misfit reason) text)) (sym judged)
+        (record { none_short = h; why = record { other = other; due = due_here } })
 
     whole_reason : (reason : NoFit) → IsNoFitWhole reason text s → IsReasonWhole (faults.NoFit reason) text
     whole_reason reason h = subst (λ r. IsOkAnd r (IsNoFitWhole reason text)) (sym judged) h

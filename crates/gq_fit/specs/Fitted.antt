@@ -17,6 +17,8 @@ use Rattle.gq_sizes.specs.Judged_scenario.{judged_without}
 use Rattle.gq_sizes.specs.Least.{IsSized, NoneShort, shorts_of, sized}
 use Rattle.gq_fit.specs.Refitted.{IsRefitted}
 use Rattle.gq_fit.specs.Value_edits.{DiffersInValues}
+use Rattle.gq_fit.specs.Reasons.{IsDue, quantities}
+use Rattle.gq_fit.specs.declared.fit_fault.Misfit.{Misfit}
 use Rattle.gq_fit.specs.declared.fit_fault.NoFit.{NoFit}
 use Rattle.gq_fit.specs.declared.fit_fault.NoFit.TheVariants as reasons
 use Rattle.gq_fit.specs.declared.fit_fault.MakeError.{MakeError}
@@ -73,9 +75,14 @@ is_coded name c = is_code c.node.source && text_eq name c.node.name
 abbrev pub HasCode : List ℕ → Scenario → Type 0
 HasCode name s = any_of (is_coded name) (components s) ≡ true
 
--- of a scenario whose donations stay there is no reason but that its quantities can't stand in its text, which does not fit as it is
+-- the least quantities of a scenario can't stand in its text: it does not fit as it is, and the reason is due to one of these quantities, if it is due to any
+pub record IsMisfit (reason : Misfit) (text : List ℕ) (s : Scenario) : Type 0 where
+  pub other : IsOwnFit text s → ⊥
+  pub due : IsDue reason (quantities s s)
+
+-- of a scenario whose donations stay there is no other reason
 abbrev pub IsNoFit : NoFit → List ℕ → Scenario → Type 0
-IsNoFit (reasons.Misfit reason) text s = IsOwnFit text s → ⊥
+IsNoFit (reasons.Misfit reason) text s = IsMisfit reason text s
 IsNoFit _ text s = ⊥
 
 -- with its donations also that a leaf's program is code, or that sessions hold one another without end

@@ -4,3 +4,4 @@ pub mod Value_edits
 pub mod Fit_words
 pub mod Places
 pub mod Refitted
+pub mod Reasons

@@ -1,5 +1,5 @@
 -- Scenarios that differ in quantities and in what their statements give alone.
-use Rattle.std.specs.Prelude.{◌≡◌, ℕ, List, [], ◌∷◌, map}
+use Rattle.std.specs.Prelude.{◌≡◌, ℕ, List, [], map}
 use Rattle.gq_model.specs.declared.program.Instruction.{Instruction}
 use Rattle.gq_model.specs.declared.program.Instruction.TheVariants.{Open, Upgrade}
 use Rattle.gq_model.specs.declared.section.Section.{Section}

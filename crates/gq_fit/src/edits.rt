@@ -1,6 +1,7 @@
 // Texts that differ in the values of quantities alone, or in what statements give as well.
-ghost use Rattle.std.specs.Prelude.{◌≡◌, ◌&&◌, IfOk, OnOk};
+ghost use Rattle.std.specs.Prelude.{◌≡◌, ◌&&◌, [], IfErr, IfOk, OnOk};
 ghost use Rattle.gq_fit.specs.Places.{lexer_in};
+ghost use Rattle.gq_fit.specs.internal.Making.{IsDueError};
 ghost use Rattle.gq_fit.specs.Value_edits.{DiffersInValues, EndsAs, is_list, is_spelled, is_spelled_byte, is_value, is_value_byte};
 ghost use Rattle.gq_model.specs.machine.Lists.{all_of};
 
@@ -93,7 +94,8 @@ fn push_edited(
     offset: usize,
     edits: &[Edit],
 ) -> Result<(), MakeError>
-    ensures { OnOk result (EndsAs with_gifts (lexer_in lexer.old.mode lexer.old.line.items) rest.now made.old.items made.new.items) }
+    ensures ends { OnOk result (EndsAs with_gifts (lexer_in lexer.old.mode lexer.old.line.items) rest.now made.old.items made.new.items) }
+    ensures due { IfErr result (λ e. IsDueError e []) }
 {
     let [edit, others @ ..] = edits else {
         made.extend_from_slice(rest)?;
@@ -125,7 +127,8 @@ pub(crate) fn edited(
     text: &[u8],
     edits: &[Edit],
 ) -> Result<Vec<u8>, MakeError>
-    ensures { IfOk result (λ made. DiffersInValues with_gifts text.now made.items) }
+    ensures layout { IfOk result (λ made. DiffersInValues with_gifts text.now made.items) }
+    ensures due { IfErr result (λ e. IsDueError e []) }
 {
     let mut made = Vec::new(alloc);
     let mut lexer = Lexer::new(alloc);

@@ -43,7 +43,7 @@ fn giving_edits(
     program_edits(alloc, utf8, scenario, donations.leaves.as_slice())
 }
 
-/// The least quantities of a scenario, and what its programs are to give, which they do.
+/// What is found once the programs of a text give what sessions need: the least quantities of its scenario, and what its statements are to give.
 #[derive(Drop)]
 struct Pass {
     leasts: Leasts,

@@ -6,7 +6,9 @@ ghost use Rattle.gq_sizes.specs.Judged_scenario.{fault_without, judged_without};
 ghost use Rattle.gq_sizes.specs.Least.{IsSized, NoneShort, sized};
 ghost use Rattle.gq_fit.specs.Fitted.{IsBefore, IsFitted, IsOwnFit, IsReason};
 ghost use Rattle.gq_fit.specs.Value_edits.{DiffersInValues};
-ghost use Rattle.gq_fit.specs.internal.Making.{IsRefusedBy, IsShort};
+ghost use Rattle.gq_fit.specs.internal.Making.{IsDueError, IsRefusedBy, IsShort};
+ghost use Rattle.gq_fit.specs.Reasons.{quantities_by};
+ghost use Rattle.gq_sizes.specs.Least_numbers.{interfaces_least, nodes_least};
 
 use crate::edits::{Edit, edited};
 use crate::fit_fault::{FitFault, MakeError, Misfit};
@@ -23,6 +25,7 @@ use std::alloc::{AllocError, Global};
 /// The scenario of a text that was made.
 pub(crate) fn read_again(alloc: Global, text: &[u8]) -> Result<Scenario, MakeError>
     ensures read { IfOk result (λ s. scenario_in text.now ≡ Ok s) }
+    ensures due { IfErr result (λ e. IsDueError e []) }
 {
     match read_scenario(alloc, text) {
         Ok(scenario) => Ok(scenario),
@@ -34,7 +37,9 @@ pub(crate) fn read_again(alloc: Global, text: &[u8]) -> Result<Scenario, MakeErr
 }
 
 /// What was made is refused.
-pub(crate) fn refused(error: LoadError) -> MakeError {
+pub(crate) fn refused(error: LoadError) -> MakeError
+    ensures { IsDueError result [] }
+{
     match error {
         LoadError::Memory => MakeError::Memory,
         LoadError::Fault(fault) => MakeError::Misfit(Misfit::Refused(fault)),
@@ -48,6 +53,7 @@ pub(crate) fn check_sized(
     scenario: &Scenario,
 ) -> Result<(), MakeError>
     ensures sized { OnOk result (made.now ≡ sized scenario.now) }
+    ensures due { IfErr result (λ e. IsDueError e []) }
 {
     match is_sized(alloc, made, scenario) {
         Ok(true) => Ok(()),
@@ -59,6 +65,7 @@ pub(crate) fn check_sized(
 /// The scenario of a text that was made, which is accepted.
 pub(crate) fn loaded_again(alloc: Global, text: &[u8]) -> Result<Scenario, MakeError>
     ensures loaded { IfOk result (λ s. loaded text.now ≡ Ok s) }
+    ensures due { IfErr result (λ e. IsDueError e []) }
 {
     let made = read_again(alloc, text)?;
     match scenario_lines(alloc, &made) {
@@ -71,6 +78,7 @@ pub(crate) fn loaded_again(alloc: Global, text: &[u8]) -> Result<Scenario, MakeE
 fn check_made(alloc: Global, text: &[u8], scenario: &Scenario) -> Result<(), MakeError>
     ensures loaded { OnOk result (loaded text.now ≡ Ok (sized scenario.now)) }
     ensures least { OnOk result (sized (sized scenario.now) ≡ sized scenario.now) }
+    ensures due { IfErr result (λ e. IsDueError e []) }
 {
     let made = loaded_again(alloc, text)?;
     check_sized(alloc, &made, scenario)?;
@@ -85,6 +93,7 @@ pub(crate) fn edited_in_order(
     mut edits: Vec<Edit>,
 ) -> Result<Vec<u8>, MakeError>
     ensures layout { IfOk result (λ made. DiffersInValues with_gifts text.now made.items) }
+    ensures due { IfErr result (λ e. IsDueError e []) }
 {
     edits.sort_by_key(|edit| edit.at)?;
     edited(alloc, with_gifts, text, edits.as_slice())
@@ -98,6 +107,7 @@ fn made_text(
     leasts: &Leasts,
 ) -> Result<Vec<u8>, MakeError>
     ensures layout { IfOk result (λ made. DiffersInValues false text.now made.items) }
+    ensures due { IfErr result (λ e. IsDueError e (quantities_by scenario.now leasts.now.interfaces.items leasts.now.nodes.items)) }
 {
     let Ok(utf8) = str::from_utf8(text) else {
         return Err(MakeError::Misfit(Misfit::Differs));
@@ -128,6 +138,7 @@ fn fitted_by(
     ensures fits { IfOk result (λ made. loaded made.items ≡ Ok (sized scenario.now)) }
     ensures least { IfOk result (λ made. sized (sized scenario.now) ≡ sized scenario.now) }
     ensures layout { IfOk result (λ made. DiffersInValues false text.now made.items) }
+    ensures due { IfErr result (λ e. IsDueError e (quantities_by scenario.now leasts.now.interfaces.items leasts.now.nodes.items)) }
 {
     let made = made_text(alloc, text, scenario, leasts)?;
     check_made(alloc, made.as_slice(), scenario)?;
@@ -188,6 +199,8 @@ fn fitted_least(
     requires read { scenario_in text.now ≡ Ok scenario.now }
     requires faultless { fault_without scenario.now ≡ None }
     requires none_short { NoneShort scenario.now }
+    requires interfaces { leasts.now.interfaces.items ≡ interfaces_least scenario.now }
+    requires nodes { leasts.now.nodes.items ≡ nodes_least scenario.now }
     ensures fitted { IfOk result (λ made. IsFitted text.now made.items) }
     ensures refused { IfErr result (λ f. IsReason f text.now) }
     ensures early { IfErr result (λ f. IsBefore f) }

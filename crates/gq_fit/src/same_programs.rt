@@ -92,7 +92,7 @@ fn same_program(a: &Program, b: &Program) -> bool
     a.locals() == b.locals() && same_sections(a.sections(), b.sections())
 }
 
-/// Whether two lists of programs are the same but for what their statements give.
+/// Whether two lists of programs are the same but for what their statements give. The contract says only what `true` means.
 pub(crate) fn same_programs(a: &[Program], b: &[Program]) -> bool
     ensures { IsTrue result → map program_giving_nothing a.now ≡ map program_giving_nothing b.now }
 {

@@ -5,7 +5,7 @@ use Rattle.std.proofs.lemmas.Option.{slice_get-map}
 use Rattle.std.specs.Prelude.{option_map, nat_lt, slice_get}
 use Rattle.gq_model.specs.declared.program.Form.TheVariants.{Block, Slice, Space}
 use Rattle.gq_model.specs.declared.section.Section.{Section}
-use Rattle.gq_model.specs.declared.section.Section.TheVariants.{Main, Opening, Upgrading, Calling, Closing}
+use Rattle.gq_model.specs.declared.section.Section.TheVariants.{Main, Opening, Upgrading, Calling, Closing, Reacting}
 use Rattle.gq_model.specs.declared.phase.Phase.{Phase}
 use Rattle.gq_model.specs.declared.phase.Phase.TheVariants.{Pending, Running, Blocked, Serving, Handling, Exited}
 use Rattle.gq_model.specs.declared.fault.Wrong.TheVariants.{WrongKind, ExceededQuota, MissingSection}
@@ -206,6 +206,7 @@ module _ (group : ℕ → Bool) (f : ℕ → ℕ) (d : Doing) (v : World) (t : T
         (both_when K (paid d.system (closed d g.session s)) (paid d.system (closed e (f g.session) (renamed_session f s))) ExceededQuota ExceededQuota _ _
         (λ i. pays (closed e (f g.session) (renamed_session f s)))
         (both_give K (closed d g.session s) (closed e (f g.session) (renamed_session f s)) Quiet ended))
+    both_reply (Reacting i) = one_fails K WrongKind _
 
   -- THE END OF A SECTION
 

@@ -1,7 +1,7 @@
 -- What the proofs say of current sections, of the statements that are left, and of the steps that they cost.
 use Rattle.std.specs.Prelude.{◌≡◌, ℕ, suc, ◌<◌, ◌≤◌, ◌==◌, if◌then◌else◌, List, [], ◌∷◌, Option, Some, None, Ok, slice_get}
 use Rattle.gq_model.specs.declared.section.Section.{Section}
-use Rattle.gq_model.specs.declared.section.Section.TheVariants.{Main, Opening, Upgrading, Calling, Closing}
+use Rattle.gq_model.specs.declared.section.Section.TheVariants.{Main, Opening, Upgrading, Calling, Closing, Reacting}
 use Rattle.gq_model.specs.machine.Program.{Statements}
 use Rattle.gq_model.specs.machine.Lists.{or_first}
 use Rattle.gq_model.specs.machine.Scenario.{System, Component}
@@ -38,6 +38,7 @@ kind_replied Opening s = Link_kind s.service 0 s.donation
 kind_replied (Upgrading l) s = Link_kind s.service l s.donation
 kind_replied (Calling l) s = Link_kind s.service l s.donation
 kind_replied (Closing l) s = Empty_kind
+kind_replied (Reacting i) s = Empty_kind
 
 -- OPERANDS
 

@@ -1,7 +1,7 @@
 -- Where leaves and sessions stand once a section that the rules allow has ended, and its client has the reply.
 use Rattle.std.specs.Prelude.{◌≡◌, ◌≢◌, ◌≤◌, ℕ, ◌==◌, if◌then◌else◌, List, ◌∷◌, Option, Some, None, Ok, slice_get, slice_set}
 use Rattle.gq_model.specs.declared.section.Section.{Section}
-use Rattle.gq_model.specs.declared.section.Section.TheVariants.{Main, Opening, Upgrading, Calling, Closing}
+use Rattle.gq_model.specs.declared.section.Section.TheVariants.{Main, Opening, Upgrading, Calling, Closing, Reacting}
 use Rattle.gq_model.specs.declared.phase.Phase.TheVariants.{Blocked}
 use Rattle.gq_model.specs.machine.Scenario.{number_of}
 use Rattle.gq_model.specs.machine.World.{Slot, Empty, Waiting, Link, SlotId, In_leaf, In_session, In_object, Session, Current, Leaf, World, session_at, slot_at}
@@ -32,6 +32,7 @@ slot_replied Opening k = Link k
 slot_replied (Upgrading l) k = Link k
 slot_replied (Calling l) k = Link k
 slot_replied (Closing l) k = Empty
+slot_replied (Reacting i) k = Empty
 
 -- the session stays as it was, but a close ends it
 abbrev pub session_replied : Section → Session → Option Session
@@ -40,6 +41,7 @@ session_replied Opening s = Some s
 session_replied (Upgrading l) s = Some s
 session_replied (Calling l) s = Some s
 session_replied (Closing l) s = None
+session_replied (Reacting i) s = None
 
 -- the reply to a call, which is at most so much, is on top of the operands
 abbrev pub AreReplied : ℕ → Section → List ℕ → List ℕ → Type 0
@@ -48,6 +50,7 @@ AreReplied most Opening old new = new ≡ old
 AreReplied most (Upgrading l) old new = new ≡ old
 AreReplied most (Calling l) old new = (a : ℕ) × (a ≤ most) × (new ≡ a ∷ old)
 AreReplied most (Closing l) old new = new ≡ old
+AreReplied most (Reacting i) old new = ⊥
 
 -- the slots of the client's leaf, with this one at its slot, if it is one of them
 abbrev pub own_then : SlotId → Slot → List Slot → List Slot
@@ -104,6 +107,7 @@ once_replied most Opening state = state
 once_replied most (Upgrading l) state = state
 once_replied most (Calling l) state = record state { bounds = most ∷ state.bounds }
 once_replied most (Closing l) state = state
+once_replied most (Reacting i) state = state
 
 -- of another session no slot is of another kind
 abbrev pub KeepsBank : (ℕ → Option Kind) → ℕ → World → World → Type 0

@@ -1,7 +1,7 @@
 -- How sessions, the slots that name them, requests and the leaves' current requests agree.
 use Rattle.std.specs.Prelude.{◌≡◌, ℕ, ◌+◌, ◌==◌, ◌⊎◌, Bool, true, false, not, List, [], ◌∷◌, Option, Some, None, slice_get}
 use Rattle.gq_model.specs.declared.section.Section.{Section}
-use Rattle.gq_model.specs.declared.section.Section.TheVariants.{Main, Opening, Upgrading, Calling, Closing}
+use Rattle.gq_model.specs.declared.section.Section.TheVariants.{Main, Opening, Upgrading, Calling, Closing, Reacting}
 use Rattle.gq_model.specs.machine.Scenario.{System, Component}
 use Rattle.gq_model.specs.machine.Routes.{server_of}
 use Rattle.gq_model.specs.machine.World.{Slot, Empty, Waiting, Bytes, Pool, Link, SlotId, In_leaf, In_session, In_object, Session, Ask, Ask_open, Ask_upgrade}
@@ -132,6 +132,7 @@ IsAt Opening level = 0 ≡ level
 IsAt (Upgrading l) level = l ≡ level
 IsAt (Calling l) level = l ≡ level
 IsAt (Closing l) level = l ≡ level
+IsAt (Reacting i) level = ⊥
 
 -- what is current at a leaf is an accepted session to it, in a section of its level
 abbrev pub Handles : Links → ℕ → Current → Type 0

@@ -10,6 +10,7 @@ use Rattle.gq_model.specs.rules.Kinds.{Kind, Empty_kind, Memory, Pool_kind, Link
 use Rattle.gq_model.specs.machine.Sections.{is_own_section}
 use Rattle.gq_laws.specs.Current_section_facts.{Under}
 use Rattle.gq_laws.specs.Shapes.{Each}
+use Rattle.gq_model.specs.declared.section.Section.TheVariants.{Main}
 
 -- SLOTS
 
@@ -62,7 +63,7 @@ AreCounts (r ∷ loops) [] = ⊥
 
 -- `main` has no current request, and every other section a session of which it is a section
 abbrev pub IsCurrent : Section → Option Current → Type 0
-IsCurrent section None = is_own_section section ≡ true
+IsCurrent section None = section ≡ Main
 IsCurrent section (Some current) = (current.section ≡ section) × (is_own_section section ≡ false)
 
 -- the session's slots are of these kinds, and its object is a slice of so many bytes

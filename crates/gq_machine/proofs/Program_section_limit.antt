@@ -3,7 +3,7 @@ use Rattle.std.proofs.Common.{◌≡◌, ◌+◌, ℕ, zero, suc, true, false, �
 use Rattle.std.specs.Prelude.{nat_le}
 use Rattle.std.proofs.lemmas.Bool.{and_parts, leb-true}
 use Rattle.gq_model.specs.declared.section.Section.{Section}
-use Rattle.gq_model.specs.declared.section.Section.TheVariants.{Main, Opening, Upgrading, Calling, Closing}
+use Rattle.gq_model.specs.declared.section.Section.TheVariants.{Main, Opening, Upgrading, Calling, Closing, Reacting}
 use Rattle.gq_model.specs.machine.Lists.{all_of, between}
 use Rattle.gq_model.specs.machine.Program.{Program, Statements, section_in, size}
 use Rattle.gq_model.specs.machine.Sections.{same_section, is_section, section_number}
@@ -23,6 +23,7 @@ not_fourth (Upgrading (suc (suc (suc (suc n))))) e =
     let small = leb-true k 3 (and_parts (nat_le 1 k) (nat_le k 3) e).1 in absurd (omega (arith, small))
 not_fourth (Calling l) e = refl
 not_fourth (Closing l) e = refl
+not_fourth (Reacting i) e = refl
 
 none_fourth : (n : ℕ) (sections : List (Section × Statements)) → are_sections n sections ≡ true → is_some (section_in (Upgrading 4) sections) ≡ false
 none_fourth n [] e = refl

@@ -305,6 +305,9 @@ module _ (f : Fixed) (m : MachineState) (x y : ℕ) (current : Current) (e : IsE
   pub main_wrong : current.section ≡ section.Main → next (system s) (world_of s ls t) x ≡ Err WrongKind
   main_wrong is = next_is section.Main is
 
+  pub reacting_wrong : (i : ℕ) → current.section ≡ section.Reacting i → next (system s) (world_of s ls t) x ≡ Err WrongKind
+  reacting_wrong i is = next_is (section.Reacting i) is
+
   pub none_to : (level : ℕ) → current.section ≡ section.Calling level → server.state.registers.operands ≡ []
       → next (system s) (world_of s ls t) x ≡ Err MissingOperand
   none_to level is none =

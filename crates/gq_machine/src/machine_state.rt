@@ -1,5 +1,6 @@
 // What a machine has: what is fixed at load, and what changes.
 use gq_leaf::Leaf;
+use gq_model::section::Section;
 use gq_prepared::{Opening, Services};
 use gq_resolve::NodeTable;
 use gq_slots::Slots;
@@ -8,7 +9,7 @@ use gq_slots::Slots;
 #[derive(Drop)]
 pub struct Prepared {
     pub openings: Vec<Opening>,
-    pub sections: [bool; 13],
+    pub sections: [bool; Section::ALL.len()],
 }
 
 /// What is fixed at load.

@@ -160,7 +160,7 @@ pub fn reply(
     ensures leaves { LeavesState result fixed.now state.old state.new }
 {
     match current.section {
-        Section::Main => {
+        Section::Main | Section::Reacting(_) => {
             let _client = client_at(fixed, state, number, current);
             Err(Wrong::WrongKind)
         }

@@ -3,7 +3,8 @@ use Rattle.std.proofs.Common.{◌≡◌, ℕ, suc, ◌+◌, ◌<◌, ◌≤◌, 
 use Rattle.std.specs.Prelude.{nat_lt, nat_le, ◌==◌, ◌&&◌, ◌||◌, if◌then◌else◌, codes, sum_by}
 use Rattle.std.proofs.lemmas.Bool.{and_parts, and_from, ltb-true, le-leb, cond_both}
 use Rattle.gq_model.specs.machine.Program.{Done, Do, section_in, Program, size, text_eq}
-use Rattle.gq_model.specs.machine.Sections.{Section, Main, Opening, Upgrading, Calling, Closing, all_sections, is_section, SectionKind, row, all_kinds}
+use Rattle.gq_model.specs.machine.Sections.{Section, Main, Opening, Upgrading, Calling, Closing, Reacting, all_sections, is_section}
+use Rattle.gq_model.specs.machine.Sections.{SectionKind, row, all_kinds}
 use Rattle.gq_model.specs.declared.section.SectionKind.TheVariants as kinds
 use Rattle.gq_model.specs.machine.Lists.{all_of, between}
 use Rattle.gq_model.specs.texts.Letters.{lines, words, unindented, past_word, number_in}
@@ -148,8 +149,8 @@ local_holds r rest h =
     (λ n last t.
     at_end_holds last _ (record { limits = (t, h.limits); sections = h.sections; blocks = h.blocks; count = h.count; few = h.few }))))
 
-at_most : (l : ℕ) → between 0 3 l ≡ true → nat_le l 3 ≡ true
-at_most l t = (and_parts (nat_le 0 l) (nat_le l 3) t).1
+at_most : (l greatest : ℕ) → between 0 greatest l ≡ true → nat_le l greatest ≡ true
+at_most l greatest t = (and_parts (nat_le 0 l) (nat_le l greatest) t).1
 
 headed_holds : (r : Reading) (k : ℕ) (kind : SectionKind) (rest : List (List ℕ)) → IsReading r → r.blocks ≡ []
     → Holds IsReading (headed r k kind (row kind).levels rest)
@@ -158,9 +159,11 @@ headed_holds r k kinds.Opening rest h e = heading_holds r k Opening rest h e ref
 headed_holds r k kinds.Upgrading rest h e =
     numbered_holds 1 3 rest (λ l more. heading r k (Upgrading l) more) (λ l more t. heading_holds r k (Upgrading l) more h e t)
 headed_holds r k kinds.Calling rest h e =
-    numbered_holds 0 3 rest (λ l more. heading r k (Calling l) more) (λ l more t. heading_holds r k (Calling l) more h e (at_most l t))
+    numbered_holds 0 3 rest (λ l more. heading r k (Calling l) more) (λ l more t. heading_holds r k (Calling l) more h e (at_most l 3 t))
 headed_holds r k kinds.Closing rest h e =
-    numbered_holds 0 3 rest (λ l more. heading r k (Closing l) more) (λ l more t. heading_holds r k (Closing l) more h e (at_most l t))
+    numbered_holds 0 3 rest (λ l more. heading r k (Closing l) more) (λ l more t. heading_holds r k (Closing l) more h e (at_most l 3 t))
+headed_holds r k kinds.Reacting rest h e =
+    numbered_holds 0 2 rest (λ i more. heading r k (Reacting i) more) (λ i more t. heading_holds r k (Reacting i) more h e (at_most i 2 t))
 
 headed_or_stray_holds : (r : Reading) (k : ℕ) (word : List ℕ) (rest : List (List ℕ)) (kind : Option SectionKind) → IsReading r → r.blocks ≡ []
     → Holds IsReading (headed_or_stray r k word rest kind)

@@ -4,7 +4,8 @@ use Rattle.std.specs.Prelude.{nat_le, ◌==◌, ◌&&◌, if◌then◌else◌, s
 use Rattle.std.proofs.lemmas.Bool.{and_parts, and_from, leb-true, le-leb, cond_both}
 use Rattle.std.proofs.lemmas.List.Sums.{sum_by-cons}
 use Rattle.gq_model.specs.machine.Program.{Statements, section_in, size}
-use Rattle.gq_model.specs.machine.Sections.{Section, Main, Opening, Upgrading, Calling, Closing, same_section, all_sections, is_section, section_number}
+use Rattle.gq_model.specs.machine.Sections.{Section, Main, Opening, Upgrading, Calling, Closing, Reacting, same_section, all_sections}
+use Rattle.gq_model.specs.machine.Sections.{is_section, section_number}
 use Rattle.gq_model.specs.machine.Lists.{all_of, between}
 use Rattle.gq_model.specs.texts.Operands.{greatest_number}
 use Rattle.gq_model.specs.texts.Code.{is_body, are_sections}
@@ -109,6 +110,10 @@ once (Closing (suc zero)) h = omega arith
 once (Closing (suc (suc zero))) h = omega arith
 once (Closing (suc (suc (suc zero)))) h = omega arith
 once (Closing (suc (suc (suc (suc l))))) h = let k = leb-true (suc (suc (suc (suc l)))) 3 h in absurd (omega (arith, k))
+once (Reacting zero) h = omega arith
+once (Reacting (suc zero)) h = omega arith
+once (Reacting (suc (suc zero))) h = omega arith
+once (Reacting (suc (suc (suc i)))) h = let k = leb-true (suc (suc (suc i))) 2 h in absurd (omega (arith, k))
 
 -- one section more is taken as often as it stands in the order, at most
 taken_first : (p : Section × Statements) (given : Sections) (order : List Section) → taken (p ∷ given) order ≤ places p.0 order * size p.1 + taken given order

@@ -196,13 +196,10 @@ decoded_holds bytes b =
     let P = IsCoded bytes in
     holds_then P (number_at 1 Truncated bytes) _ (number_holds 1 Truncated bytes b) (λ bits nb.
     holds_then P (limits_at 8 bits.0 bits.1) _ (limits_holds 8 bits.0 bits.1 (nb.short.0 refl) nb.rest) (λ limits l.
-    holds_then P (number_at 2 Truncated limits.1) _ (number_holds 2 Truncated limits.1 l.rest) (λ present np.
-    holds_then {P = λ q. (q ≡ present) × (nat_lt q.0 8192 ≡ true)} P (checked (nat_lt present.0 8192) BadOperand present) _
-    (checked_holds _ (nat_lt present.0 8192) BadOperand present (λ t. (refl, t))) (λ q less.
-    let nq : IsNumber 2 limits.1 q = rw less.0 np in
-    holds_then P (sections_at all_sections q.0 0 q.1) _ (sections_holds all_sections 0 q.0 0 q.1 all_in_order (ltb-true q.0 8192 less.1) nq.rest) (λ sections s.
+    holds_then P (number_at 2 Truncated limits.1) _ (number_holds 2 Truncated limits.1 l.rest) (λ q nq.
+    holds_then P (sections_at all_sections q.0 0 q.1) _ (sections_holds all_sections 0 q.0 0 q.1 all_in_order (nq.short.1 refl) nq.rest) (λ sections s.
     program_is bits.0 q.0 bytes bits.1 q.1 limits sections (nb.short.0 refl) (nb.whole
-    ∙ ap (λ l. l ++ bits.1) (one_byte bits.0 (nb.short.0 refl))) l nq.whole s)))))
+    ∙ ap (λ l. l ++ bits.1) (one_byte bits.0 (nb.short.0 refl))) l nq.whole s))))
 
 -- whatever bytes are decoded to is a program, and they are its code
 pub decoded_is : (bytes : List ℕ) (p : Program) → IsTrue (all_of (between 0 255) bytes) → decoded bytes ≡ Ok p → IsCoded bytes p

@@ -7,7 +7,7 @@ use Rattle.gq_model.specs.declared.fault.Rule.{Rule}
 use Rattle.gq_model.specs.declared.fault.Rule.TheVariants.{LeftoverOperand, JoinDiffers}
 use Rattle.gq_model.specs.declared.program.Form.TheVariants.{Block, Slice, Space}
 use Rattle.gq_model.specs.declared.section.Section.{Section}
-use Rattle.gq_model.specs.declared.section.Section.TheVariants.{Main, Opening, Upgrading, Calling, Closing}
+use Rattle.gq_model.specs.declared.section.Section.TheVariants.{Main, Opening, Upgrading, Calling, Closing, Reacting}
 use Rattle.gq_model.specs.machine.Program.{Statements, If, Loop, size, text_eq, section_in}
 use Rattle.gq_model.specs.machine.Sections.{same_section, all_sections}
 use Rattle.gq_model.specs.machine.Scenario.{Interface}
@@ -36,6 +36,7 @@ covered_same (r ∷ resources) i level s t e = covered_same resources i level s 
 
 pub within_same : (section : Section) (provided : Option Interface) (s t : AbstractState) → within_need section provided s ≡ Ok t → s ≡ t
 within_same Main provided s t e = ok_same e
+within_same (Reacting i) provided s t e = ok_same e
 within_same Opening None s t e = ok_same e
 within_same (Upgrading l) None s t e = ok_same e
 within_same (Calling l) None s t e = ok_same e
@@ -144,6 +145,7 @@ same_section_is Opening Opening e = refl
 same_section_is (Upgrading a) (Upgrading b) e = ap Upgrading (eqb-true a b e)
 same_section_is (Calling a) (Calling b) e = ap Calling (eqb-true a b e)
 same_section_is (Closing a) (Closing b) e = ap Closing (eqb-true a b e)
+same_section_is (Reacting a) (Reacting b) e = ap Reacting (eqb-true a b e)
 same_section_is _ _ e = cc
 
 -- a program without a fault lacks no section, and none of its own has a fault

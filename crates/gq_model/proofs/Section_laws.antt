@@ -4,7 +4,7 @@ use Rattle.std.proofs.Common.{arith, inl, inr}
 use Rattle.std.specs.Prelude.{nat_le, slice_get, sum_by, if◌then◌else◌}
 use Rattle.std.proofs.lemmas.Bool.{and_parts, cases_Bool, leb-true}
 use Rattle.gq_model.specs.declared.section.Section.{Section}
-use Rattle.gq_model.specs.declared.section.Section.TheVariants.{Main, Opening, Upgrading, Calling, Closing}
+use Rattle.gq_model.specs.declared.section.Section.TheVariants.{Main, Opening, Upgrading, Calling, Closing, Reacting}
 use Rattle.gq_model.specs.machine.Lists.{all_of, between}
 use Rattle.gq_model.specs.machine.Program.{Program, Statements, section_in, size}
 use Rattle.gq_model.specs.machine.Sections.{same_section, all_sections, is_section, section_number}
@@ -19,6 +19,7 @@ same_self Opening = refl
 same_self (Upgrading l) = equal_self l
 same_self (Calling l) = equal_self l
 same_self (Closing l) = equal_self l
+same_self (Reacting i) = equal_self i
 
 -- NUMBERS
 
@@ -42,17 +43,22 @@ at_number (Closing (suc zero)) h = refl
 at_number (Closing (suc (suc zero))) h = refl
 at_number (Closing (suc (suc (suc zero)))) h = refl
 at_number (Closing (suc (suc (suc (suc l))))) h = let k = leb-true (suc (suc (suc (suc l)))) 3 h in absurd (omega (arith, k))
+at_number (Reacting zero) h = refl
+at_number (Reacting (suc zero)) h = refl
+at_number (Reacting (suc (suc zero))) h = refl
+at_number (Reacting (suc (suc (suc i)))) h = let k = leb-true (suc (suc (suc i))) 2 h in absurd (omega (arith, k))
 
 pub same_number : (s t : Section) → is_section s ≡ true → is_section t ≡ true → section_number s ≡ section_number t → s ≡ t
 same_number s t h k e = sym (at_number s h) ∙ (ap (λ n. get_or all_sections n Main) e ∙ at_number t k)
 
--- there are 13
-pub number_below : (s : Section) → is_section s ≡ true → section_number s ≤ 12
+-- there are 16
+pub number_below : (s : Section) → is_section s ≡ true → section_number s ≤ 15
 number_below Main h = omega arith
 number_below Opening h = omega arith
 number_below (Upgrading l) h = let k = leb-true l 3 ((and_parts (nat_le 1 l) (nat_le l 3) h).1) in omega (arith, k)
 number_below (Calling l) h = let k = leb-true l 3 h in omega (arith, k)
 number_below (Closing l) h = let k = leb-true l 3 h in omega (arith, k)
+number_below (Reacting i) h = let k = leb-true i 2 h in omega (arith, k)
 
 -- sections of other numbers are others
 pub differ : (s t : Section) → (section_number s ≡ section_number t → ⊥) → same_section s t ≡ false

@@ -1,7 +1,7 @@
 // The sections of programs: a table of their kinds, which sections there are, their order and their words.
 ghost use Rattle.std.specs.Prelude.{◌≡◌, ◌<◌, Some, IsTrue, get_or};
 ghost use Rattle.gq_model.specs.machine.Sections.{Main, row, all_kinds, kind_of, level_of, of_kind, same_section, is_section, section_number};
-ghost use Rattle.gq_model.specs.machine.Sections.{all_sections, is_own_section, section_word};
+ghost use Rattle.gq_model.specs.machine.Sections.{all_sections, is_own_section, is_start_section, section_word};
 ghost use Rattle.gq_model.specs.texts.Text.{kind_with};
 
 use crate::spelling::same_text;
@@ -20,16 +20,19 @@ pub enum SectionKind {
     Calling,
     /// What is done for the close at a level.
     Closing,
+    /// What is done for a signal.
+    Reacting,
 }
 
 impl SectionKind {
     /// All of them, in the order of their sections.
-    pub const ALL: [SectionKind; 5] = [
+    pub const ALL: [SectionKind; 6] = [
         SectionKind::Main,
         SectionKind::Opening,
         SectionKind::Upgrading,
         SectionKind::Calling,
         SectionKind::Closing,
+        SectionKind::Reacting,
     ];
 
     /// The word of its heading.
@@ -42,10 +45,11 @@ impl SectionKind {
             SectionKind::Upgrading => "up",
             SectionKind::Calling => "call",
             SectionKind::Closing => "close",
+            SectionKind::Reacting => "on",
         }
     }
 
-    /// The least and the greatest level that may stand behind its word, where one does.
+    /// The least and the greatest number that may stand behind its word, where one does.
     pub fn levels(self) -> Option<(u8, u8)>
         ensures { result ≡ (row self).levels }
     {
@@ -53,10 +57,11 @@ impl SectionKind {
             SectionKind::Main | SectionKind::Opening => None,
             SectionKind::Upgrading => Some((1, 3)),
             SectionKind::Calling | SectionKind::Closing => Some((0, 3)),
+            SectionKind::Reacting => Some((0, 2)),
         }
     }
 
-    /// The number of its level 0, from which its others are counted.
+    /// The place of its section of number 0, from which its others are counted.
     fn first(self) -> usize
         ensures { result ≡ (row self).first }
     {
@@ -65,6 +70,7 @@ impl SectionKind {
             SectionKind::Opening | SectionKind::Upgrading => 1,
             SectionKind::Calling => 5,
             SectionKind::Closing => 9,
+            SectionKind::Reacting => 13,
         }
     }
 
@@ -80,7 +86,7 @@ impl SectionKind {
         None
     }
 
-    /// Its section of this level, which counts only where its heading has one.
+    /// Its section of this number, which counts only where its heading has one.
     pub fn section(self, level: u8) -> Section
         ensures { result ≡ of_kind self level }
     {
@@ -90,12 +96,13 @@ impl SectionKind {
             SectionKind::Upgrading => Section::Upgrading(level),
             SectionKind::Calling => Section::Calling(level),
             SectionKind::Closing => Section::Closing(level),
+            SectionKind::Reacting => Section::Reacting(level),
         }
     }
 }
 
-/// A section of a program: what is done at the start, at a session's opening, and for an upgrade to, a call at and the
-/// close at a level.
+/// A section of a program: what is done at the start, at a session's opening, for an upgrade to, a call at and the
+/// close at a level, and for a signal of a number.
 #[derive(Clone, Copy, Debug, PartialEq, Eq)]
 pub enum Section {
     Main,
@@ -103,11 +110,12 @@ pub enum Section {
     Upgrading(u8),
     Calling(u8),
     Closing(u8),
+    Reacting(u8),
 }
 
 impl Section {
     /// The sections in the order in which a program's code has them, and in which they are judged.
-    pub const ALL: [Section; 13] = [
+    pub const ALL: [Section; 16] = [
         Section::Main,
         Section::Opening,
         Section::Upgrading(1),
@@ -121,6 +129,9 @@ impl Section {
         Section::Closing(1),
         Section::Closing(2),
         Section::Closing(3),
+        Section::Reacting(0),
+        Section::Reacting(1),
+        Section::Reacting(2),
     ];
 
     /// Its kind.
@@ -134,17 +145,21 @@ impl Section {
             Section::Upgrading(_) => SectionKind::Upgrading,
             Section::Calling(_) => SectionKind::Calling,
             Section::Closing(_) => SectionKind::Closing,
+            Section::Reacting(_) => SectionKind::Reacting,
         }
     }
 
-    /// The level of its heading, which is that of its session; 0 where it has none.
+    /// The number of its heading: the level of its session, or a signal's number; 0 where it has none.
     #[inline(always)]
     pub fn level(self) -> u8
         ensures { result ≡ level_of self }
     {
         match self {
             Section::Main | Section::Opening => 0,
-            Section::Upgrading(level) | Section::Calling(level) | Section::Closing(level) => level,
+            Section::Upgrading(level)
+            | Section::Calling(level)
+            | Section::Closing(level)
+            | Section::Reacting(level) => level,
         }
     }
 
@@ -163,7 +178,7 @@ impl Section {
     #[inline(always)]
     pub fn number(self) -> usize
         ensures number { result ≡ section_number self }
-        ensures below { IsTrue (is_section self) → result < 13 }
+        ensures below { IsTrue (is_section self) → result < 16 }
         ensures place { IsTrue (is_section self) → get_or all_sections result Main ≡ self }
     {
         self.kind().first() + usize::from(self.level())
@@ -173,6 +188,14 @@ impl Section {
     #[inline(always)]
     pub fn is_own(self) -> bool
         ensures { result ≡ is_own_section self }
+    {
+        matches!(self, Section::Main | Section::Reacting(_))
+    }
+
+    /// Whether it changes the leaf's own slots: only what is done at the start does.
+    #[inline(always)]
+    pub fn is_start(self) -> bool
+        ensures { result ≡ is_start_section self }
     {
         self == Section::Main
     }

@@ -5,7 +5,7 @@ ghost use Rattle.gq_model.specs.declared.section.Section.{Section};
 ghost use Rattle.gq_model.specs.machine.Program as model;
 ghost use Rattle.gq_model.specs.machine.Program.{Statements, body_of, section_in};
 ghost use Rattle.gq_program.specs.Statement_trees.{tree_of};
-ghost use Rattle.gq_races.specs.internal.Table_leaves.{served_by};
+ghost use Rattle.gq_views.specs.internal.Table_leaves.{served_by};
 ghost use Rattle.gq_outcomes.specs.internal.Asks.{AreOfSections, IsOfSection, asked, asks_of};
 ghost use Rattle.gq_outcomes.specs.internal.Left.{ahead, ahead_in};
 
@@ -13,8 +13,8 @@ use crate::statement_key::{width, width_of};
 use gq_model::program::{Instruction, OperandSlot};
 use gq_model::section::{Section, same_section};
 use gq_program::program_tree::{Body, Statement};
-use gq_races::table_leaf::TableLeaf;
 use gq_scenario::scenario::LeafNo;
+use gq_views::table_leaf::TableLeaf;
 use std::alloc::{AllocError, Global};
 
 /// What comes next for a leaf.

@@ -23,12 +23,12 @@ use gq_model::limits::{GREATEST_LEAVES, OWN_SLOTS, SESSION_SLOTS};
 use gq_model::phase::Phase;
 use gq_model::program::OperandSlot;
 use gq_model::section::Section;
-use gq_races::table_leaf::TableLeaf;
 use gq_resolve::NodeTable;
 use gq_scenario::scenario::LeafNo;
 use gq_statements::actor::section_of;
 use gq_statements::{Actor, Current};
 use gq_trade::SlotId;
+use gq_views::table_leaf::TableLeaf;
 use std::alloc::{AllocError, Global};
 
 /// What decides where leaves stand at a choice: which leaves are racy servers, and what comes next at each place of their programs.

@@ -158,6 +158,10 @@ fn push_section(key: &mut Vec<u8>, section: Section) -> Result<(), AllocError>
             push_byte(key, 4)?;
             push_number(key, u64::from(level))
         }
+        Section::Reacting(signal) => {
+            push_byte(key, 5)?;
+            push_number(key, u64::from(signal))
+        }
     }
 }
 

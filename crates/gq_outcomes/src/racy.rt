@@ -3,7 +3,7 @@ ghost use Rattle.std.specs.Prelude.{◌≡◌, ◌&&◌, ◌||◌, ◌∷◌, []
 ghost use Rattle.gq_model.specs.machine.Lists.{any_of};
 ghost use Rattle.gq_model.specs.machine.Scenario.{Component, components, system};
 ghost use Rattle.gq_laws.specs.Ready.{IsReady};
-ghost use Rattle.gq_races.specs.internal.Table_leaves.{served_by};
+ghost use Rattle.gq_views.specs.internal.Table_leaves.{served_by};
 ghost use Rattle.gq_outcomes.specs.Choices as choices;
 ghost use Rattle.gq_model.specs.machine.Sections.{is_own_section};
 ghost use Rattle.gq_program.specs.Statement_trees.{tree_of};
@@ -15,10 +15,10 @@ use gq_model::section::Section;
 use gq_program::program_tree::{Body, Program, Statement};
 use gq_races::effects::changes_own;
 use gq_races::races::all_shared;
-use gq_races::table_leaf::TableLeaf;
 use gq_resolve::NodeTable;
 use gq_resolve::opened_services::opened;
 use gq_scenario::scenario::LeafNo;
+use gq_views::table_leaf::TableLeaf;
 use std::alloc::{AllocError, Global};
 
 // Whether a statement, or one in it, changes an own slot.

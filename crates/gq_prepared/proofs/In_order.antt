@@ -44,7 +44,7 @@ module _ (reported : Section → Bool) (bs : List Bool) (n : ℕ) (b : Bool) (le
   one_more j below = found j below (j == n) refl
 
 -- each section at its place
-pub reported_at : (reported : Section → Bool) (bs : List Bool) (section : Section) → AreReported reported bs 13 → is_section section ≡ true
+pub reported_at : (reported : Section → Bool) (bs : List Bool) (section : Section) → AreReported reported bs 16 → is_section section ≡ true
     → get_or bs (section_number section) false ≡ reported section
 reported_at reported bs section h is =
     let below = number_below section is in h (section_number section) (omega (arith, below)) ∙ ap reported (at_number section is)

@@ -1,6 +1,3 @@
--- a leaf by its number in a table
-mod Table_leaf_rows
-pub mod Table_leaf_servers
 -- texts that grow at their end, and the leaves that are shared
 mod Race_line_text
 mod Shared_leaf_servers

@@ -10,8 +10,8 @@ use Rattle.gq_model.specs.machine.Sections.{is_own_section}
 use Rattle.gq_model.specs.rules.Use.{is_there, opened_by, services, services_in, services_of}
 use Rattle.gq_resolve.specs.Served.{once, server_among}
 use Rattle.gq_resolve.proofs.Mapped_list_growth.{next_is}
-use Rattle.gq_races.specs.internal.Table_leaves.{LeafOfAll, served_by}
-use Rattle.gq_races.proofs.Table_leaf_servers.{AreAmong, among_once, among_parts, among_self, served_each, served_is}
+use Rattle.gq_views.specs.internal.Table_leaves.{LeafOfAll, served_by}
+use Rattle.gq_views.proofs.Table_leaf_servers.{AreAmong, among_once, among_parts, among_self, served_each, served_is}
 use Rattle.gq_races.specs.Races.{each_stated, found_in, stated_in}
 use Rattle.gq_races.specs.internal.Openers.{first_servers, later_servers, opened_among, opened_from, opens_among}
 

@@ -1,4 +1,3 @@
 pub mod Openers
 pub mod Owners
 pub mod Kind_lines
-pub mod Table_leaves

@@ -13,7 +13,7 @@
 //! which sessions are opened is shared if it has none: its sections may run for several threads. A race is a statement of a shared leaf, outside `main`, that
 //! changes an own slot, what is in it or what is behind it. An `in` is a race as well, in any section of any leaf: what it reads depends on when the input was
 //! set. An order is a statement of a shared leaf, outside `main`, that writes a line (`specs/Races`). `gq_determined` states what does not depend on the turns
-//! and the inputs. What is asked of a leaf is asked of the table of nodes, by the leaf's number (`table_leaf`).
+//! and the inputs. What is asked of a leaf is asked of the table of nodes, by the leaf's number (`TableLeaf` of `gq_views`).
 #![tactic(auto)]
 
 pub mod effects;
@@ -22,4 +22,3 @@ mod opens;
 mod owners;
 pub mod races;
 mod statement_prefix;
-pub mod table_leaf;

@@ -6,16 +6,16 @@ ghost use Rattle.gq_model.specs.rules.Use as spec;
 ghost use Rattle.gq_model.specs.rules.Use.{is_there};
 ghost use Rattle.gq_resolve.specs.Served as served;
 ghost use Rattle.gq_laws.specs.Ready.{IsReady};
-ghost use Rattle.gq_races.specs.internal.Table_leaves.{served_by};
+ghost use Rattle.gq_views.specs.internal.Table_leaves.{served_by};
 ghost use Rattle.gq_races.specs.internal.Openers.{first_servers, later_servers, opened_from};
 
-use crate::table_leaf::TableLeaf;
 use gq_model::program::Name;
 use gq_model::section::Section;
 use gq_program::program_tree::Body;
 use gq_resolve::NodeTable;
 use gq_resolve::opened_services::{once, push_opened};
 use gq_scenario::scenario::LeafNo;
+use gq_views::table_leaf::TableLeaf;
 use std::alloc::{AllocError, Global};
 use std::marker::Model;
 
@@ -72,9 +72,10 @@ impl OpenedFrom {
         ensures later { OnOk result (self.new.1 ≡ self.old.1 ++ later_servers (served_by client.now) ((section, body.now) ∷ [])) }
     {
         let services = services_of(alloc, body)?;
-        let pushed = match section {
-            Section::Main => push_servers(&mut self.first, client, services.as_slice()),
-            _ => push_servers(&mut self.later, client, services.as_slice()),
+        let pushed = if section.is_own() {
+            push_servers(&mut self.first, client, services.as_slice())
+        } else {
+            push_servers(&mut self.later, client, services.as_slice())
         };
         drop(services);
         pushed

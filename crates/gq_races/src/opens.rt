@@ -10,15 +10,15 @@ ghost use Rattle.gq_races.specs.Race_text.{opened_text};
 ghost use Rattle.gq_races.specs.internal.Kind_lines.{opened_line};
 ghost use Rattle.gq_races.specs.internal.Openers.{opened_among, opens_among};
 ghost use Rattle.gq_views.specs.Listing.{joined, line};
-ghost use Rattle.gq_races.specs.internal.Table_leaves.{served_by};
+ghost use Rattle.gq_views.specs.internal.Table_leaves.{served_by};
 
 use crate::statement_prefix::prefix_of;
-use crate::table_leaf::TableLeaf;
 use gq_model::program::Instruction;
 use gq_model::section::Section;
 use gq_program::program_tree::{Body, Statement};
 use gq_resolve::NodeTable;
 use gq_scenario::scenario::LeafNo;
+use gq_views::table_leaf::TableLeaf;
 use itoa::Buffer;
 use std::alloc::{AllocError, Global};
 

@@ -11,14 +11,13 @@ ghost use Rattle.gq_races.specs.Races_written.{MeansWithout, races_written, Wrot
 ghost use Rattle.gq_races.specs.internal.Openers.{opened_among};
 ghost use Rattle.gq_races.specs.internal.Owners.{AreShared};
 ghost use Rattle.gq_views.specs.Listing.{joined};
-ghost use Rattle.gq_races.specs.internal.Table_leaves.{leaf_of};
+ghost use Rattle.gq_views.specs.internal.Table_leaves.{leaf_of};
 ghost use Rattle.gq_reports.specs.Command_outcomes.{WritesAs};
 
 use crate::effects::push_leaf_effects;
 use crate::openers::all_opened;
 use crate::opens::push_openers;
 use crate::owners::shared;
-use crate::table_leaf::TableLeaf;
 use gq_load::accepted::Accepted;
 use gq_load::load_fault::LoadError;
 use gq_load::read::read_laws;
@@ -27,6 +26,7 @@ use gq_reports::RunFault;
 use gq_reports::command_text::put_text;
 use gq_resolve::NodeTable;
 use gq_scenario::scenario::LeafNo;
+use gq_views::table_leaf::TableLeaf;
 use std::alloc::{AllocError, Global};
 use std::io::Write;
 

@@ -17,7 +17,7 @@ What usually leads to it:
 - a statement has an operand too many, as `out 1`
 
 What to do: Correct the word. Outside sections stand only `local i n`, `main`, `open`, `up l`,
-`call l` and `close l`.",
+`call l`, `close l` and `on i`.",
         "trade: hello: M1 UnknownWord line 2"
     ),
     entry!(
@@ -32,7 +32,7 @@ What usually leads to it:
 - an operand is missing, as in `push`
 - a sign, a letter or a comma stands in it, as in `push -1`
 - it is out of range: `loop` has 1 to 65535, `div` and `mod` at least 1, `up` 1 to 3, `call` and
-  `close` 0 to 3, a local or an input is 0 to 7
+  `close` 0 to 3, `on` 0 to 2, a local or an input is 0 to 7
 
 What to do: Write a number within the statement's range. To subtract, `push` both and `sub`.",
         "trade: hello: M2 BadNumber line 3"
@@ -167,8 +167,7 @@ of each statement.",
         "a number, a text or a slot in the code of a program is out of its range",
         "\
 A number, a text or a slot in the code of a program is out of its range. So is a local's limit
-of 4294967295, which is the one that a local has without being told, and a bit for a section
-that there is not.
+of 4294967295, which is the one that a local has without being told.
 
 What usually leads to it:
 - the code was made or changed by hand, or by another tool

@@ -254,11 +254,13 @@ What to do: Write the name of an interface of the scenario, or add the interface
 A program lacks a section that it needs, or has one too many; the place is 0. A leaf that
 provides nothing has `main` alone. One that provides a service with u upgrades has `main`,
 `open`, `up 1` to `up u`, `call 0` to `call u` and `close 0` to `close u`, none of them missing,
-though they may be empty but for the reply of a call.
+though they may be empty but for the reply of a call. `on i` is for a signal, and no leaf has
+one.
 
 What usually leads to it:
 - `upgrades` got one more entry, and the server no `up`, `call` and `close` for it
 - `provides` is missing at a leaf that has `open`, or stands at one that is no server
+- a section `on i` stands in a program
 
 What to do: Add the section, take it out, or correct `provides` or `upgrades`.",
         "trade: srv: V16 MissingSection in close 0 at 0"

@@ -90,12 +90,12 @@ impl<'a> Context<'a> {
         }
     }
 
-    /// Whether the kind of a slot may change: outside `main` no own one does.
+    /// Whether the kind of a slot may change: an own one does in `main` alone.
     pub(crate) fn may_change(&self, place: OperandSlot) -> bool
         ensures { result ≡ may_change self.now place }
     {
         match place {
-            OperandSlot::Own(_) => self.is_own(),
+            OperandSlot::Own(_) => self.section().is_start(),
             OperandSlot::Shared(_) | OperandSlot::Object => true,
         }
     }

@@ -6,7 +6,7 @@ use Rattle.std.specs.Cmp.Lexicographic.{pointwise}
 use Rattle.std.proofs.lemmas.Bool.{and_parts}
 use Rattle.std.proofs.lemmas.Bool.Decides.{nat_tests}
 use Rattle.gq_model.specs.declared.section.Section.{Section}
-use Rattle.gq_model.specs.declared.section.Section.TheVariants.{Main, Opening, Upgrading, Calling, Closing}
+use Rattle.gq_model.specs.declared.section.Section.TheVariants.{Main, Opening, Upgrading, Calling, Closing, Reacting}
 use Rattle.gq_model.specs.machine.Amounts.{Resource, Caps}
 use Rattle.gq_model.specs.machine.Lists.{all_of, greatest}
 use Rattle.gq_model.specs.machine.Program.{Statements, text_eq}
@@ -31,6 +31,7 @@ as_low l Opening e = grind (arith, nat_tests)
 as_low l (Upgrading k) e = grind (arith, nat_tests)
 as_low l (Calling k) e = grind (arith, nat_tests)
 as_low l (Closing k) e = grind (arith, nat_tests)
+as_low l (Reacting i) e = refl
 
 pub greatest_same : {A : Type 0} → (f g : A → ℕ) (P : A → Bool) → ((x : A) → P x ≡ true → f x ≡ g x) → (l : List A) → all_of P l ≡ true →
     greatest f l ≡ greatest g l

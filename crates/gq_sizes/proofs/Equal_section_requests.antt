@@ -4,7 +4,7 @@ use Rattle.std.specs.Prelude.{slice_get, if◌then◌else◌}
 use Rattle.gq_model.specs.machine.Amounts.{Amount}
 use Rattle.gq_model.specs.declared.program.OperandSlot.{OperandSlot}
 use Rattle.gq_model.specs.declared.section.Section.{Section}
-use Rattle.gq_model.specs.declared.section.Section.TheVariants.{Main, Opening, Upgrading, Calling, Closing}
+use Rattle.gq_model.specs.declared.section.Section.TheVariants.{Main, Opening, Upgrading, Calling, Closing, Reacting}
 use Rattle.gq_model.specs.declared.program.Instruction.{Instruction}
 use Rattle.gq_model.specs.declared.program.Instruction.TheVariants.{Say, Out, Operands, Make, MakePool, Load}
 use Rattle.gq_model.specs.declared.program.Instruction.TheVariants.{Store, Free, Take, Give, Peek, Poke, Open, Upgrade, Call, Close}
@@ -153,6 +153,7 @@ module _ (all others : System) (same : AllComponents all.components others.compo
 
     times_so : (depth x : ℕ) (section : Section) → times depth all x section ≡ times depth others x section
     times_so depth x Main = refl
+    times_so zero x (Reacting i) = refl
     times_so zero x Opening = refl
     times_so zero x (Upgrading l) = refl
     times_so zero x (Calling l) = refl
@@ -161,6 +162,7 @@ module _ (all others : System) (same : AllComponents all.components others.compo
     times_so (suc depth) x (Upgrading l) = asked_so depth x (Upgrading l) (times_so depth)
     times_so (suc depth) x (Calling l) = asked_so depth x (Calling l) (times_so depth)
     times_so (suc depth) x (Closing l) = asked_so depth x (Closing l) (times_so depth)
+    times_so (suc depth) x (Reacting i) = refl
 
     steps_so : (f g : Section → ℕ) (pairs : List (Section × Statements)) → ((q : Section) → f q ≡ g q) → steps_of f pairs ≡ steps_of g pairs
     steps_so f g [] e = refl

@@ -3,7 +3,7 @@ use Rattle.std.proofs.Common.{◌≡◌, ℕ, zero, suc, ◌≤◌, List, [], �
 use Rattle.std.specs.Prelude.{slice_index_or}
 use Rattle.gq_model.specs.machine.Amounts.{Amount, amount}
 use Rattle.gq_model.specs.declared.section.Section.{Section}
-use Rattle.gq_model.specs.declared.section.Section.TheVariants.{Main, Opening, Upgrading, Calling, Closing}
+use Rattle.gq_model.specs.declared.section.Section.TheVariants.{Main, Opening, Upgrading, Calling, Closing, Reacting}
 use Rattle.gq_model.specs.declared.program.Instruction.{Instruction}
 use Rattle.gq_model.specs.declared.program.Instruction.TheVariants.{Say, Out, Operands, Make, MakePool, Load}
 use Rattle.gq_model.specs.declared.program.Instruction.TheVariants.{Store, Free, Take, Give, Peek, Poke, Open, Upgrade, Call, Close}
@@ -70,6 +70,7 @@ module _ (v w : Subject) (zs : Interfaces) (h : SubjectsAsOne v w) (same : w.int
   free_within : (section : Section) (q : Option Interface) (t : AbstractState) → ((j : Interface) → q ≡ Some j → j.counted ≡ []) → within_need section q t ≡ Ok
       t
   free_within Main q t h = refl
+  free_within (Reacting i) q t h = refl
   free_within Opening None t h = refl
   free_within Opening (Some j) t h = (λ k. covered (h j refl k) j 0 t)
   free_within (Upgrading l) None t h = refl

@@ -19,7 +19,7 @@ use Rattle.gq_model.specs.machine.Scenario.{Interface, Interfaces, interface_in,
 use Rattle.gq_model.specs.declared.fault.Rule.{Rule}
 use Rattle.gq_model.specs.declared.fault.Rule.TheVariants.{OutOfRange}
 use Rattle.gq_model.specs.rules.Kinds.{Kind, Empty_kind, Memory, Pool_kind, Link_kind, AbstractState, Context, kind_at, with_kind}
-use Rattle.gq_model.specs.machine.Sections.{is_own_section}
+use Rattle.gq_model.specs.machine.Sections.{is_own_section, is_start_section}
 use Rattle.gq_model.specs.rules.Rules.{Judged, Bounded, Limits, limits, bounds_after, with_bounds, must, given, top, pushed, is_empty_kind, is_memory_kind}
 use Rattle.gq_model.specs.rules.Rules.{is_kept, may_change, reach, shared_bytes, pool_kind, fill, freed, link_kind, linked, opened, upgraded, called, closed}
 use Rattle.gq_model.specs.rules.Rules.{pooled}
@@ -234,7 +234,7 @@ module _ (c d : Context) (h : ContextsAsOne c d) where
   -- WHAT A SLOT ALLOWS
 
   change_so : (place : OperandSlot) → may_change c place ≡ true → may_change d place ≡ true
-  change_so (Own i) e = subst (λ (x : Section). is_own_section x ≡ true) h.section e
+  change_so (Own i) e = subst (λ (x : Section). is_start_section x ≡ true) h.section e
   change_so (Shared i) e = refl
   change_so Object e = refl
 

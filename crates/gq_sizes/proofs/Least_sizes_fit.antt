@@ -6,7 +6,7 @@ use Rattle.std.proofs.lemmas.Bool.{cases_lt}
 use Rattle.std.proofs.lemmas.Bool.Decides.{nat_tests}
 use Rattle.gq_model.specs.machine.Amounts.{Resource, Ram, Caps, Amount, amount, counted_in, part, counts_caps}
 use Rattle.gq_model.specs.declared.section.Section.{Section}
-use Rattle.gq_model.specs.declared.section.Section.TheVariants.{Main, Opening, Upgrading, Calling, Closing}
+use Rattle.gq_model.specs.declared.section.Section.TheVariants.{Main, Opening, Upgrading, Calling, Closing, Reacting}
 use Rattle.gq_model.specs.machine.Lists.{greatest}
 use Rattle.gq_model.specs.machine.Program.{Statements, body_of, section_in, text_eq}
 use Rattle.gq_model.specs.machine.Scenario.{Interface, Interfaces, Component, System, interface_in, service_in, number_of}
@@ -49,6 +49,7 @@ up_further l section e = by section e
     by (Upgrading k) e = grind (arith, nat_tests)
     by (Calling k) e = grind (arith, nat_tests)
     by (Closing k) e = grind (arith, nat_tests)
+    by (Reacting i) e = absurd cc
 
 when_further : (a b : Bool) (n : ℕ) → (a ≡ true → b ≡ true) → (if a then n else 0) ≤ (if b then n else 0)
 when_further false b n h = omega arith
@@ -171,6 +172,7 @@ within_by : (section : Section) (q : Option Interface) (t : AbstractState)
     → ((j : Interface) → q ≡ Some j → is_up_to (level_of section) section ≡ true → covered j.counted j (level_of section) t ≡ Ok t)
     → within_need section q t ≡ Ok t
 within_by Main q t h = refl
+within_by (Reacting i) q t h = refl
 within_by Opening None t h = refl
 within_by Opening (Some j) t h = h j refl refl
 within_by (Upgrading l) None t h = refl

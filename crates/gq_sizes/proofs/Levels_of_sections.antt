@@ -4,7 +4,7 @@ use Rattle.std.proofs.Common.{arith}
 use Rattle.std.specs.Prelude.{nat_le, is_some, if◌then◌else◌}
 use Rattle.std.proofs.lemmas.Bool.{and_parts, leb-true}
 use Rattle.gq_model.specs.declared.section.Section.{Section}
-use Rattle.gq_model.specs.declared.section.Section.TheVariants.{Main, Opening, Upgrading, Calling, Closing}
+use Rattle.gq_model.specs.declared.section.Section.TheVariants.{Main, Opening, Upgrading, Calling, Closing, Reacting}
 use Rattle.gq_model.specs.machine.Lists.{any_of}
 use Rattle.gq_model.specs.machine.Program.{Statements, section_in}
 use Rattle.gq_model.specs.machine.Sections.{all_sections, same_section, level_of, is_section, section_number, is_own_section}
@@ -24,6 +24,7 @@ outside_main l Opening e = (refl, leb-true 0 l e)
 outside_main l (Upgrading k) e = (refl, leb-true k l e)
 outside_main l (Calling k) e = (refl, leb-true k l e)
 outside_main l (Closing k) e = (refl, leb-true k l e)
+outside_main l (Reacting i) e = absurd cc
 
 -- WHICH SECTIONS THERE ARE
 
@@ -65,12 +66,19 @@ three_up (suc (suc zero)) k h = refl
 three_up (suc (suc (suc zero))) k h = refl
 three_up (suc (suc (suc (suc l)))) k h = absurd (omega (arith, h))
 
+three_on : (i : ℕ) → i ≤ 2 → any_of (same_section (Reacting i)) all_sections ≡ true
+three_on zero h = refl
+three_on (suc zero) h = refl
+three_on (suc (suc zero)) h = refl
+three_on (suc (suc (suc i))) h = absurd (omega (arith, h))
+
 among : (section : Section) → is_section section ≡ true → any_of (same_section section) all_sections ≡ true
 among Main e = refl
 among Opening e = refl
 among (Upgrading l) e = let a = and_parts (nat_le 1 l) (nat_le l 3) e in three_up l (leb-true 1 l a.0) (leb-true l 3 a.1)
 among (Calling l) e = three_few l (leb-true l 3 e)
 among (Closing l) e = three_close l (leb-true l 3 e)
+among (Reacting i) e = three_on i (leb-true i 2 e)
 
 -- one that is there is wanted
 wanted_by : (v : Subject) (section : Section) (list : Statements) (sections : List Section) → first_unwanted v sections ≡ None
@@ -103,6 +111,7 @@ level_by i Opening e = omega arith
 level_by i (Upgrading l) e = leb-true l (length i.upgrades) e
 level_by i (Calling l) e = leb-true l (length i.upgrades) e
 level_by i (Closing l) e = leb-true l (length i.upgrades) e
+level_by i (Reacting j) e = absurd cc
 
 -- of a program that breaks no rule each section is of a level that its interface has
 pub level_known : (v : Subject) (i : Interface) (section : Section) (list : Statements) → IsProgram v.program → program_fault v ≡ None → v.provided ≡ Some i

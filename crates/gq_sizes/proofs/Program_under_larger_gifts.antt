@@ -4,7 +4,7 @@ use Rattle.std.proofs.Common.{◌∙◌, subst}
 use Rattle.std.specs.Prelude.{replicate, nat_le, slice_get, is_some, if◌then◌else◌}
 use Rattle.gq_model.specs.declared.program.Form.TheVariants.{Block, Slice, Space}
 use Rattle.gq_model.specs.declared.section.Section.{Section}
-use Rattle.gq_model.specs.declared.section.Section.TheVariants.{Main, Opening, Upgrading, Calling, Closing}
+use Rattle.gq_model.specs.declared.section.Section.TheVariants.{Main, Opening, Upgrading, Calling, Closing, Reacting}
 use Rattle.gq_model.specs.declared.program.Instruction.{Instruction}
 use Rattle.gq_model.specs.declared.fault.Rule.{Rule}
 use Rattle.gq_model.specs.declared.fault.Rule.TheVariants.{LeftoverOperand, SessionBankChanged, LinkLeftOpen, ValueTooLarge}
@@ -131,6 +131,7 @@ module _ (v w : Subject) (h : SubjectsAsOne v w) (fine : program_fault v ≡ Non
     bounds = ap (λ n. n ∷ []) (same_number v.provided w.provided (λ i. i.arg) h.provided (λ i j a. a.arg));
   }
   starts (Closing l) = record { own = own_alike; bank = banks_alike l; bounds = refl }
+  starts (Reacting i) = record { own = own_alike; bank = all_empty 8; bounds = refl }
 
   pub ends : (section : Section) → (e f : AbstractState) × (flow (context v section) (start_of v section) (body v section) ≡ Ok e)
       × (flow (context w section) (start_of w section) (body w section) ≡ Ok f) × One e f
@@ -248,6 +249,7 @@ module _ (v w : Subject) (h : SubjectsAsOne v w) (fine : program_fault v ≡ Non
       let m = must_so (bank_is_empty p.0.bank) (bank_is_empty f.bank) SessionBankChanged p.0 f last
       (λ a. subst (λ b. b ≡ true) (bank_empty_alike p.0.bank f.bank o1.bank) a) p.2 in
       (f, (λ i. and_then (n.1 i) (λ t. must (bank_is_empty t.bank) SessionBankChanged (Ok t))) ∙ m)
+  section_end_so (Reacting i) e f last o r = (f, (none_left_so e f last o r).1)
 
   -- THE WHOLE PROGRAM
 
@@ -260,6 +262,7 @@ module _ (v w : Subject) (h : SubjectsAsOne v w) (fine : program_fault v ≡ Non
   wanted_alike (Some i) (Some j) (Upgrading l) pq = ap (nat_le l) pq.levels
   wanted_alike (Some i) (Some j) (Calling l) pq = ap (nat_le l) pq.levels
   wanted_alike (Some i) (Some j) (Closing l) pq = ap (nat_le l) pq.levels
+  wanted_alike (Some i) (Some j) (Reacting k) pq = refl
 
   unwanted_alike : (sections : List Section) → first_unwanted v sections ≡ first_unwanted w sections
   unwanted_alike [] = refl

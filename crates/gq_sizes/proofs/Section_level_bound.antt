@@ -2,9 +2,9 @@
 use Rattle.std.proofs.Common.{◌≡◌, ℕ, zero, suc, ◌<◌, true, List, [], ◌∷◌, length, ◌&&◌, Some, refl, ap, ◌∙◌, IsTrue, arith}
 use Rattle.std.specs.Prelude.{nat_le, get_or, slice_get}
 use Rattle.gq_model.proofs.Small_facts.{some_same}
-use Rattle.std.proofs.lemmas.Bool.{and_parts}
+use Rattle.std.proofs.lemmas.Bool.{and_parts, leb-true, le-leb}
 use Rattle.gq_model.specs.declared.section.Section.{Section}
-use Rattle.gq_model.specs.declared.section.Section.TheVariants.{Main, Opening, Upgrading, Calling, Closing}
+use Rattle.gq_model.specs.declared.section.Section.TheVariants.{Main, Opening, Upgrading, Calling, Closing, Reacting}
 use Rattle.gq_model.specs.machine.Lists.{all_of}
 use Rattle.gq_model.specs.machine.Program.{Program, Statements}
 use Rattle.gq_model.specs.rules.Kinds.{Subject}
@@ -19,6 +19,7 @@ low Opening e = refl
 low (Upgrading l) e = (and_parts (nat_le 1 l) (nat_le l 3) e).1
 low (Calling l) e = e
 low (Closing l) e = e
+low (Reacting i) e = let k = leb-true i 2 e in le-leb i 3 (omega (arith, k))
 
 all_low : (ps : List (Section × Statements)) → all_of (λ p. is_section p.0) ps ≡ true → all_of (λ p. nat_le (level_of p.0) 3) ps ≡ true
 all_low [] e = refl

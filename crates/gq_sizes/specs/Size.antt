@@ -11,7 +11,7 @@ use Rattle.gq_model.specs.declared.program.Form.TheVariants.{Slice}
 use Rattle.gq_model.specs.declared.program.Instruction.{Instruction}
 use Rattle.gq_model.specs.declared.program.Instruction.TheVariants.{Open, Upgrade}
 use Rattle.gq_model.specs.declared.section.Section.{Section}
-use Rattle.gq_model.specs.declared.section.Section.TheVariants.{Main}
+use Rattle.gq_model.specs.declared.section.Section.TheVariants.{Main, Reacting}
 use Rattle.gq_model.specs.machine.Program.{Statements, Done, Do, If, Loop, size, text_eq}
 use Rattle.gq_model.specs.machine.Scenario.{Interface, Nodes, End, Leaf_node, Init_node, Scenario, Component, System}
 use Rattle.gq_model.specs.machine.Scenario.{interface_in}
@@ -58,6 +58,7 @@ section_points v section = points (context v section) (start_of v section) (body
 
 abbrev pub is_up_to : ℕ → Section → Bool
 is_up_to l Main = false
+is_up_to l (Reacting i) = false
 is_up_to l section = nat_le (level_of section) l
 
 -- the most that a session of a level up to l costs a leaf

@@ -27,7 +27,7 @@ pub(crate) fn is_up_to(section: Section, level: u8) -> bool
     ensures { result ≡ is_up_to level section }
 {
     match section {
-        Section::Main => false,
+        Section::Main | Section::Reacting(_) => false,
         _ => section.level() <= level,
     }
 }

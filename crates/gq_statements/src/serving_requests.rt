@@ -26,7 +26,7 @@ use gq_trade::{Ask, Request, Trades};
 /// session has, and whether capabilities are counted.
 #[derive(Clone, Copy)]
 pub struct Provider<'a> {
-    pub sections: &'a [bool; 13],
+    pub sections: &'a [bool; Section::ALL.len()],
     pub object: u32,
     pub counts_caps: bool,
 }

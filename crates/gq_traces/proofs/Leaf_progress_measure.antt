@@ -12,7 +12,7 @@ use Rattle.gq_model.specs.machine.Doing.{Doing, Event, Quiet, settled, standing}
 use Rattle.gq_model.specs.machine.Sums.{paid}
 use Rattle.gq_model.specs.declared.fault.Wrong.TheVariants.{WrongKind, ExceededQuota}
 use Rattle.gq_model.specs.declared.section.Section.{Section}
-use Rattle.gq_model.specs.declared.section.Section.TheVariants.{Main, Opening, Upgrading, Calling, Closing}
+use Rattle.gq_model.specs.declared.section.Section.TheVariants.{Main, Opening, Upgrading, Calling, Closing, Reacting}
 use Rattle.gq_model.specs.machine.Step.{accept, accept_oldest, active_again, body_ended, oldest, next, perform, step_in, step_of, all_empty, all_released}
 use Rattle.gq_model.specs.machine.Step.{exited, instruct, is_named, main_ended, released, replied, reply, reply_close, resumed, section_ended, serving}
 use Rattle.gq_model.specs.machine.Step.{unblocked}
@@ -233,6 +233,7 @@ module _ (d : Doing) (mine : Current) (there : slice_get (stances d.world) d.x â
   reply_gains k (Upgrading l) = replied_gains k _
   reply_gains k (Calling l) = pop_ends P _ _ (Î» a rest. replied_gains k _)
   reply_gains k (Closing l) = close_gains k
+  reply_gains k (Reacting i) = fails _
 
 -- REQUESTS THAT ARE ACCEPTED
 

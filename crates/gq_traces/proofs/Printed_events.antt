@@ -9,7 +9,7 @@ use Rattle.gq_model.specs.declared.phase.Phase.TheVariants.{Pending, Running, Bl
 use Rattle.gq_model.specs.declared.program.Instruction.{Instruction}
 use Rattle.gq_model.specs.declared.program.Instruction.TheVariants.{Say, Out}
 use Rattle.gq_model.specs.declared.section.Section.{Section}
-use Rattle.gq_model.specs.declared.section.Section.TheVariants.{Main, Opening, Upgrading, Calling, Closing}
+use Rattle.gq_model.specs.declared.section.Section.TheVariants.{Main, Opening, Upgrading, Calling, Closing, Reacting}
 use Rattle.gq_model.specs.machine.Doing.{Doing, Event, Idle, Quiet, Finished, Line, Stepped, fill, need, pop, push, settled, standing, when, with_operands}
 use Rattle.gq_model.specs.machine.Lists.{all_of}
 use Rattle.gq_model.specs.machine.Memory.{bytes_in, if_absent, pool_in}
@@ -131,6 +131,7 @@ reply_shows d k Opening s = when_shows _ _ _ (replied_shows d k s _)
 reply_shows d k (Upgrading l) s = replied_shows d k s _
 reply_shows d k (Calling l) s = pop_shows _ _ (λ a rest. replied_shows d k s _)
 reply_shows d k (Closing l) s = when_shows (all_empty s.slots) WrongKind _ (when_shows (paid d.system (closed d k s)) ExceededQuota _ (quiet (closed d k s)))
+reply_shows d k (Reacting i) s = fails _
 
 main_shows : (d : Doing) (provides : Option (List ℕ)) → Shows (main_ended d provides)
 main_shows d None = when_shows _ _ _ (gives _ Finished tt)

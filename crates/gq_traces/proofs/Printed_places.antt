@@ -5,7 +5,7 @@ use Rattle.gq_model.specs.declared.phase.Phase.{Phase}
 use Rattle.gq_model.specs.declared.phase.Phase.TheVariants.{Pending, Running, Blocked, Serving, Handling, Exited}
 use Rattle.gq_model.specs.declared.program.Instruction.{Instruction}
 use Rattle.gq_model.specs.declared.section.Section.{Section}
-use Rattle.gq_model.specs.declared.section.Section.TheVariants.{Main, Opening, Upgrading, Calling, Closing}
+use Rattle.gq_model.specs.declared.section.Section.TheVariants.{Main, Opening, Upgrading, Calling, Closing, Reacting}
 use Rattle.gq_model.specs.machine.Lists.{all_of}
 use Rattle.gq_model.specs.machine.Program.{Statements, Done, Do, If, Loop, body_of, section_in, size}
 use Rattle.gq_model.specs.machine.Sections.{same_section, section_word}
@@ -154,3 +154,4 @@ section_printed Opening = refl
 section_printed (Upgrading l) = both (codes "up ") (decimal l) refl (number_printed l)
 section_printed (Calling l) = both (codes "call ") (decimal l) refl (number_printed l)
 section_printed (Closing l) = both (codes "close ") (decimal l) refl (number_printed l)
+section_printed (Reacting i) = both (codes "on ") (decimal i) refl (number_printed i)

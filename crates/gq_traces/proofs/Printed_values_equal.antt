@@ -4,7 +4,7 @@ use Rattle.std.proofs.lemmas.Bool.{and_parts, eqb-true, false≢true}
 use Rattle.gq_model.specs.declared.phase.Phase.{Phase}
 use Rattle.gq_model.specs.declared.phase.Phase.TheVariants.{Pending, Running, Blocked, Serving, Handling, Exited}
 use Rattle.gq_model.specs.declared.section.Section.{Section}
-use Rattle.gq_model.specs.declared.section.Section.TheVariants.{Main, Opening, Upgrading, Calling, Closing}
+use Rattle.gq_model.specs.declared.section.Section.TheVariants.{Main, Opening, Upgrading, Calling, Closing, Reacting}
 use Rattle.gq_model.specs.machine.Accounts.{Account}
 use Rattle.gq_model.specs.machine.Amounts.{Amount, same_amount}
 use Rattle.gq_model.specs.machine.Program.{text_eq}
@@ -61,6 +61,7 @@ section_is Opening Opening e = refl
 section_is (Upgrading a) (Upgrading b) e = ap Upgrading (eqb-true a b e)
 section_is (Calling a) (Calling b) e = ap Calling (eqb-true a b e)
 section_is (Closing a) (Closing b) e = ap Closing (eqb-true a b e)
+section_is (Reacting a) (Reacting b) e = ap Reacting (eqb-true a b e)
 section_is a b e = absurd (false≢true e)
 
 requested_is : (a b : Requested) → same_requested a b ≡ true → a ≡ b

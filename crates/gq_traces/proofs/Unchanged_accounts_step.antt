@@ -12,7 +12,7 @@ use Rattle.gq_model.specs.machine.Amounts.{Resource, Ram, Caps, Amount, part, sa
 use Rattle.gq_model.specs.declared.phase.Phase.{Phase}
 use Rattle.gq_model.specs.declared.phase.Phase.TheVariants.{Pending, Running, Blocked, Serving, Handling, Exited}
 use Rattle.gq_model.specs.declared.section.Section.{Section}
-use Rattle.gq_model.specs.declared.section.Section.TheVariants.{Main, Opening, Upgrading, Calling, Closing}
+use Rattle.gq_model.specs.declared.section.Section.TheVariants.{Main, Opening, Upgrading, Calling, Closing, Reacting}
 use Rattle.gq_model.specs.machine.Resource_prices.{heap}
 use Rattle.gq_model.specs.machine.Sections.{same_section}
 use Rattle.gq_model.specs.machine.Scenario.{Component, Nodes, End, Leaf_node, Init_node, Scenario, System, below, components, system}
@@ -292,6 +292,7 @@ section_self Opening = refl
 section_self (Upgrading a) = equal_self a
 section_self (Calling a) = equal_self a
 section_self (Closing a) = equal_self a
+section_self (Reacting a) = equal_self a
 
 requested_self : (q : Requested) → same_requested q q ≡ true
 requested_self Nothing = refl

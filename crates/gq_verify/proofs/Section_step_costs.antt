@@ -2,7 +2,7 @@
 use Rattle.std.proofs.Common.{◌≡◌, ◌≤◌, ℕ, suc, arith, Bool, true, false, List, [], ◌∷◌, refl, ap, sym, ◌∙◌, Option, Some, None, Ok, Err}
 use Rattle.std.specs.Prelude.{nat_le, if◌then◌else◌}
 use Rattle.std.proofs.lemmas.Bool.Decides.{nat_tests}
-use Rattle.gq_model.specs.declared.section.Section.TheVariants.{Main, Opening, Upgrading, Calling, Closing}
+use Rattle.gq_model.specs.declared.section.Section.TheVariants.{Main, Opening, Upgrading, Calling, Closing, Reacting}
 use Rattle.gq_model.specs.machine.Program.{Statements, size, section_in}
 use Rattle.gq_model.specs.machine.Sections.{same_section}
 use Rattle.gq_model.specs.declared.section.Section.{Section}
@@ -41,6 +41,7 @@ same_cost Opening Opening b e = refl
 same_cost (Upgrading l) (Upgrading m) b e = refl
 same_cost (Calling l) (Calling m) b e = refl
 same_cost (Closing l) (Closing m) b e = refl
+same_cost (Reacting i) (Reacting j) b e = refl
 same_cost _ _ b e = cc
 
 affordable : (n : ℕ) (f : Fault) → (if nat_le n greatest_cost then None else Some f) ≡ None → n ≤ greatest_cost

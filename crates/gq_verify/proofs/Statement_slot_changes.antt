@@ -11,7 +11,7 @@ use Rattle.gq_model.specs.declared.program.Instruction.TheVariants.{Store, Free,
 use Rattle.gq_model.specs.declared.program.OperandSlot.{OperandSlot}
 use Rattle.gq_model.specs.declared.program.OperandSlot.TheVariants.{Own, Shared, Object}
 use Rattle.gq_model.specs.declared.section.Section.{Section}
-use Rattle.gq_model.specs.declared.section.Section.TheVariants.{Main, Opening, Upgrading, Calling, Closing}
+use Rattle.gq_model.specs.declared.section.Section.TheVariants.{Main, Opening, Upgrading, Calling, Closing, Reacting}
 use Rattle.gq_model.specs.machine.Amounts.{Resource, amount, part, plus}
 use Rattle.gq_model.specs.machine.Program.{Statements, Do, Done}
 use Rattle.gq_model.specs.machine.Scenario.{Interface, interface_in}
@@ -131,6 +131,7 @@ covered_with b (r ∷ resources) i level s =
 within_with : (b : List ℕ) (section : Section) (provided : Option Interface) (s : AbstractState) →
     Carries b (within_need section provided s) (within_need section provided (record s { bounds = b }))
 within_with b Main provided s = record { is = refl }
+within_with b (Reacting i) provided s = record { is = refl }
 within_with b Opening None s = record { is = refl }
 within_with b Opening (Some i) s = covered_with b i.counted i (level_of Opening) s
 within_with b (Upgrading l) None s = record { is = refl }

@@ -105,7 +105,7 @@ pub(crate) fn section_end(
             state.none_left()?;
             opening_end(subject.buffer(), state)
         }
-        Section::Upgrading(_) => state.none_left(),
+        Section::Upgrading(_) | Section::Reacting(_) => state.none_left(),
         Section::Calling(level) => calling_end(subject, starts.bank_at(subject, level), state),
         Section::Closing(_) => {
             state.none_left()?;

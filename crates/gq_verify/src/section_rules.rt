@@ -44,7 +44,7 @@ fn is_wanted(provided: Option<&Interface>, section: Section) -> bool
 {
     match (provided, section) {
         (_, Section::Main) => true,
-        (None, _) => false,
+        (None, _) | (_, Section::Reacting(_)) => false,
         (Some(_), Section::Opening) => true,
         (
             Some(interface),

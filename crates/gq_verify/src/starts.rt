@@ -181,7 +181,7 @@ impl Starts {
     {
         match section {
             Section::Main => AbstractState::new(Bank::new(), Bank::new()),
-            Section::Opening => AbstractState::new(self.own, Bank::new()),
+            Section::Opening | Section::Reacting(_) => AbstractState::new(self.own, Bank::new()),
             Section::Upgrading(level) => AbstractState::new(
                 self.own,
                 *self.bank_at(subject, level - 1),

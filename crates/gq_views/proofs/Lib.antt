@@ -12,6 +12,10 @@ mod Listed_leaves
 mod Growing_view_texts
 mod Printed_statements
 mod Printed_sections
+-- a leaf by its number in a table
+mod Table_leaf_rows
+pub mod Table_leaf_servers
+-- what is drawn of a scenario
 mod Printed_services
 mod Printed_view_nodes
 mod Printed_boxes

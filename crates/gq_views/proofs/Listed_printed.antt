@@ -4,7 +4,7 @@ use Rattle.std.specs.Prelude.{◌&&◌, nat_le, nat_lt, ◌==◌, if◌then◌el
 use Rattle.std.proofs.lemmas.Bool.{and_parts, eqb-true, leb-true}
 use Rattle.gq_model.specs.declared.program.Instruction.{Instruction}
 use Rattle.gq_model.specs.declared.section.Section.{Section}
-use Rattle.gq_model.specs.declared.section.Section.TheVariants.{Main, Opening, Upgrading, Calling, Closing}
+use Rattle.gq_model.specs.declared.section.Section.TheVariants.{Main, Opening, Upgrading, Calling, Closing, Reacting}
 use Rattle.gq_model.specs.machine.Lists.{all_of, between}
 use Rattle.gq_model.specs.machine.Program.{Program, Statements, Done, Do, If, Loop}
 use Rattle.gq_model.specs.texts.Operands.{greatest_number, in_range, operands}
@@ -80,6 +80,7 @@ section_printed (Upgrading l) h =
     all_append is_printed (codes "up ") (decimal l) refl (decimal_printed l (omega (arith, leb-true l 3 t.1)))
 section_printed (Calling l) h = all_append is_printed (codes "call ") (decimal l) refl (decimal_printed l (omega (arith, leb-true l 3 h)))
 section_printed (Closing l) h = all_append is_printed (codes "close ") (decimal l) refl (decimal_printed l (omega (arith, leb-true l 3 h)))
+section_printed (Reacting i) h = all_append is_printed (codes "on ") (decimal i) refl (decimal_printed i (omega (arith, leb-true i 2 h)))
 
 sections_printed : (n : ℕ) (ps : Sections) → are_sections n ps ≡ true → AllPrinted (sections_lines ps)
 sections_printed n [] h = tt

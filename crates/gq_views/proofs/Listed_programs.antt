@@ -7,7 +7,7 @@ use Rattle.std.proofs.lemmas.Bool.Decides.{nat_tests}
 use Rattle.std.proofs.lemmas.List.Sums.{sum_by-cons}
 use Rattle.gq_model.specs.declared.fault.TextFault.TheVariants as fault
 use Rattle.gq_model.specs.declared.section.Section.{Section}
-use Rattle.gq_model.specs.declared.section.Section.TheVariants.{Main, Opening, Upgrading, Calling, Closing}
+use Rattle.gq_model.specs.declared.section.Section.TheVariants.{Main, Opening, Upgrading, Calling, Closing, Reacting}
 use Rattle.gq_model.specs.machine.Lists.{all_of, between}
 use Rattle.gq_model.specs.machine.Program.{Program, Statements, Done, ◌then◌, size, section_in}
 use Rattle.gq_model.specs.texts.Letters.{number_in, words}
@@ -66,6 +66,10 @@ module _ (k c : ℕ) (L : List (ℕ × ℕ)) (S : Sections) where
       leads_one k before (after (Closing l)) (section_word (Closing l)) (
       ap (line_read before k (section_word (Closing l))) (two_words 99 (108 ∷ 111 ∷ 115 ∷ 101 ∷ []) l refl (omega (arith, leb-true l 3 h)))
       ∙ levelled 0 3 l Closing (omega arith) (and_from (nat_le 0 l) (nat_le l 3) (le-leb 0 l (omega arith)) h) ∙ fresh (Closing l) none)
+  section_line (Reacting i) h none =
+      leads_one k before (after (Reacting i)) (section_word (Reacting i)) (
+      ap (line_read before k (section_word (Reacting i))) (two_words 111 (110 ∷ []) i refl (omega (arith, leb-true i 2 h)))
+      ∙ levelled 0 2 i Reacting (omega arith) (and_from (nat_le 0 i) (nat_le i 2) (le-leb 0 i (omega arith)) h) ∙ fresh (Reacting i) none)
 
 end_section : (k c j : ℕ) (L : List (ℕ × ℕ)) (S : Sections) (s : Section) (body : Statements)
     → LeadsAt k (at L S c (opened L S (Section_block s) j body ∷ [])) (codes "end" ∷ []) (at L ((s, body) ∷ S) c [])

@@ -1,11 +1,10 @@
 -- The lines of sections are read back as the sections.
-use Rattle.std.proofs.Common.{◌≡◌, ◌∙◌, ℕ, zero, suc, ◌+◌, ◌<◌, ◌≤◌, Bool, true, false, List, [], ◌∷◌, ◌++◌, length, Option, Some, None}
-use Rattle.std.proofs.Common.{refl, ap, ap₂, sym, subst, arith, get_or, inl, inr}
+use Rattle.std.proofs.Common.{◌≡◌, ◌∙◌, ℕ, suc, ◌+◌, ◌<◌, ◌≤◌, Bool, true, List, [], ◌∷◌, ◌++◌, length, Option, Some, None}
+use Rattle.std.proofs.Common.{refl, ap, ap₂, sym, subst, arith, inl, inr}
 use Rattle.std.specs.Prelude.{◌&&◌, nat_le, ◌==◌, if◌then◌else◌}
-use Rattle.std.proofs.lemmas.Bool.{and_from, and_parts, cases_Bool, leb-true, le-leb}
+use Rattle.std.proofs.lemmas.Bool.{and_from, cases_Bool, le-leb}
 use Rattle.std.proofs.lemmas.Bool.Decides.{nat_tests}
 use Rattle.gq_model.specs.declared.section.Section.{Section}
-use Rattle.gq_model.specs.declared.section.Section.TheVariants.{Main, Opening, Upgrading, Calling, Closing}
 use Rattle.gq_model.specs.machine.Lists.{or_first}
 use Rattle.gq_model.specs.machine.Program.{Statements, ◌then◌, section_in}
 use Rattle.gq_model.specs.machine.Sections.{all_sections, same_section, is_section, section_number}
@@ -13,7 +12,7 @@ use Rattle.gq_model.specs.texts.Code.{are_sections, is_body}
 use Rattle.gq_model.specs.texts.Text.{in_order, section_entry}
 use Rattle.gq_model.proofs.Decoded_programs.{InOrder, all_in_order}
 use Rattle.gq_model.proofs.Rules_laws.{same_section_is}
-use Rattle.gq_model.proofs.Section_laws.{at_number, differ, first_of, number_below, same_number, same_self}
+use Rattle.gq_model.proofs.Section_laws.{differ, first_of, number_below, same_number, same_self}
 
 abbrev pub Sections : Type 0
 Sections = List (Section × Statements)
@@ -62,7 +61,7 @@ looked_up n (p ∷ rest) S s h =
     ]
 
 -- in their order again
-ordered_back : (order : List Section) (j : ℕ) (ps G : Sections) → InOrder j order → j + length order ≡ 13 → are_sections j ps ≡ true
+ordered_back : (order : List Section) (j : ℕ) (ps G : Sections) → InOrder j order → j + length order ≡ 16 → are_sections j ps ≡ true
     → ((s : Section) → j ≤ section_number s → section_in s G ≡ section_in s ps) → in_order G order ≡ ps
 ordered_back [] j [] G o all h same = refl
 ordered_back [] j (p ∷ rest) G o all h same =

@@ -1,6 +1,6 @@
 -- The numbered lines of a program as a text that grows at its end.
-use Rattle.std.proofs.Common.{◌≡◌, ◌∙◌, ℕ, zero, suc, ◌+◌, ◌-◌, ◌<◌, ◌≤◌, List, [], ◌∷◌, ◌++◌, length, get_or, drop, ap, sym, refl, arith}
-use Rattle.std.proofs.Common.{append_assoc, append-nil, codes, Some, None, Bool, true, false, true≢false, cond, eqb, map, subst}
+use Rattle.std.proofs.Common.{◌≡◌, ◌∙◌, ℕ, zero, suc, ◌+◌, ◌-◌, ◌<◌, List, [], ◌∷◌, ◌++◌, length, get_or, drop, ap, sym, refl, arith}
+use Rattle.std.proofs.Common.{append_assoc, append-nil, codes, Some, None, Bool, true, false, true≢false, cond, eqb, map}
 use Rattle.std.specs.Prelude.{decimal, slice_index}
 use Rattle.std.proofs.Math.Seq.{drop-cons}
 use Rattle.gq_model.specs.declared.section.Section.{Section}

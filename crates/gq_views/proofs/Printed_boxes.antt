@@ -1,23 +1,24 @@
 -- The lines of a graph as a text that grows at its end.
-use Rattle.std.proofs.Common.{◌≡◌, ◌∙◌, ℕ, suc, ◌+◌, ◌<◌, List, [], ◌∷◌, ◌++◌, length, get_or, drop, Some, ap, sym, refl, arith, append_assoc}
+use Rattle.std.proofs.Common.{◌≡◌, ◌∙◌, ℕ, suc, ◌+◌, ◌<◌, List, [], ◌∷◌, ◌++◌, length, get_or, drop, Option, Some, None, ap, sym, refl, arith, append_assoc}
 use Rattle.std.proofs.Common.{append-nil}
 use Rattle.std.proofs.Common.{add-one, codes, drop-cons}
 use Rattle.std.specs.Prelude.{decimal, slice_get, slice_index}
 use Rattle.std.proofs.lemmas.Option.{slice_get-get_or}
 use Rattle.gq_model.specs.machine.Accounts.{leaf_count}
 use Rattle.gq_model.specs.machine.Amounts.{Amount}
-use Rattle.gq_model.specs.machine.Routes.{server_of}
+use Rattle.gq_model.specs.machine.Routes.{numbered, server_of}
 use Rattle.gq_model.specs.machine.Scenario.{LeafNode, InitNode, Nodes, Component, Scenario, components, system}
 use Rattle.gq_model.specs.rules.Accept.{Budget}
 use Rattle.gq_model.specs.rules.Use.{services}
+use Rattle.gq_resolve.specs.NodeTables.{number_named}
 use Rattle.gq_scenario.specs.Sizes.{node_count}
 use Rattle.gq_scenario.specs.Component_trees.{nodes_of}
 use Rattle.gq_scenario.specs.declared.scenario.Node.{Node}
 use Rattle.gq_scenario.specs.declared.scenario.Node.TheVariants.{Leaf, Init}
 use Rattle.gq_scenario.proofs.Tree_counts.{nodes_drop}
 use Rattle.gq_views.specs.Listing.{indent, line}
-use Rattle.gq_views.specs.Tree.{all_afters, all_services, after_arrow, arrow, arrow_to, cluster, first_of_each, in_quotes, init_label, leaf_label, node_boxes}
-use Rattle.gq_views.specs.Tree.{node_name, point_line, service_arrows}
+use Rattle.gq_views.specs.Tree.{all_afters, all_services, after_arrow, arrow, arrow_from, arrow_to, cluster, first_of_each, in_quotes, init_label}
+use Rattle.gq_views.specs.Tree.{leaf_label, node_boxes, node_name, point_line, service_arrows}
 use Rattle.gq_views.specs.internal.Opened_services.{arrows_of, opened_among, opened_of}
 
 -- LINES
@@ -121,6 +122,12 @@ root_box v most name t u quantum total children nodes e f put =
 
 next_is : {A : Type 0} (all : List A) (i : ℕ) (x : A) → i < length all → x ≡ get_or all i x → drop i all ≡ x ∷ drop (i + 1) all
 next_is all i x h is = rw (add-one i, drop-cons all i x) (ap (λ y. y ∷ drop (suc i) all) (sym is))
+
+-- the arrow from a leaf that the table has by its number
+pub after_by_number : (s : Scenario) (places : List ℕ) (to : ℕ) (after : Option (List ℕ))
+    → arrow_from places (number_named after (λ name. numbered 0 name (components s))) to ≡ after_arrow (system s) places to after
+after_by_number s places to None = refl
+after_by_number s places to (Some name) = refl
 
 arrows_listed : (places : List ℕ) (from : ℕ) (s : Scenario) (c : Component) (l : List (List ℕ))
     → arrows_of places from (opened_among (components s) c l) ≡ service_arrows (system s) places from c l

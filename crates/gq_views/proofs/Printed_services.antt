@@ -1,8 +1,9 @@
 -- The services that leaves open, each once, with their servers.
 use Rattle.std.proofs.Common.{◌≡◌, ◌∙◌, ℕ, ◌<◌, ◌≤◌, Bool, true, false, ◌||◌, cond, List, [], ◌∷◌, ◌++◌, length, map, get_or, Option, Some}
-use Rattle.std.proofs.Common.{None}
+use Rattle.std.proofs.Common.{None, ◌+◌, append_assoc, drop, subst}
 use Rattle.std.proofs.Common.{codes, option_map, ap, sym, refl}
 use Rattle.std.specs.Prelude.{slice_get, if◌then◌else◌}
+use Rattle.std.proofs.lemmas.List.{map-append}
 use Rattle.std.proofs.lemmas.Option.{slice_get-get_or, slice_get-map, slice_get_past}
 use Rattle.gq_model.specs.machine.Lists.{any_of}
 use Rattle.gq_model.specs.machine.Program.{text_eq}
@@ -10,9 +11,12 @@ use Rattle.gq_model.specs.machine.Scenario.{Component, Scenario, components, sys
 use Rattle.gq_model.specs.machine.Routes.{server_of}
 use Rattle.gq_model.specs.rules.Use.{services}
 use Rattle.gq_resolve.specs.Served.{once, without}
-use Rattle.gq_views.specs.internal.Opened_services.{opened_among, opened_at, opened_by, opened_by_all, opened_of, opens_of}
+use Rattle.gq_resolve.proofs.Mapped_list_growth.{next_is}
+use Rattle.gq_views.specs.internal.Opened_services.{opened_among, opened_at, opened_by, opened_by_all, opened_by_table, opened_of, opens_of}
+use Rattle.gq_views.specs.internal.Table_leaves.{LeafOfAll}
 use Rattle.gq_views.specs.Listing.{line}
 use Rattle.gq_views.specs.Tree.{first_of_each, leaf_opens, opens_lines, server_label}
+use Rattle.gq_views.proofs.Table_leaf_servers.{AreAmong, among_once, among_self, served_each}
 
 -- EACH ONCE
 
@@ -46,6 +50,24 @@ pub each_first : (l : List (List ℕ)) → once l ≡ first_of_each [] l
 each_first l = sym (firsts [] l ∙ none_before (once l))
 
 -- BY LEAVES
+
+-- what the table has of the services that a leaf opens, each once
+pub opened_listed : (l : LeafOfAll) → opened_by_table l (first_of_each [] (services l.component)) ≡ opened_by l.all l.component
+opened_listed l =
+    let all = services l.component in
+    served_each (λ s o. (s, o)) l (first_of_each [] all) (subst (AreAmong all) (each_first all) (among_once all all (among_self all)))
+
+-- one leaf more
+pub opened_put : {V : Type 0} (f : V → List (List ℕ × Option ℕ)) (all : List Component) (i : ℕ) (c : Component) → i < length all → c ≡ get_or all i c
+    → (old new : List V) (v : V) → new ≡ old ++ v ∷ [] → f v ≡ opened_by all c
+    → map f new ++ opened_by_all all (drop (i + 1) all) ≡ map f old ++ opened_by_all all (drop i all)
+opened_put f all i c within is old new v put made =
+    let left = opened_by_all all (drop (i + 1) all) in
+    ap (λ l. map f l ++ left) put
+    ∙ ap (λ l. l ++ left) (map-append f old (v ∷ []))
+    ∙ append_assoc (map f old) (f v ∷ []) left
+    ∙ ap (λ o. map f old ++ o ∷ left) made
+    ∙ ap (λ l. map f old ++ opened_by_all all l) (sym (next_is all i c within is))
 
 opened_is : {V : Type 0} (f : V → List (List ℕ × Option ℕ)) (vs : List V) (s : Scenario) (x : ℕ)
     → map f vs ≡ opened_by_all (components s) (components s)

@@ -1,21 +1,22 @@
 // An accepted scenario with all that is reported of it: its leaves, the services that each opens, and what each uses at most.
-ghost use Rattle.std.specs.Prelude.{◌≡◌, ◌<◌, ◌≤◌, ◌^◌, [], IfOk, length, map, slice_get};
+ghost use Rattle.std.specs.Prelude.{◌≡◌, ◌<◌, ◌≤◌, ◌^◌, [], IfOk, length, map, option_map, slice_get};
 ghost use Rattle.gq_model.specs.machine.Routes as routes;
 ghost use Rattle.gq_model.specs.machine.Scenario as model;
 ghost use Rattle.gq_model.specs.machine.Scenario.{system};
 ghost use Rattle.gq_model.specs.rules.Accept as accept;
-ghost use Rattle.gq_model.specs.rules.Use.{services, services_in};
-ghost use Rattle.gq_views.specs.internal.Opened_services.{IsDrawn, opened_among, opened_by, opened_at, opened_by_all};
+ghost use Rattle.gq_model.specs.rules.Use.{services_in};
+ghost use Rattle.gq_laws.specs.Ready.{IsReady};
+ghost use Rattle.gq_views.specs.internal.Opened_services.{IsDrawn, opened_at, opened_by, opened_by_all, opened_by_table, started_after};
+ghost use Rattle.gq_views.specs.internal.Table_leaves.{leaf_of};
 ghost use Rattle.gq_views.specs.Tree.{first_of_each, server_label};
 ghost use Rattle.gq_scenario.specs.Component_trees.{version_number};
 
+use crate::table_leaf::TableLeaf;
 use gq_load::budget::Budget;
 use gq_model::program::Name;
 use gq_program::program_tree::Program;
 use gq_resolve::NodeTable;
-use gq_resolve::component::{Component, components};
 use gq_resolve::opened_services::{once, opened};
-use gq_resolve::routes::{numbered, server_of};
 use gq_scenario::component_tree::copied;
 use gq_scenario::scenario::{LeafNo, Scenario, Version};
 use std::alloc::{AllocError, Global};
@@ -37,50 +38,37 @@ fn services_of(alloc: Global, program: &Program) -> Result<Vec<Name>, AllocError
 // These services of a leaf, each with the leaf that serves it.
 fn with_servers(
     alloc: Global,
-    components: &[Component<'_>],
-    component: &Component<'_>,
+    client: &TableLeaf<'_>,
     services: &[Name],
 ) -> Result<Vec<Opened>, AllocError>
-    requires { length components.now ≤ 64 }
-    ensures { IfOk result (λ l. l.items ≡ opened_among components.now component.now services.now) }
+    ensures { IfOk result (λ l. l.items ≡ opened_by_table client.now services.now) }
 {
     let mut all = Vec::new(alloc);
     for service in services {
-        all.push((copied(service), server_of(components, component, service)))?;
+        all.push((copied(service), client.server(service)))?;
     }
     Ok(all)
 }
 
-// The services that a leaf of this program opens, each with the leaf that serves it.
-fn leaf_opened(
-    alloc: Global,
-    components: &[Component<'_>],
-    component: &Component<'_>,
-    program: &Program,
-) -> Result<Vec<Opened>, AllocError>
-    requires few { length components.now ≤ 64 }
-    requires program { program.now ≡ component.now.node.program }
-    ensures { IfOk result (λ l. l.items ≡ opened_by components.now component.now) }
+// The services that a leaf opens, each once, with the leaf that serves it.
+fn leaf_opened(alloc: Global, client: &TableLeaf<'_>) -> Result<Vec<Opened>, AllocError>
+    ensures { IfOk result (λ l. l.items ≡ opened_by client.now.all client.now.component) }
 {
-    let services = services_of(alloc, program)?;
-    let opened = with_servers(alloc, components, component, services.as_slice());
+    let services = services_of(alloc, client.program())?;
+    let opened = with_servers(alloc, client, services.as_slice());
     drop(services);
     opened
 }
 
-// Those of all leaves, which have these programs.
-fn all_opened(
-    alloc: Global,
-    components: &[Component<'_>],
-    programs: &[Program],
-) -> Result<Vec<Vec<Opened>>, AllocError>
-    requires few { length components.now ≤ 64 }
-    requires programs { programs.now ≡ map (λ c. c.node.program) components.now }
-    ensures { IfOk result (λ l. map (λ v. v.items) l.items ≡ opened_by_all components.now components.now) }
+// Those of all leaves.
+fn all_opened(alloc: Global, table: &NodeTable) -> Result<Vec<Vec<Opened>>, AllocError>
+    requires { IsReady table.now }
+    ensures { IfOk result (λ l. map (λ v. v.items) l.items ≡ opened_by_all (model.components table.now) (model.components table.now)) }
 {
     let mut all = Vec::new(alloc);
-    for (place, component) in components.iter().enumerate() {
-        all.push(leaf_opened(alloc, components, component, &programs[place])?)?;
+    for number in 0..table.leaf_count() {
+        let client = TableLeaf::new(table, LeafNo::new(number as u32));
+        all.push(leaf_opened(alloc, &client)?)?;
     }
     Ok(all)
 }
@@ -88,8 +76,7 @@ fn all_opened(
 // What is reported of an accepted scenario.
 #[derive(Drop)]
 pub(crate) struct Drawn<'a> {
-    scenario: &'a Scenario,
-    components: Vec<Component<'a>>,
+    table: &'a NodeTable,
     opened: Vec<Vec<Opened>>,
     budgets: &'a [Budget],
 }
@@ -105,9 +92,9 @@ impl<'a> Model for Drawn<'a> {
 
     ghost coded = { Prim.hlevel (codes, nodes_code (Prim.hlevel (codes, statements_code (Prim.hlevel codes))) (Prim.hlevel codes)) };
 
-    ghost view = { λ d. d.scenario.now };
+    ghost view = { λ d. d.table.now };
 
-    ghost invariant = { λ d. IsDrawn d.scenario.now d.components.items (map (λ v. v.items) d.opened.items) d.budgets.now };
+    ghost invariant = { λ d. IsDrawn d.table.now (map (λ v. v.items) d.opened.items) d.budgets.now };
 }
 
 impl<'a> Drawn<'a> {
@@ -117,16 +104,13 @@ impl<'a> Drawn<'a> {
         table: &'a NodeTable,
         budgets: &'a [Budget],
     ) -> Result<Drawn<'a>, AllocError>
-        requires { budgets.now ≡ accept.budgets table.now }
+        requires ready { IsReady table.now }
+        requires budgets { budgets.now ≡ accept.budgets table.now }
         ensures { IfOk result (λ d. d ≡ table.now) }
     {
-        let _leaves = table.leaf_count();
-        let scenario = table.scenario();
-        let components = components(alloc, scenario)?;
-        let opened = all_opened(alloc, components.as_slice(), table.programs())?;
+        let opened = all_opened(alloc, table)?;
         Ok(Drawn {
-            scenario,
-            components,
+            table,
             opened,
             budgets,
         })
@@ -136,23 +120,22 @@ impl<'a> Drawn<'a> {
     pub(crate) fn scenario(&self) -> &Scenario
         ensures { result.now ≡ self.now }
     {
-        self.scenario
+        self.table.scenario()
     }
 
     // Its version.
     pub(crate) fn version(&self) -> Version
         ensures { version_number result ≡ self.now.version }
     {
-        self.scenario.version()
+        self.table.scenario().version()
     }
 
-    // Its leaves, in preorder.
-    pub(crate) fn components(&self) -> &[Component<'a>]
-        ensures all { result.now ≡ model.components self.now }
-        ensures few { length result.now ≤ 64 }
+    // The number of its leaves.
+    pub(crate) fn leaf_count(&self) -> usize
+        ensures count { result ≡ length (model.components self.now) }
+        ensures few { result ≤ 64 }
     {
-        self.scenario.bounds();
-        self.components.as_slice()
+        self.table.leaf_count()
     }
 
     // The label of a server, if there is one.
@@ -160,10 +143,13 @@ impl<'a> Drawn<'a> {
         ensures { result.now ≡ server_label (system self.now) server }
     {
         match server {
-            Some(leaf) => match self.components.get(leaf.index()) {
-                Some(component) => component.label(),
-                None => &[],
-            },
+            Some(leaf) => {
+                if leaf.index() < self.table.leaf_count() {
+                    self.table.label(self.table.node(leaf))
+                } else {
+                    &[]
+                }
+            }
             None => &[],
         }
     }
@@ -185,10 +171,12 @@ impl<'a> Drawn<'a> {
         self.budgets.get(place).copied()
     }
 
-    // The leaf of this name.
-    pub(crate) fn numbered(&self, name: &Name) -> Option<LeafNo>
-        ensures { result ≡ routes.numbered 0 name.now (system self.now).components }
+    // The leaf that the leaf at this place starts after.
+    pub(crate) fn after(&self, place: usize) -> Option<LeafNo>
+        requires { place < length (model.components self.now) }
+        ensures { result ≡ started_after self.now (slice_get (model.components self.now) place) }
     {
-        numbered(name, self.components())
+        let _leaves = self.table.leaf_count();
+        self.table.after(LeafNo::new(place as u32))
     }
 }

@@ -6,11 +6,12 @@ ghost use Rattle.gq_model.specs.machine.Scenario.{system};
 ghost use Rattle.gq_model.specs.rules.Accept as accept;
 ghost use Rattle.gq_load.specs.Load_faults.{Refuses};
 ghost use Rattle.gq_load.specs.Load.{loaded};
+ghost use Rattle.gq_laws.specs.Ready.{IsReady};
 ghost use Rattle.gq_scenario.specs.Sizes.{node_count, leaf_places};
 ghost use Rattle.gq_scenario.specs.Component_trees.{version_number};
 ghost use Rattle.gq_views.specs.internal.Opened_services.{arrows_of, opened_at};
 ghost use Rattle.gq_views.specs.Listing.{line};
-ghost use Rattle.gq_views.specs.Tree.{after_arrow, all_afters, all_services, arrow, arrow_from, arrow_to, budget_part, cluster, graph_text, in_quotes};
+ghost use Rattle.gq_views.specs.Tree.{all_afters, all_services, arrow, arrow_from, arrow_to, budget_part, cluster, graph_text, in_quotes};
 ghost use Rattle.gq_views.specs.Tree.{init_label, inputs_part, leaf_label, next_part, node_boxes, node_name, point_line, provides_part};
 ghost use Rattle.gq_views.specs.Views_written.{graph_written};
 ghost use Rattle.gq_reports.specs.Command_outcomes.{WritesAs};
@@ -24,6 +25,7 @@ use crate::view_words::{
 use gq_load::accepted::Accepted;
 use gq_load::budget::Budget;
 use gq_load::load_fault::LoadError;
+use gq_load::read::read_laws;
 use gq_model::program::Name;
 use gq_output::counted::Counted;
 use gq_reports::RunFault;
@@ -359,7 +361,7 @@ fn push_all_services(
 ) -> Result<(), AllocError>
     ensures { OnOk result (text.new.items ≡ text.old.items ++ all_services (system drawn.now) places.now 0 (model.components drawn.now)) }
 {
-    for (leaf, _component) in drawn.components().iter().enumerate() {
+    for leaf in 0..drawn.leaf_count() {
         push_services(text, places, place_of(places, leaf), drawn.opened(leaf))?;
     }
     Ok(())
@@ -368,17 +370,13 @@ fn push_all_services(
 // The arrow to a leaf that starts after another, from that one; its node has this place.
 fn push_after(
     text: &mut Vec<u8>,
-    drawn: &Drawn<'_>,
     places: &[NodeNo],
     to: usize,
-    after: Option<&Name>,
+    after: Option<LeafNo>,
 ) -> Result<(), AllocError>
-    ensures { OnOk result (text.new.items ≡ text.old.items ++ after_arrow (system drawn.now) places.now to (option_map (λ n. n.now) after.entry)) }
+    ensures { OnOk result (text.new.items ≡ text.old.items ++ arrow_from places.now after to) }
 {
-    let Some(name) = after else {
-        return Ok(());
-    };
-    match drawn.numbered(name) {
+    match after {
         Some(leaf) => push_arrow(
             text,
             place_of(places, leaf.index()),
@@ -397,14 +395,8 @@ fn push_all_afters(
 ) -> Result<(), AllocError>
     ensures { OnOk result (text.new.items ≡ text.old.items ++ all_afters (system drawn.now) places.now 0 (model.components drawn.now)) }
 {
-    for (leaf, component) in drawn.components().iter().enumerate() {
-        push_after(
-            text,
-            drawn,
-            places,
-            place_of(places, leaf),
-            component.leaf().after(),
-        )?;
+    for leaf in 0..drawn.leaf_count() {
+        push_after(text, places, place_of(places, leaf), drawn.after(leaf))?;
     }
     Ok(())
 }
@@ -456,6 +448,7 @@ fn drawn_text(alloc: Global, drawn: &Drawn<'_>) -> Result<Vec<u8>, AllocError>
 
 // The text of the graph of an accepted scenario.
 fn accepted_text(alloc: Global, accepted: &Accepted) -> Result<Vec<u8>, AllocError>
+    requires { IsReady accepted.now }
     ensures { IfOk result (λ text. text.items ≡ graph_text accepted.now) }
 {
     let drawn = Drawn::of(alloc, accepted.table(), accepted.budgets())?;
@@ -469,6 +462,7 @@ fn loaded_text(alloc: Global, scenario: &[u8]) -> Result<Vec<u8>, LoadError>
     ensures text { IfOk result (λ text. IsOkAnd (loaded scenario.now) (λ s. text.items ≡ graph_text s)) }
     ensures refused { IfErr result (λ e. Refuses e (loaded scenario.now)) }
 {
+    read_laws();
     let accepted = Accepted::read(alloc, scenario)?;
     let text = accepted_text(alloc, &accepted);
     drop(accepted);

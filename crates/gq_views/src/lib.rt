@@ -15,7 +15,8 @@
 //!
 //! Each of these writes the text of its definition (`specs/Written`) and nothing else, and refuses what `check` and `asm` refuse.
 //!
-//! Modules: programs (`list`, `listing`, `numbered_listing`, `instruction_text`), scenarios (`tree`, `graph`), and what both need (`drawn`).
+//! Modules: programs (`list`, `listing`, `numbered_listing`, `instruction_text`), scenarios (`tree`, `graph`), and what both need (`drawn`). What is asked of a
+//! leaf of a loaded scenario is asked of the table of nodes, by the leaf's number (`table_leaf`).
 #![tactic(auto)]
 
 mod drawn;
@@ -26,6 +27,7 @@ pub mod list;
 pub mod listing;
 pub mod margin;
 pub mod numbered_listing;
+pub mod table_leaf;
 pub mod tree;
 pub mod view_laws;
 pub mod view_words;

@@ -5,6 +5,7 @@ ghost use Rattle.gq_model.specs.machine.Scenario.{components, system};
 ghost use Rattle.gq_model.specs.rules.Accept as accept;
 ghost use Rattle.gq_load.specs.Load_faults.{Refuses};
 ghost use Rattle.gq_load.specs.Load.{loaded};
+ghost use Rattle.gq_laws.specs.Ready.{IsReady};
 ghost use Rattle.gq_scenario.specs.Sizes.{node_count};
 ghost use Rattle.gq_scenario.specs.Component_trees.{version_number};
 ghost use Rattle.gq_views.specs.internal.Opened_services.{opens_of};
@@ -20,6 +21,7 @@ use crate::view_words::{end_line, push_amounts, push_entry, push_indent};
 use gq_load::accepted::Accepted;
 use gq_load::budget::Budget;
 use gq_load::load_fault::LoadError;
+use gq_load::read::read_laws;
 use gq_model::program::Name;
 use gq_output::counted::Counted;
 use gq_reports::RunFault;
@@ -296,6 +298,7 @@ fn drawn_text(alloc: Global, drawn: &Drawn<'_>) -> Result<Vec<u8>, AllocError>
 
 // The text of the tree of an accepted scenario.
 fn accepted_text(alloc: Global, accepted: &Accepted) -> Result<Vec<u8>, AllocError>
+    requires { IsReady accepted.now }
     ensures { IfOk result (λ text. text.items ≡ tree_text accepted.now) }
 {
     let drawn = Drawn::of(alloc, accepted.table(), accepted.budgets())?;
@@ -309,6 +312,7 @@ fn loaded_text(alloc: Global, scenario: &[u8]) -> Result<Vec<u8>, LoadError>
     ensures text { IfOk result (λ text. IsOkAnd (loaded scenario.now) (λ s. text.items ≡ tree_text s)) }
     ensures refused { IfErr result (λ e. Refuses e (loaded scenario.now)) }
 {
+    read_laws();
     let accepted = Accepted::read(alloc, scenario)?;
     let text = accepted_text(alloc, &accepted);
     drop(accepted);

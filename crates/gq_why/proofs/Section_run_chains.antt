@@ -4,7 +4,7 @@ use Rattle.std.proofs.Common.{sym, ◌∙◌, arith}
 use Rattle.std.specs.Prelude.{slice_get, if◌then◌else◌}
 use Rattle.std.proofs.lemmas.Bool.{true≢false}
 use Rattle.gq_model.specs.declared.section.Section.{Section}
-use Rattle.gq_model.specs.declared.section.Section.TheVariants.{Main, Opening, Upgrading, Calling, Closing}
+use Rattle.gq_model.specs.declared.section.Section.TheVariants.{Main, Opening, Upgrading, Calling, Closing, Reacting}
 use Rattle.gq_model.specs.machine.Program.{Statements}
 use Rattle.gq_model.specs.machine.Scenario.{System, Component}
 use Rattle.gq_model.specs.machine.Routes.{server_of}
@@ -52,6 +52,7 @@ main_once (suc d) system x = refl
 pub times_asked : (d : ℕ) (system : System) (x : ℕ) (section : Section) → is_own_section section ≡ false
     → times (suc d) system x section ≡ asked_of (times d system) system x section (provided_by (slice_get system.components x))
 times_asked d system x Main e = absurd (true≢false e)
+times_asked d system x (Reacting i) e = absurd (true≢false e)
 times_asked d system x Opening e = refl
 times_asked d system x (Upgrading l) e = refl
 times_asked d system x (Calling l) e = refl
@@ -61,11 +62,13 @@ module _ (system : System) where
   -- by longer chains no less often
   longer_more : (d x : ℕ) (section : Section) → times d system x section ≤ times (suc d) system x section
   longer_more zero x Main = omega arith
+  longer_more zero x (Reacting i) = omega arith
   longer_more zero x Opening = omega arith
   longer_more zero x (Upgrading l) = omega arith
   longer_more zero x (Calling l) = omega arith
   longer_more zero x (Closing l) = omega arith
   longer_more (suc d) x Main = omega arith
+  longer_more (suc d) x (Reacting i) = omega arith
   longer_more (suc d) x Opening =
       asked_more system (times d system) (times (suc d) system) (longer_more d) x Opening (provided_by (slice_get system.components x))
   longer_more (suc d) x (Upgrading l) =
@@ -81,7 +84,7 @@ module _ (system : System) where
   times_end resolved x section =
       let n = length system.components in
       let once = λ (y : ℕ). main_once (suc n) system y in
-      let less = counts_bounded system resolved (times (suc n) system) (λ y. omega (arith, once y)) (λ y s outside.
+      let less = counts_bounded system resolved (times (suc n) system) (λ y. omega (arith, once y)) (λ y i. refl) (λ y s outside.
       let e = times_asked n system y s outside in
       let more = asked_more system (times n system) (times (suc n) system) (longer_more n) y s (provided_by (slice_get system.components y)) in
       omega (arith, e, more)) x section in

@@ -8,7 +8,7 @@ use Rattle.gq_model.specs.declared.fault.Rule.TheVariants.{BudgetTooLarge}
 use Rattle.gq_model.specs.declared.program.Instruction.{Instruction}
 use Rattle.gq_model.specs.declared.program.Instruction.TheVariants.{Open, Upgrade, Call, Close}
 use Rattle.gq_model.specs.declared.section.Section.{Section}
-use Rattle.gq_model.specs.declared.section.Section.TheVariants.{Main, Opening, Upgrading, Calling, Closing}
+use Rattle.gq_model.specs.declared.section.Section.TheVariants.{Main, Opening, Upgrading, Calling, Closing, Reacting}
 use Rattle.gq_model.specs.machine.Amounts.{Amount}
 use Rattle.gq_model.specs.machine.Program.{Statements, Done, Do, If, Loop, body_of, section_in, size, text_eq}
 use Rattle.gq_model.specs.machine.Sections.{same_section}
@@ -74,6 +74,7 @@ section_more Opening b = omega arith
 section_more (Upgrading l) b = omega arith
 section_more (Calling l) b = omega arith
 section_more (Closing l) b = omega arith
+section_more (Reacting i) b = omega arith
 
 -- a section that is there is found by its name
 there_found : (sections : List (Section × Statements)) (k : ℕ) (p : Section × Statements) → slice_get sections k ≡ Some p

@@ -5,7 +5,7 @@ use Rattle.gq_tariff.specs.Prices.{classes}
 use Rattle.gq_model.specs.declared.program.Form.{Form}
 use Rattle.gq_model.specs.declared.program.Form.TheVariants.{Block, Slice, Space}
 use Rattle.gq_model.specs.declared.section.Section.{Section}
-use Rattle.gq_model.specs.declared.section.Section.TheVariants.{Main}
+use Rattle.gq_model.specs.declared.section.Section.TheVariants.{Main, Reacting}
 use Rattle.gq_model.specs.machine.Accounts.{reported}
 use Rattle.gq_model.specs.machine.Amounts.{Amount, Resource, Ram, Caps, part}
 use Rattle.gq_model.specs.machine.Resource_prices.{chunks}
@@ -52,6 +52,7 @@ points_of v section =
 -- those of the sections of a level
 abbrev pub is_of_level : ℕ → Section → Bool
 is_of_level l Main = false
+is_of_level l (Reacting i) = false
 is_of_level l section = level_of section == l
 
 abbrev pub points_at : Subject → ℕ → List (Section × Statements) → List Point
@@ -202,6 +203,7 @@ askers_from all x service section y (c ∷ rest) =
 abbrev pub askers : System → ℕ → Option (List ℕ) → Section → List ℕ
 askers all x None section = []
 askers all x (Some service) Main = []
+askers all x (Some service) (Reacting i) = []
 askers all x (Some service) section = askers_from all x service section 0 all.components
 
 abbrev pub section_lines : System → ℕ → Component → List (Section × Statements) → List ℕ

@@ -67,7 +67,7 @@ fn is_of_level(section: Section, level: u8) -> bool
     ensures { result ≡ is_of_level level section }
 {
     match section {
-        Section::Main => false,
+        Section::Main | Section::Reacting(_) => false,
         _ => section.level() == level,
     }
 }

@@ -151,7 +151,7 @@ impl<'a> StepCounts<'a> {
             return Ok(());
         };
         match asked {
-            Section::Main => Ok(()),
+            Section::Main | Section::Reacting(_) => Ok(()),
             _ => self.push_users(text, leaf, service, asked),
         }
     }

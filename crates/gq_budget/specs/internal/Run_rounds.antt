@@ -2,7 +2,7 @@
 use Rattle.std.specs.Prelude.{ℕ, zero, suc, ◌+◌, ◌*◌, if◌then◌else◌, Bool, List, [], ◌∷◌, ◌++◌, Option, Some, None, get_or}
 use Rattle.gq_model.specs.machine.Sections.{same_section}
 use Rattle.gq_model.specs.declared.section.Section.{Section}
-use Rattle.gq_model.specs.declared.section.Section.TheVariants.{Main}
+use Rattle.gq_model.specs.declared.section.Section.TheVariants.{Main, Reacting}
 use Rattle.gq_verify.specs.declared.asked.Asker.{Asker}
 use Rattle.gq_verify.specs.Requested.{Requested}
 use Rattle.gq_verify.specs.Askers.{askers_of}
@@ -58,6 +58,7 @@ asked_sum section (a ∷ rest) table = (if same_section section a.section then a
 -- `main` runs once; another section as often as it is asked for
 abbrev pub often : Section → List Asker → List (List ℕ) → ℕ
 often Main askers table = 1
+often (Reacting i) askers table = 0
 often section askers table = saturated (asked_sum section askers table)
 
 abbrev pub leaf_round : List Section → List Asker → List (List ℕ) → List ℕ

@@ -5,7 +5,7 @@ use Rattle.std.proofs.lemmas.Option.{slice_get-map}
 use Rattle.std.specs.Prelude.{option_map, nat_lt, slice_get}
 use Rattle.gq_model.specs.declared.program.Form.TheVariants.{Block, Slice, Space}
 use Rattle.gq_model.specs.declared.section.Section.{Section}
-use Rattle.gq_model.specs.declared.section.Section.TheVariants.{Main, Opening, Upgrading, Calling, Closing}
+use Rattle.gq_model.specs.declared.section.Section.TheVariants.{Main, Opening, Upgrading, Calling, Closing, Reacting}
 use Rattle.gq_model.specs.declared.phase.Phase.{Phase}
 use Rattle.gq_model.specs.declared.program.Instruction.{Instruction}
 use Rattle.gq_model.specs.declared.phase.Phase.TheVariants.{Pending, Running, Blocked, Serving, Handling, Exited}
@@ -218,6 +218,7 @@ module _ (f : ℕ → ℕ) (aside : Aside) (d : Doing) (v : World) (K End : Worl
           (both_when End (paid d.system (closed d g.session s)) (paid d.system (closed e (f g.session) (renamed_session f s))) ExceededQuota ExceededQuota _ _
           (λ i. h.within.pays (closed e (f g.session) (renamed_session f s)))
           (both_give End (closed d g.session s) (closed e (f g.session) (renamed_session f s)) Quiet (h.close g s at there)))
+      both_reply (Reacting i) = one_fails End WrongKind _
 
     -- THE END OF A SECTION
 

@@ -7,7 +7,7 @@ use Rattle.gq_model.specs.declared.fault.Wrong.TheVariants.{WrongKind, ExceededQ
 use Rattle.gq_model.specs.declared.phase.Phase.{Phase}
 use Rattle.gq_model.specs.declared.phase.Phase.TheVariants.{Pending, Running, Blocked, Serving, Handling, Exited}
 use Rattle.gq_model.specs.declared.section.Section.{Section}
-use Rattle.gq_model.specs.declared.section.Section.TheVariants.{Main, Opening, Upgrading, Calling, Closing}
+use Rattle.gq_model.specs.declared.section.Section.TheVariants.{Main, Opening, Upgrading, Calling, Closing, Reacting}
 use Rattle.gq_model.specs.machine.Program.{Statements, Done, Do, If, Loop}
 use Rattle.gq_model.specs.machine.Scenario.{Scenario, System, Component, system}
 use Rattle.gq_model.specs.machine.World.{Empty, Link, Session, Request, Current, Round, Leaf, World, session_at, with_slot, start_leaves}
@@ -86,6 +86,7 @@ module _ (d : Doing) (h : AreWithin d.world) (own : Within classes d.leaf.slots 
   reply_within k (Upgrading l) s = replied_within k s _
   reply_within k (Calling l) s = pop_ends AreWithin _ _ (λ a rest. replied_within k s _)
   reply_within k (Closing l) s = close_within k s
+  reply_within k (Reacting i) s = fails _
 
   section_within : (current : Option Current) → Ends AreWithin (section_ended d current)
   section_within None = main_within d.component.node.provides

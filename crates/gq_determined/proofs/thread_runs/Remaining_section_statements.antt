@@ -6,7 +6,7 @@ use Rattle.gq_model.specs.machine.Program.{Statements, Done, Do, If, Loop, ◌th
 use Rattle.gq_model.specs.machine.Sections.{same_section, is_own_section}
 use Rattle.gq_model.specs.declared.program.Instruction.{Instruction}
 use Rattle.gq_model.specs.declared.section.Section.{Section}
-use Rattle.gq_model.specs.declared.section.Section.TheVariants.{Main, Opening, Upgrading, Calling, Closing}
+use Rattle.gq_model.specs.declared.section.Section.TheVariants.{Main, Opening, Upgrading, Calling, Closing, Reacting}
 use Rattle.gq_model.specs.declared.phase.Phase.{Phase}
 use Rattle.gq_model.specs.declared.phase.Phase.TheVariants.{Pending, Running, Blocked, Serving, Handling, Exited}
 use Rattle.gq_model.specs.machine.Scenario.{System, Component}
@@ -51,26 +51,37 @@ main_same Opening Opening e = refl
 main_same (Upgrading a) (Upgrading b) e = refl
 main_same (Calling a) (Calling b) e = refl
 main_same (Closing a) (Closing b) e = refl
+main_same (Reacting a) (Reacting b) e = refl
 main_same Main Opening e = absurd cc
 main_same Main (Upgrading b) e = absurd cc
 main_same Main (Calling b) e = absurd cc
 main_same Main (Closing b) e = absurd cc
+main_same Main (Reacting b) e = refl
 main_same Opening Main e = absurd cc
 main_same Opening (Upgrading b) e = refl
 main_same Opening (Calling b) e = refl
 main_same Opening (Closing b) e = refl
+main_same Opening (Reacting b) e = absurd cc
 main_same (Upgrading a) Main e = absurd cc
 main_same (Upgrading a) Opening e = refl
 main_same (Upgrading a) (Calling b) e = refl
 main_same (Upgrading a) (Closing b) e = refl
+main_same (Upgrading a) (Reacting b) e = absurd cc
 main_same (Calling a) Main e = absurd cc
 main_same (Calling a) Opening e = refl
 main_same (Calling a) (Upgrading b) e = refl
 main_same (Calling a) (Closing b) e = refl
+main_same (Calling a) (Reacting b) e = absurd cc
 main_same (Closing a) Main e = absurd cc
 main_same (Closing a) Opening e = refl
 main_same (Closing a) (Upgrading b) e = refl
 main_same (Closing a) (Calling b) e = refl
+main_same (Closing a) (Reacting b) e = absurd cc
+main_same (Reacting a) Main e = refl
+main_same (Reacting a) Opening e = absurd cc
+main_same (Reacting a) (Upgrading b) e = absurd cc
+main_same (Reacting a) (Calling b) e = absurd cc
+main_same (Reacting a) (Closing b) e = absurd cc
 
 asked_out : (ask : Ask) (level : ℕ) → is_own_section (section_for ask level) ≡ false
 asked_out Ask_open level = refl

@@ -9,7 +9,11 @@ use Rattle.gq_sizes.specs.Least.{sized}
 use Rattle.gq_fit.specs.declared.fit_fault.FitFault.{FitFault}
 use Rattle.gq_fit.specs.declared.fit_fault.FitFault.TheVariants as faults
 use Rattle.gq_fit.specs.declared.fit_fault.NoFit.TheVariants as reasons
+use Rattle.gq_sizes.specs.declared.quantity_lines.Least.{Least}
+use Rattle.gq_fit.specs.declared.fit_fault.MakeError.{MakeError}
+use Rattle.gq_fit.specs.declared.fit_fault.MakeError.TheVariants as errors
 use Rattle.gq_fit.specs.Fitted.{HasCode}
+use Rattle.gq_fit.specs.Reasons.{IsDue, Quantity}
 use Rattle.gq_fit.specs.Refitted.{IsRefitted}
 
 -- a text is refused with this fault
@@ -45,3 +49,12 @@ abbrev pub IsCodeFault : FitFault → Scenario → Type 0
 IsCodeFault (faults.NoFit (reasons.Code leaf)) s = HasCode leaf s
 IsCodeFault faults.Memory s = Unit {0}
 IsCodeFault _ s = ⊥
+
+-- why no text was made: the host refused memory, or it is due to one of these quantities, or to none
+abbrev pub IsDueError : MakeError → List Quantity → Type 0
+IsDueError errors.Memory all = Unit {0}
+IsDueError (errors.Misfit reason) all = IsDue reason all
+
+-- some capabilities are needed at least, or no number of them is enough
+pub record IsWanting (least : Least) : Type 0 where
+  pub wanted : least.caps ≢ Some 0

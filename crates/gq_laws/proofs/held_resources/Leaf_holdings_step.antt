@@ -9,7 +9,7 @@ use Rattle.gq_model.specs.machine.Lists.{greatest}
 use Rattle.gq_model.specs.declared.phase.Phase.{Phase}
 use Rattle.gq_model.specs.declared.phase.Phase.TheVariants.{Pending, Running, Blocked, Serving, Handling, Exited}
 use Rattle.gq_model.specs.declared.section.Section.{Section}
-use Rattle.gq_model.specs.declared.section.Section.TheVariants.{Main, Opening, Upgrading, Calling, Closing}
+use Rattle.gq_model.specs.declared.section.Section.TheVariants.{Main, Opening, Upgrading, Calling, Closing, Reacting}
 use Rattle.gq_model.specs.declared.fault.Wrong.TheVariants.{WrongKind, ExceededQuota, MissingSection}
 use Rattle.gq_model.specs.machine.Program.{section_in, body_of}
 use Rattle.gq_model.specs.machine.Scenario.{System, Component}
@@ -255,6 +255,7 @@ module _ (d : Doing) (takes : TakesLeaf d) (peaks : d.leaf.peaks ≡ takes.old.p
     replied_gives r (Upgrading l) = omega arith
     replied_gives r (Calling l) = omega arith
     replied_gives r (Closing l) = omega arith
+    replied_gives r (Reacting i) = omega arith
 
     replied_less : (r : Resource) (k : ℕ) → Less r d.world w k
     replied_less r k =
@@ -277,6 +278,7 @@ module _ (d : Doing) (takes : TakesLeaf d) (peaks : d.leaf.peaks ≡ takes.old.p
     replied_price r (Upgrading l) = omega arith
     replied_price r (Calling l) = omega arith
     replied_price r (Closing l) = omega arith
+    replied_price r (Reacting i) = omega arith
 
     replied_given : (r : Resource) (section : Section) → slot_given r w (slot_replied section g.session) ≤ slot_given r d.world (Waiting g.session)
     replied_given r Main = omega arith
@@ -284,6 +286,7 @@ module _ (d : Doing) (takes : TakesLeaf d) (peaks : d.leaf.peaks ≡ takes.old.p
     replied_given r (Upgrading l) = replied_less r g.session
     replied_given r (Calling l) = replied_less r g.session
     replied_given r (Closing l) = omega arith
+    replied_given r (Reacting i) = omega arith
 
     waits_there : (y i : ℕ) → s.slot_id ≡ In_leaf y i → slice_get z.client.slots i ≡ Some (Waiting g.session)
     waits_there y i e =

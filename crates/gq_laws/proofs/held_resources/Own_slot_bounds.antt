@@ -9,14 +9,14 @@ use Rattle.gq_model.specs.machine.Lists.{greatest}
 use Rattle.gq_model.specs.declared.phase.Phase.{Phase}
 use Rattle.gq_model.specs.declared.phase.Phase.TheVariants.{Pending, Running, Blocked, Serving, Handling, Exited}
 use Rattle.gq_model.specs.declared.section.Section.{Section}
-use Rattle.gq_model.specs.declared.section.Section.TheVariants.{Main, Opening, Upgrading, Calling, Closing}
+use Rattle.gq_model.specs.declared.section.Section.TheVariants.{Main, Opening, Upgrading, Calling, Closing, Reacting}
 use Rattle.gq_model.specs.machine.Program.{Statements, Done, Do, If, Loop}
 use Rattle.gq_model.specs.machine.Scenario.{System, Component}
 use Rattle.gq_model.specs.machine.World.{Slot, Empty, Waiting, Bytes, Pool, Link, In_leaf, Session, Current, Leaf, World, joined, session_at, slot_at}
 use Rattle.gq_model.specs.machine.World.{leaf_slot}
 use Rattle.gq_model.specs.machine.Sums.{slot_places, to_leaf, places}
 use Rattle.gq_model.specs.rules.Kinds.{Kind, AbstractState, Subject, Context, inside, no_kinds, kind_places, kinds_cost}
-use Rattle.gq_model.specs.machine.Sections.{is_own_section}
+use Rattle.gq_model.specs.machine.Sections.{is_start_section}
 use Rattle.gq_model.specs.rules.Rules.{Judged, judged}
 use Rattle.gq_model.specs.rules.Flow.{at, state_or, flow, points, context, body, start_of, bank_at}
 use Rattle.gq_laws.specs.Current_section_facts.{section_if, current_section, within, bank_kinds}
@@ -44,6 +44,7 @@ once_same most Opening state = (refl, refl)
 once_same most (Upgrading l) state = (refl, refl)
 once_same most (Calling l) state = (refl, refl)
 once_same most (Closing l) state = (refl, refl)
+once_same most (Reacting i) state = (refl, refl)
 
 -- a leaf goes on with the slots with which it stands
 pub goes_same : (system : System) (w : World) (x : ℕ) (phase : Phase) (state next : AbstractState) → GoesOnFrom system w x phase state next
@@ -56,12 +57,13 @@ goes_same system w x Serving state next e = (ap (λ (s : AbstractState). s.own) 
 goes_same system w x Handling state next e = (ap (λ (s : AbstractState). s.own) e, ap (λ (s : AbstractState). s.bank) e)
 goes_same system w x Exited state next e = (ap (λ (s : AbstractState). s.own) e, ap (λ (s : AbstractState). s.bank) e)
 
-is_main : (section : Section) → is_own_section section ≡ true → section ≡ Main
+is_main : (section : Section) → is_start_section section ≡ true → section ≡ Main
 is_main Main e = refl
 is_main Opening e = absurd cc
 is_main (Upgrading l) e = absurd cc
 is_main (Calling l) e = absurd cc
 is_main (Closing l) e = absurd cc
+is_main (Reacting i) e = absurd cc
 
 -- POINTS WITHOUT PLACES OF THE HEAP
 
@@ -126,9 +128,9 @@ module _ (promised : ℕ → Option Kind) (system : System) (sure : IsSure syste
 
     -- no number of the own kinds is greater than at the points of `main`
     pub own_under : (g : List Kind → ℕ) → g s.state.own ≤ greatest (λ (u : AbstractState). g u.own) (main_points v)
-    own_under g = by (is_own_section section) refl
+    own_under g = by (is_start_section section) refl
       where
-        by : (b : Bool) → is_own_section section ≡ b → g s.state.own ≤ greatest (λ (u : AbstractState). g u.own) (main_points v)
+        by : (b : Bool) → is_start_section section ≡ b → g s.state.own ≤ greatest (λ (u : AbstractState). g u.own) (main_points v)
         by true e =
             let here = point_here (λ (u : AbstractState). g u.own) (context v section) s.next leaf.todo leaf.loops in
             let whole = (s.also c at_place).0 (λ (u : AbstractState). g u.own) in

@@ -8,7 +8,7 @@ use Rattle.gq_model.specs.machine.Amounts.{Resource, part}
 use Rattle.gq_model.specs.machine.Resource_prices.{price_memory}
 use Rattle.gq_model.specs.declared.program.Form.TheVariants.{Slice}
 use Rattle.gq_model.specs.declared.section.Section.{Section}
-use Rattle.gq_model.specs.declared.section.Section.TheVariants.{Main, Opening, Upgrading, Calling, Closing}
+use Rattle.gq_model.specs.declared.section.Section.TheVariants.{Main, Opening, Upgrading, Calling, Closing, Reacting}
 use Rattle.gq_model.specs.declared.phase.Phase.{Phase}
 use Rattle.gq_model.specs.declared.phase.Phase.TheVariants.{Pending, Running, Blocked, Serving, Handling, Exited}
 use Rattle.gq_model.specs.machine.Scenario.{Interface, System, Component, interface_in, number_of}
@@ -45,6 +45,7 @@ level_is Opening level at = at
 level_is (Upgrading l) level at = at
 level_is (Calling l) level at = at
 level_is (Closing l) level at = at
+level_is (Reacting i) level at = absurd at
 
 -- a reply changes no slot of the current session
 replied_bank : (most : ℕ) (section : Section) (state : AbstractState) → (once_replied most section state).bank ≡ state.bank
@@ -53,6 +54,7 @@ replied_bank most Opening state = refl
 replied_bank most (Upgrading l) state = refl
 replied_bank most (Calling l) state = refl
 replied_bank most (Closing l) state = refl
+replied_bank most (Reacting i) state = refl
 
 from_bank : (system : System) (w : World) (x : ℕ) (phase : Phase) (state next : AbstractState) → GoesOnFrom system w x phase state next → next.bank ≡ state.bank
 from_bank system w x Pending state next e = ap (λ (s : AbstractState). s.bank) e

@@ -5,7 +5,7 @@ use Rattle.std.proofs.lemmas.Bool.Decides.{eqb_tells}
 use Rattle.gq_model.specs.machine.Amounts.{Resource, part}
 use Rattle.gq_model.specs.declared.phase.Phase.TheVariants.{Serving}
 use Rattle.gq_model.specs.declared.section.Section.{Section}
-use Rattle.gq_model.specs.declared.section.Section.TheVariants.{Main, Opening, Upgrading, Calling, Closing}
+use Rattle.gq_model.specs.declared.section.Section.TheVariants.{Main, Opening, Upgrading, Calling, Closing, Reacting}
 use Rattle.gq_model.specs.machine.Program.{section_in, body_of}
 use Rattle.gq_model.specs.machine.Scenario.{Interface, System, interface_in}
 use Rattle.gq_model.specs.machine.World.{Slot, Waiting, In_session, Session, Ask, Ask_open, Ask_upgrade, Ask_close, Ask_call, Request, Current, Leaf, World}
@@ -226,6 +226,7 @@ module _ (promised : ℕ → Option Kind) (d : Doing) (sure : IsSure d.system) (
     replied_given r (Upgrading l) = omega arith
     replied_given r (Calling l) = omega arith
     replied_given r (Closing l) = omega arith
+    replied_given r (Reacting i) = omega arith
 
     replied_same : (section : Section) (u : Session) → session_replied section s ≡ Some u → s ≡ u
     replied_same Main u e = absurd (none_some e)
@@ -233,6 +234,7 @@ module _ (promised : ℕ → Option Kind) (d : Doing) (sure : IsSure d.system) (
     replied_same (Upgrading l) u e = some_same e
     replied_same (Calling l) u e = some_same e
     replied_same (Closing l) u e = absurd (none_some e)
+    replied_same (Reacting i) u e = absurd (none_some e)
 
     -- the client's slot costs nothing, and has lent no more
     replied_price : (r : Resource) (section : Section) → slot_price r (slot_replied section g.session) ≤ 0
@@ -241,6 +243,7 @@ module _ (promised : ℕ → Option Kind) (d : Doing) (sure : IsSure d.system) (
     replied_price r (Upgrading l) = omega arith
     replied_price r (Calling l) = omega arith
     replied_price r (Closing l) = omega arith
+    replied_price r (Reacting i) = omega arith
 
     replied_lent : (r : Resource) (section : Section) → slot_given r w (slot_replied section g.session) ≤ given_by r (session_at w g.session)
     replied_lent r Main = omega arith
@@ -248,6 +251,7 @@ module _ (promised : ℕ → Option Kind) (d : Doing) (sure : IsSure d.system) (
     replied_lent r (Upgrading l) = omega arith
     replied_lent r (Calling l) = omega arith
     replied_lent r (Closing l) = omega arith
+    replied_lent r (Reacting i) = omega arith
 
     abbrev slot : Slot
     slot = slot_replied g.section g.session

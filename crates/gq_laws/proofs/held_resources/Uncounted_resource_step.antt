@@ -5,7 +5,7 @@ use Rattle.gq_model.specs.machine.Program.{Statements, Done, Do, If, Loop}
 use Rattle.gq_model.specs.declared.program.Instruction.{Instruction}
 use Rattle.gq_model.specs.declared.program.Instruction.TheVariants.{Call}
 use Rattle.gq_model.specs.declared.section.Section.{Section}
-use Rattle.gq_model.specs.declared.section.Section.TheVariants.{Main, Opening, Upgrading, Calling, Closing}
+use Rattle.gq_model.specs.declared.section.Section.TheVariants.{Main, Opening, Upgrading, Calling, Closing, Reacting}
 use Rattle.gq_model.specs.declared.phase.Phase.{Phase}
 use Rattle.gq_model.specs.declared.phase.Phase.TheVariants.{Pending, Running, Blocked, Serving, Handling, Exited}
 use Rattle.gq_model.specs.declared.fault.Wrong.{Wrong}
@@ -190,6 +190,7 @@ module _ (d : Doing) where
   reply_alike k (Upgrading l) s = replied_alike k s _
   reply_alike k (Calling l) s = pop_alike d.system _ _ _ (λ a rest. replied_alike k s _)
   reply_alike k (Closing l) s = when_alike d.system _ WrongKind _ _ other_kind (if_paid_alike d.system _ Quiet)
+  reply_alike k (Reacting i) s = fails_alike d.system WrongKind other_kind
 
   main_alike : (provides : Option (List ℕ)) → Twin d (main_ended d provides) (main_ended (free_of_quota d) provides)
   main_alike (Some service) = ends_alike d.system _ Quiet

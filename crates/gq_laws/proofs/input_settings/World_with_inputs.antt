@@ -195,6 +195,7 @@ module _ (w : World) (x : ℕ) (leaf : Leaf) (there : slice_get w.leaves x ≡ S
       let same : (y : ℕ) → waiting w y ≡ waiting v y = λ y. sym (λ i section. waiting_with y section w.requests i) in
       record {
         once = h.once;
+        never = h.never;
         taken = λ y c l placed e.
             let b = was y l e in
             subst (λ (l : Leaf). l.steps + ahead l l.phase + steps_of (waiting v y) c.node.program.sections ≤ steps_of (done y) c.node.program.sections)

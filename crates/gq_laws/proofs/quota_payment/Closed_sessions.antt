@@ -8,7 +8,7 @@ use Rattle.gq_model.specs.declared.program.OperandSlot.{OperandSlot}
 use Rattle.gq_model.specs.declared.program.Instruction.{Instruction}
 use Rattle.gq_model.specs.declared.program.Instruction.TheVariants.{Say, Open, Upgrade}
 use Rattle.gq_model.specs.declared.section.Section.{Section}
-use Rattle.gq_model.specs.declared.section.Section.TheVariants.{Main, Opening, Upgrading, Calling, Closing}
+use Rattle.gq_model.specs.declared.section.Section.TheVariants.{Main, Opening, Upgrading, Calling, Closing, Reacting}
 use Rattle.gq_model.specs.declared.phase.Phase.{Phase}
 use Rattle.gq_model.specs.declared.phase.Phase.TheVariants.{Pending, Running, Blocked, Serving, Handling, Exited}
 use Rattle.gq_model.specs.declared.fault.Wrong.TheVariants.{WrongKind, ExceededQuota, MissingSection}
@@ -225,6 +225,7 @@ module _ (s : Scenario) (d : Doing) (of : d.system ≡ system s) (t : TakesLeaf 
       | inl e ↦ own_closes v at (some_same (sym there ∙ ap (session_at d.world) e.1 ∙ at))
       | inr e ↦ quiet _ (close_stays k d here g.session v e.1)
     ]
+    reply_closes (Reacting i) v at = fails WrongKind
 
   section_closes : d.leaf.phase ≢ Blocked → (current : Option Current) → d.leaf.current ≡ current → Ends P (section_ended d current)
   section_closes active None e = quiet _ (main_stays k d here d.component.node.provides)

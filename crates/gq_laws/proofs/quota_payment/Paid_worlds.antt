@@ -9,7 +9,7 @@ use Rattle.gq_model.specs.machine.Program.{Statements, Done, Do, If, Loop, secti
 use Rattle.gq_model.specs.declared.program.Instruction.{Instruction}
 use Rattle.gq_model.specs.declared.program.Instruction.TheVariants.{Say}
 use Rattle.gq_model.specs.declared.section.Section.{Section}
-use Rattle.gq_model.specs.declared.section.Section.TheVariants.{Main, Opening, Upgrading, Calling, Closing}
+use Rattle.gq_model.specs.declared.section.Section.TheVariants.{Main, Opening, Upgrading, Calling, Closing, Reacting}
 use Rattle.gq_model.specs.declared.phase.Phase.{Phase}
 use Rattle.gq_model.specs.declared.phase.Phase.TheVariants.{Pending, Running, Blocked, Serving, Handling, Exited}
 use Rattle.gq_model.specs.declared.fault.Wrong.TheVariants.{WrongKind, ExceededQuota, MissingSection}
@@ -193,6 +193,7 @@ module _ (d : Doing) (t : TakesLeaf d) (peaks : d.leaf.peaks ≡ t.old.peaks) (h
     reply_ends k (Upgrading l) s there = replied_ends k s _ there
     reply_ends k (Calling l) s there = pop_ends P _ _ (λ a rest. replied_ends k s _ there)
     reply_ends k (Closing l) s there = close_ends k s
+    reply_ends k (Reacting i) s there = fails WrongKind
 
 -- EXIT
 

@@ -6,7 +6,7 @@ use Rattle.std.proofs.lemmas.Bool.Decides.{eqb_tells}
 use Rattle.gq_model.specs.machine.Program.{Statements, Done, Do, If, Loop}
 use Rattle.gq_model.specs.declared.program.Instruction.{Instruction}
 use Rattle.gq_model.specs.declared.section.Section.{Section}
-use Rattle.gq_model.specs.declared.section.Section.TheVariants.{Main, Opening, Upgrading, Calling, Closing}
+use Rattle.gq_model.specs.declared.section.Section.TheVariants.{Main, Opening, Upgrading, Calling, Closing, Reacting}
 use Rattle.gq_model.specs.declared.phase.Phase.{Phase}
 use Rattle.gq_model.specs.declared.phase.Phase.TheVariants.{Pending, Running, Blocked, Serving, Handling, Exited}
 use Rattle.gq_model.specs.declared.fault.Wrong.TheVariants.{WrongKind, ExceededQuota}
@@ -156,6 +156,7 @@ module _ (d : Doing) (t : TakesLeaf d) (lives : (q : ℕ) → handed d.leaf.phas
     reply_ends (Upgrading l) = replied_ends (λ operands. operands)
     reply_ends (Calling l) = pop_ends P _ _ (λ a rest. replied_ends (λ operands. a ∷ operands))
     reply_ends (Closing l) = close_ends
+    reply_ends (Reacting i) = fails WrongKind
 
 -- STEPS
 

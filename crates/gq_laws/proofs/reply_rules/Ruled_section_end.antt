@@ -5,7 +5,7 @@ use Rattle.std.specs.Prelude.{nat_le, slice_get}
 use Rattle.gq_model.specs.declared.program.OperandSlot.TheVariants.{Shared}
 use Rattle.gq_model.specs.declared.program.Form.TheVariants.{Space, Slice, Block}
 use Rattle.gq_model.specs.declared.section.Section.{Section}
-use Rattle.gq_model.specs.declared.section.Section.TheVariants.{Main, Opening, Upgrading, Calling, Closing}
+use Rattle.gq_model.specs.declared.section.Section.TheVariants.{Main, Opening, Upgrading, Calling, Closing, Reacting}
 use Rattle.gq_model.specs.machine.Scenario.{number_of, service_in}
 use Rattle.gq_model.specs.machine.World.{Slot, Empty, Bytes, Pool, Link, Waiting, In_leaf, In_session, Session, Current, session_at, leaf_slot, session_slot}
 use Rattle.gq_model.specs.machine.World.{slot_id_of}
@@ -163,17 +163,12 @@ module _ (promised : ℕ → Option Kind) (c : Context) (d : Doing) (t : TakesLe
       let empty = must_holds (bank_is_empty left.0.bank) _ _ last left.2 in
       safe_when (all_empty s.slots) _ _ (all_are_empty promised s.slots state.bank kinds (bank_plain current s there) (bank_quiet current s handed there)
       (ap (λ (s : AbstractState). bank_is_empty s.bank) (sym none.1) ∙ empty.0)) (safe_tested _ _ (safe_gives _ _ tt))
+  bank_safe (Reacting i) current handed outside e s there kinds = absurd (true≢false outside)
 
   ends_safe : section_end c.subject c.section state ≡ Ok last → (current : Option Current) → d.leaf.current ≡ current → IsCurrent c.section current
       → CurrentMeets promised c state.bank d.world current → Safe (section_ended d current)
-  ends_safe e None handed at bank = main_safe (by c.section at e) d.component.node.provides refl
-    where
-      by : (section : Section) → is_own_section section ≡ true → section_end c.subject section state ≡ Ok last → section_end c.subject Main state ≡ Ok last
-      by Main at e = e
-      by Opening at e = absurd (false≢true at)
-      by (Upgrading l) at e = absurd (false≢true at)
-      by (Calling l) at e = absurd (false≢true at)
-      by (Closing l) at e = absurd (false≢true at)
+  ends_safe e None handed at bank =
+      main_safe (subst (λ section. section_end c.subject section state ≡ Ok last) at e) d.component.node.provides refl
   ends_safe e (Some current) handed at bank =
       safe_need (session_at d.world current.session) _ _ bank.0 bank.1
       (subst (λ section. Safe (reply d current.session section bank.0)) (sym at.0) (bank_safe c.section current handed at.1 e bank.0 bank.1 bank.2.slots))

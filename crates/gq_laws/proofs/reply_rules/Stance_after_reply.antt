@@ -4,7 +4,7 @@ use Rattle.std.specs.Prelude.{slice_get, slice_set}
 use Rattle.std.proofs.lemmas.Bool.Decides.{eqb_tells}
 use Rattle.gq_model.specs.declared.program.Form.TheVariants.{Slice}
 use Rattle.gq_model.specs.declared.section.Section.{Section}
-use Rattle.gq_model.specs.declared.section.Section.TheVariants.{Main, Opening, Upgrading, Calling, Closing}
+use Rattle.gq_model.specs.declared.section.Section.TheVariants.{Main, Opening, Upgrading, Calling, Closing, Reacting}
 use Rattle.gq_model.specs.declared.phase.Phase.TheVariants.{Handling}
 use Rattle.gq_model.specs.machine.Scenario.{number_of}
 use Rattle.gq_model.specs.machine.World.{Slot, Waiting, SlotId, In_leaf, In_session, In_object, Session, Current, Leaf, World, session_at, leaf_slot}
@@ -31,6 +31,7 @@ alike promised k Opening s p kind is = is
 alike promised k (Upgrading l) s p kind is = is
 alike promised k (Calling l) s p kind is = is
 alike promised k (Closing l) s p kind is = some_same (sym is ∙ p)
+alike promised k (Reacting i) s p kind is = some_same (sym is ∙ p)
 
 -- a leaf that stood, with its slots of the same kinds and the reply
 meets_by : (promised : ℕ → Option Kind) (e : Context) (state : AbstractState) (v w : World) (old : Leaf) (most : ℕ) (section : Section) (operands : List ℕ)
@@ -53,6 +54,7 @@ meets_by promised e state v w old most (Calling l) operands slots r own bank m =
     }
 meets_by promised e state v w old most (Closing l) operands slots r own bank m =
     record { own = own; current = m.current; bank = bank; operands = subst (λ o. Under o state.bounds) (sym r) m.operands; locals = m.locals; loops = m.loops }
+meets_by promised e state v w old most (Reacting i) operands slots r own bank m = absurd r
 
 module _ (promised : ℕ → Option Kind) (c : Context) (d : Doing) (t : TakesLeaf d) (h : IsLinkedWorld d.system d.world) (handles : d.leaf.phase ≡ Handling)
     (state : AbstractState) (g : Current) (s : Session) (w : World) (e : HasEnded promised c state d g s w)

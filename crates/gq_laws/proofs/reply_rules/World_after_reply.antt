@@ -4,7 +4,7 @@ use Rattle.std.specs.Prelude.{nat_le, slice_get, slice_set}
 use Rattle.std.proofs.lemmas.Bool.{leb-true}
 use Rattle.std.proofs.lemmas.Bool.Decides.{eqb_tells}
 use Rattle.gq_model.specs.declared.section.Section.{Section}
-use Rattle.gq_model.specs.declared.section.Section.TheVariants.{Main, Opening, Upgrading, Calling, Closing}
+use Rattle.gq_model.specs.declared.section.Section.TheVariants.{Main, Opening, Upgrading, Calling, Closing, Reacting}
 use Rattle.gq_model.specs.declared.phase.Phase.TheVariants.{Blocked, Handling}
 use Rattle.gq_model.specs.declared.fault.Rule.TheVariants.{LeftoverOperand, ValueTooLarge, SessionBankChanged}
 use Rattle.gq_model.specs.declared.fault.Wrong.TheVariants.{WrongKind, ExceededQuota}
@@ -240,6 +240,7 @@ module _ (promised : ℕ → Option Kind) (c : Context) (d : Doing) (t : TakesLe
   reply_made (Closing l) last under e = when_ends (Made_by (Closing l)) (all_empty s.slots) WrongKind _
       (when_ends (Made_by (Closing l)) (paid d.system (unblocked without s.client (λ operands. operands))) ExceededQuota _
       (gives _ Quiet (old.operands, refl, made_close)))
+  reply_made (Reacting i) last under e = fails WrongKind
 
   bank_is : (o : Option Current) → o ≡ Some g → CurrentMeets promised c state.bank d.world o → BankMeets promised c state.bank s
   bank_is None e b = absurd (none_some e)

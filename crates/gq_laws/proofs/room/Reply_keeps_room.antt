@@ -3,7 +3,7 @@ use Rattle.std.proofs.Common.{◌≡◌, ◌≢◌, ℕ, ◌≤◌, inl, inr, Li
 use Rattle.std.specs.Prelude.{slice_get, slice_set}
 use Rattle.std.proofs.lemmas.Bool.Decides.{eqb_tells}
 use Rattle.gq_model.specs.declared.section.Section.{Section}
-use Rattle.gq_model.specs.declared.section.Section.TheVariants.{Main, Opening, Upgrading, Calling, Closing}
+use Rattle.gq_model.specs.declared.section.Section.TheVariants.{Main, Opening, Upgrading, Calling, Closing, Reacting}
 use Rattle.gq_model.specs.declared.fault.Wrong.TheVariants.{WrongKind, ExceededQuota}
 use Rattle.gq_model.specs.declared.phase.Phase.TheVariants.{Handling}
 use Rattle.gq_model.specs.machine.World.{Slot, Empty, Link, Session, Current, Leaf, World, joined, session_at, with_slot}
@@ -191,3 +191,4 @@ module _ (d : Doing) (t : TakesLeaf d) (h : IsLinkedWorld d.system d.world) (roo
       one_more : (a : ℕ) (old : Leaf) → slice_get d.world.leaves s.client ≡ Some old → length (a ∷ old.operands) ≤ 16
       one_more a old at = let room = roomy.handled d.x t.old k l t.there called s old there at in omega (arith, room)
   reply_ends (Closing l) e = close_ends
+  reply_ends (Reacting i) e = fails WrongKind

@@ -3,7 +3,7 @@ use Rattle.std.proofs.Common.{◌≡◌, ◌≢◌, ℕ, zero, suc, inl, inr, tr
 use Rattle.std.specs.Prelude.{slice_get, slice_set}
 use Rattle.std.proofs.lemmas.Bool.Decides.{eqb_tells}
 use Rattle.gq_model.specs.declared.section.Section.{Section}
-use Rattle.gq_model.specs.declared.section.Section.TheVariants.{Main, Opening, Upgrading, Calling, Closing}
+use Rattle.gq_model.specs.declared.section.Section.TheVariants.{Main, Opening, Upgrading, Calling, Closing, Reacting}
 use Rattle.gq_model.specs.declared.fault.Wrong.TheVariants.{WrongKind, ExceededQuota}
 use Rattle.gq_model.specs.declared.phase.Phase.{Phase}
 use Rattle.gq_model.specs.declared.phase.Phase.TheVariants.{Blocked, Serving, Handling}
@@ -271,3 +271,4 @@ module _ (d : Doing) (t : TakesLeaf d) (h : AreLinked d.system (links d.world)) 
   reply_ends (Upgrading l) = replied_ends (λ operands. operands)
   reply_ends (Calling l) = pop_ends (IsLinkedWorld d.system) _ _ (λ a rest. replied_ends (λ operands. a ∷ operands))
   reply_ends (Closing l) = close_ends
+  reply_ends (Reacting i) = fails WrongKind

@@ -17,6 +17,7 @@ use Rattle.gq_laws.specs.Inside_steps.{IsSafe, StandsAt}
 use Rattle.gq_model.proofs.Small_facts.{none_some, some_same}
 use Rattle.gq_laws.proofs.session_links.Written_world_links.{set_here, set_else, session_here, session_else, leaf_there, session_there, object_there}
 use Rattle.gq_laws.proofs.statement_rules.Ruled_step_shapes.{safe_gives, safe_tested, safe_need}
+use Rattle.gq_model.specs.machine.Sections.{is_own_section}
 
 -- LISTS OF SLOTS
 
@@ -62,7 +63,7 @@ pub record Finds (promised : ℕ → Option Kind) (w : World) (x : ℕ) (current
 module _ (promised : ℕ → Option Kind) (c : Context) (state : AbstractState) (w : World) (x : ℕ) where
   shared_found : (i : ℕ) (kind : Kind) (current : Option Current) → IsCurrent c.section current → CurrentMeets promised c state.bank w current
       → kind_at c state (Shared i) ≡ Some kind → Finds promised w x current (Shared i) kind
-  shared_found i kind None at bank e = absurd (none_some (ap (λ b. cond b None (slice_get state.bank i)) (sym at) ∙ e))
+  shared_found i kind None at bank e = absurd (none_some (ap (λ b. cond b None (slice_get state.bank i)) (sym (ap is_own_section at)) ∙ e))
   shared_found i kind (Some g) at bank e =
       let f = kinds_get promised bank.0.slots state.bank i kind bank.2.slots (ap (λ b. cond b None (slice_get state.bank i)) (sym at.1) ∙ e) in
       record { q = In_session g.session i; named = refl; slot = f.0; there = ap (λ o. session_slot o i) bank.1 ∙ f.1; is = f.2 }
@@ -70,8 +71,9 @@ module _ (promised : ℕ → Option Kind) (c : Context) (state : AbstractState) 
   object_found : (kind : Kind) (current : Option Current) → IsCurrent c.section current → CurrentMeets promised c state.bank w current
       → kind_at c state Object ≡ Some kind
       → Finds promised w x current Object kind
-  object_found kind None at bank e = absurd (none_some (ap (λ b. cond b None (Some (Memory Slice (number_of c.subject.provided (λ i. i.object))))) (sym at)
-      ∙ e))
+  object_found kind None at bank e =
+      let own = sym (ap is_own_section at) in
+      absurd (none_some (ap (λ b. cond b None (Some (Memory Slice (number_of c.subject.provided (λ i. i.object))))) own ∙ e))
   object_found kind (Some g) at bank e =
       let same = some_same (ap (λ b. cond b None (Some (Memory Slice (number_of c.subject.provided (λ i. i.object))))) (sym at.1) ∙ e) in
       record {

@@ -8,7 +8,7 @@ use Rattle.gq_model.specs.declared.section.Section.{Section}
 use Rattle.gq_model.specs.declared.section.Section.TheVariants.{Main}
 use Rattle.gq_model.specs.declared.phase.Phase.TheVariants.{Blocked}
 use Rattle.gq_model.specs.machine.Program.{Statements, Do}
-use Rattle.gq_model.specs.machine.Sections.{same_section}
+use Rattle.gq_model.specs.machine.Sections.{same_section, is_own_section}
 use Rattle.gq_model.specs.machine.Scenario.{System, Component}
 use Rattle.gq_model.specs.machine.Routes.{server_of}
 use Rattle.gq_model.specs.machine.World.{Session, Leaf, World, session_at, section_of}
@@ -37,7 +37,7 @@ use Rattle.gq_laws.proofs.typed_worlds.Typed_world_promises.{grants, reports_lin
 use Rattle.gq_laws.proofs.typed_worlds.Typed_world_step.{Acts, with_rest, not_blocked, asked_typed}
 use Rattle.gq_laws.proofs.step_counts.Section_request_sums.{section_self, made_one}
 use Rattle.gq_model.proofs.Small_facts.{text_self}
-use Rattle.gq_laws.proofs.step_counts.Counted_world_step.{then_served, waiting_else, waiting_last, none_main, Spends, spends_counted}
+use Rattle.gq_laws.proofs.step_counts.Counted_world_step.{then_served, waiting_else, waiting_last, none_own, Spends, spends_counted}
 use Rattle.gq_laws.proofs.step_counts.Inside_step_counted.{all_left, IsOneOn, one_on, was_ahead}
 use Rattle.gq_laws.proofs.step_counts.Service_request_count.{asks_one}
 use Rattle.gq_model.proofs.Rules_laws.{same_section_is}
@@ -226,9 +226,9 @@ module _ (promised : ℕ → Option Kind) (left : Requests) (d : Doing) (sure : 
         | inr e ↦ (leaf, sym (r.leaves y e.1) ∙ there, omega arith)
       ]
 
-  not_main : (y : ℕ) → one_at s.server section y Main ≡ 0
+  not_own : (y : ℕ) (q : Section) → is_own_section q ≡ true → one_at s.server section y q ≡ 0
   unfolding section
-  not_main y = none_main s.server r.ask (level_then r.ask s.level) y
+  not_own y q own = none_own s.server r.ask (level_then r.ask s.level) y q own
 
   spends : Spends d.system d.world w left left_then
   spends =
@@ -237,7 +237,7 @@ module _ (promised : ℕ → Option Kind) (left : Requests) (d : Doing) (sure : 
         more = one_at s.server section;
         further = further;
         waits = waits;
-        not_main = not_main;
+        not_own = not_own;
         covered = covers d.system s.server d.x section s.service d.component at routed provides further (further_here d.x refl s.service section
             ∙ self_one s.service section);
         leaves = leaves;

@@ -2,8 +2,8 @@
 use Rattle.std.proofs.Common.{◌≡◌, ◌≢◌, ◌≤◌, ℕ, ◌+◌, ◌==◌, ◌&&◌, cond, Bool, true, false, List, [], ◌∷◌, ◌++◌, Option, Some, None, refl, ap, subst, arith}
 use Rattle.std.specs.Prelude.{slice_get}
 use Rattle.gq_model.specs.declared.section.Section.{Section}
-use Rattle.gq_model.specs.declared.section.Section.TheVariants.{Main}
-use Rattle.gq_model.specs.machine.Sections.{same_section}
+use Rattle.gq_model.specs.declared.section.Section.TheVariants.{Main, Opening, Upgrading, Calling, Closing, Reacting}
+use Rattle.gq_model.specs.machine.Sections.{same_section, is_own_section}
 use Rattle.gq_model.specs.machine.Scenario.{System, Component}
 use Rattle.gq_model.specs.machine.World.{Slot, SlotId, In_leaf, In_session, In_object, Session, Ask, Ask_open, Ask_upgrade, Ask_close, Ask_call, Request, Leaf}
 use Rattle.gq_model.specs.machine.World.{World, session_at}
@@ -71,14 +71,22 @@ module _ (v w : World) (x y : ℕ) (q : Section) where
   waiting_oldest (r ∷ rs) p e = oldest_by r rs (is_to x (session_at v r.session)) (oldest v x rs) (λ a f. waiting_oldest rs a f) p e
 
 -- no request is for `main`
-pub none_main : (z : ℕ) (ask : Ask) (level x : ℕ) → one_at z (section_for ask level) x Main ≡ 0
-none_main z ask level x = by (z == x) (same_section Main (section_for ask level)) (never ask)
+pub none_own : (z : ℕ) (ask : Ask) (level x : ℕ) (section : Section) → is_own_section section ≡ true → one_at z (section_for ask level) x section ≡ 0
+none_own z ask level x section own = by (z == x) (same_section section (section_for ask level)) (never section own ask)
   where
-    never : (ask : Ask) → same_section Main (section_for ask level) ≡ false
-    never Ask_open = refl
-    never Ask_upgrade = refl
-    never Ask_close = refl
-    never (Ask_call value) = refl
+    never : (section : Section) → is_own_section section ≡ true → (ask : Ask) → same_section section (section_for ask level) ≡ false
+    never Main own Ask_open = refl
+    never Main own Ask_upgrade = refl
+    never Main own Ask_close = refl
+    never Main own (Ask_call value) = refl
+    never (Reacting i) own Ask_open = refl
+    never (Reacting i) own Ask_upgrade = refl
+    never (Reacting i) own Ask_close = refl
+    never (Reacting i) own (Ask_call value) = refl
+    never Opening own ask = absurd cc
+    never (Upgrading l) own ask = absurd cc
+    never (Calling l) own ask = absurd cc
+    never (Closing l) own ask = absurd cc
 
     by : (a b : Bool) → b ≡ false → ◌≡◌ {A = ℕ} (cond (a && b) 1 0) 0
     by true b e = ap (λ b. cond b 1 0) e
@@ -92,7 +100,7 @@ pub record Spends (system : System) (v w : World) (left new : Requests) : Type 0
   pub more : Often
   pub further : Requests
   pub waits : (y : ℕ) (q : Section) → waiting w y q + begun y q ≡ waiting v y q + more y q
-  pub not_main : (y : ℕ) → more y Main ≡ 0
+  pub not_own : (y : ℕ) (q : Section) → is_own_section q ≡ true → more y q ≡ 0
   pub covered : (y : ℕ) (q : Section) → more y q ≤ made_for further system y q (provided_by (slice_get system.components y))
   pub leaves : (y : ℕ) (c : Component) (leaf : Leaf) → slice_get system.components y ≡ Some c → slice_get w.leaves y ≡ Some leaf
       → (old : Leaf) × (slice_get v.leaves y ≡ Some old) × (leaf.steps + ahead leaf leaf.phase
@@ -112,7 +120,7 @@ quiet_spends system v w left waits leaves =
       more = λ y q. 0;
       further = λ y service q. 0;
       waits = λ y q. (let same = waits y q in omega (arith, same));
-      not_main = λ y. refl;
+      not_own = λ y q own. refl;
       covered = λ y q. omega arith;
       leaves = λ y c leaf at there. (let o = leaves y c leaf at there in let most = o.2 in (o.0, o.1, omega (arith, most)));
       pays = λ y c at service section. omega arith;
@@ -153,7 +161,8 @@ module _ (done : Often) (made left new : Requests) (system : System) (v w : Worl
   pub spends_counts : Counts (λ y q. done y q + s.more y q) (λ y u q. made y u q + s.further y u q) new system w
   spends_counts =
       record {
-        once = λ x. (let before = h.once x in let none = s.not_main x in omega (arith, before, none));
+        once = λ x. (let before = h.once x in let none = s.not_own x Main refl in omega (arith, before, none));
+        never = λ x i. (let before = h.never x i in let none = s.not_own x (Reacting i) refl in omega (arith, before, none));
         taken = taken;
         asked = λ x section not_main.
             let provides = provided_by (slice_get system.components x) in

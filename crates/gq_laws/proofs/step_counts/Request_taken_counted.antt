@@ -190,7 +190,7 @@ module _ (promised : ℕ → Option Kind) (left : Requests) (d : Doing) (sure : 
     more = λ y q. 0;
     further = λ y service q. 0;
     waits = waits;
-    not_main = λ y. refl;
+    not_own = λ y q own. refl;
     covered = λ y q. omega arith;
     leaves = leaves;
     pays = pays;

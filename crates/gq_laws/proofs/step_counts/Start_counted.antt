@@ -3,7 +3,7 @@ use Rattle.std.proofs.Common.{◌≡◌, ◌≤◌, ℕ, ◌+◌, ◌==◌, ◌&
 use Rattle.std.proofs.Common.{subst, arith}
 use Rattle.std.specs.Prelude.{slice_get}
 use Rattle.gq_model.specs.declared.section.Section.{Section}
-use Rattle.gq_model.specs.declared.section.Section.TheVariants.{Main, Opening, Upgrading, Calling, Closing}
+use Rattle.gq_model.specs.declared.section.Section.TheVariants.{Main, Opening, Upgrading, Calling, Closing, Reacting}
 use Rattle.gq_model.specs.machine.Program.{Statements, section_in, body_of}
 use Rattle.gq_model.specs.machine.Sections.{same_section, is_own_section}
 use Rattle.gq_model.specs.machine.Scenario.{System, Component}
@@ -54,6 +54,13 @@ abbrev left_of : System → Option Component → List ℕ → Section → ℕ
 left_of system None service section = 0
 left_of system (Some c) service section = section_requests (subject system c) Main service section
 
+never_signalled : (x i : ℕ) → one_at x Main x (Reacting i) ≡ 0
+never_signalled x i = by (x == x)
+  where
+    by : (b : Bool) → ◌≡◌ {A = ℕ} (cond (b && false) 1 0) 0
+    by true = refl
+    by false = refl
+
 not_main : (x : ℕ) (section : Section) → is_own_section section ≡ false → one_at x Main x section ≡ 0
 not_main x section e = by (x == x) (same_section section Main) (other section e)
   where
@@ -63,6 +70,7 @@ not_main x section e = by (x == x) (same_section section Main) (other section e)
     other (Upgrading l) e = refl
     other (Calling l) e = refl
     other (Closing l) e = refl
+    other (Reacting i) e = absurd cc
 
     by : (a b : Bool) → b ≡ false → ◌≡◌ {A = ℕ} (cond (a && b) 1 0) 0
     by true b e = ap (λ b. cond b 1 0) e
@@ -125,6 +133,7 @@ module _ (system : System) (sure : IsSure system) where
   first_counts =
       record {
         once = λ x. (let one = one_here x Main in omega (arith, one));
+        never = λ x i. never_signalled x i;
         taken = taken;
         asked = λ x section other. (let none = not_main x section other in omega (arith, none));
         requests = requests;

@@ -3,7 +3,7 @@ use Rattle.std.proofs.Common.{◌≡◌, ◌≤◌, ℕ, zero, suc, ◌+◌, con
 use Rattle.std.proofs.Common.{subst, arith}
 use Rattle.std.specs.Prelude.{slice_get, slice_index}
 use Rattle.gq_model.specs.declared.section.Section.{Section}
-use Rattle.gq_model.specs.declared.section.Section.TheVariants.{Main}
+use Rattle.gq_model.specs.declared.section.Section.TheVariants.{Main, Reacting}
 use Rattle.gq_model.specs.machine.Scenario.{Scenario, System, Component, components, system}
 use Rattle.gq_model.specs.machine.Routes.{is_service, server_of}
 use Rattle.gq_model.specs.machine.World.{Leaf, World, start}
@@ -171,7 +171,7 @@ module _ (system : System) (w : World) (k : IsCounted system w) where
 
 -- no leaf takes more steps than its budget
 pub steps_within : (s : Scenario)
-    → (counts_bounded : (done : ℕ → Section → ℕ) → ((x : ℕ) → done x Main ≤ 1)
+    → (counts_bounded : (done : ℕ → Section → ℕ) → ((x : ℕ) → done x Main ≤ 1) → ((x i : ℕ) → done x (Reacting i) ≡ 0)
     → ((x : ℕ) (section : Section) → is_own_section section ≡ false
     → done x section ≤ asked_of done (system s) x section (provided_by (slice_get (components s) x)))
     → (x : ℕ) (section : Section) → done x section ≤ times (length (components s)) (system s) x section)
@@ -179,6 +179,6 @@ pub steps_within : (s : Scenario)
     → leaf.steps ≤ step_budget (system s) x c
 steps_within s counts_bounded w k x c leaf there at =
     let taken = k.counts.taken x c leaf there at in
-    let bounded = counts_bounded k.done k.counts.once (done_below (system s) w k) x in
+    let bounded = counts_bounded k.done k.counts.once k.counts.never (done_below (system s) w k) x in
     let most = steps_below (k.done x) (times (length (components s)) (system s) x) bounded c.node.program.sections in
     omega (arith, taken, most)

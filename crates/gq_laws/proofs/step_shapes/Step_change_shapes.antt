@@ -5,7 +5,7 @@ use Rattle.gq_model.specs.declared.program.OperandSlot.{OperandSlot}
 use Rattle.gq_model.specs.declared.program.Instruction.{Instruction}
 use Rattle.gq_model.specs.declared.program.Instruction.TheVariants.{Say, Operands, Open, Upgrade, Call}
 use Rattle.gq_model.specs.declared.section.Section.{Section}
-use Rattle.gq_model.specs.declared.section.Section.TheVariants.{Main, Opening, Upgrading, Calling, Closing}
+use Rattle.gq_model.specs.declared.section.Section.TheVariants.{Main, Opening, Upgrading, Calling, Closing, Reacting}
 use Rattle.gq_model.specs.declared.phase.Phase.TheVariants.{Blocked}
 use Rattle.gq_model.specs.declared.fault.Wrong.TheVariants.{WrongKind, ExceededQuota, MissingSection}
 use Rattle.gq_model.specs.machine.Program.{section_in}
@@ -141,6 +141,7 @@ module _ (d : Doing) (P : World → Type 0) (written : (w : World) (slot_id : Sl
   reply_by k (Upgrading l) s = replied_ends k s _
   reply_by k (Calling l) s = pop_ends P _ _ (λ a rest. replied_ends k s _)
   reply_by k (Closing l) s = close_ends k s
+  reply_by k (Reacting i) s = fails _
 
   -- the end of a section, where the end of `main` is known
   pub section_by : Ends P (main_ended d d.component.node.provides) → (current : Option Current) → Ends P (section_ended d current)

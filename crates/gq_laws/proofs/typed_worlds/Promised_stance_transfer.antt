@@ -3,7 +3,7 @@ use Rattle.std.proofs.Common.{◌≡◌, ℕ, ◌+◌, ◌==◌, cond, Bool, tru
 use Rattle.std.specs.Prelude.{slice_get}
 use Rattle.gq_model.specs.machine.Lists.{or_first}
 use Rattle.gq_model.specs.declared.section.Section.{Section}
-use Rattle.gq_model.specs.declared.section.Section.TheVariants.{Main, Opening, Upgrading, Calling, Closing}
+use Rattle.gq_model.specs.declared.section.Section.TheVariants.{Main, Opening, Upgrading, Calling, Closing, Reacting}
 use Rattle.gq_model.specs.declared.phase.Phase.{Phase}
 use Rattle.gq_model.specs.declared.phase.Phase.TheVariants.{Pending, Running, Blocked, Serving, Handling, Exited}
 use Rattle.gq_model.specs.machine.Program.{Statements}
@@ -28,6 +28,7 @@ kind_bare (Some Opening) s = refl
 kind_bare (Some (Upgrading l)) s = refl
 kind_bare (Some (Calling l)) s = refl
 kind_bare (Some (Closing l)) s = refl
+kind_bare (Some (Reacting i)) s = refl
 
 -- what is in a session's slots bears on no promise
 pub kind_same : (o : Option Section) (s t : Session) → bare t ≡ bare s → kind_then t o ≡ kind_then s o

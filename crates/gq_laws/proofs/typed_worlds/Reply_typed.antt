@@ -5,7 +5,7 @@ use Rattle.std.proofs.lemmas.Bool.Decides.{eqb_tells}
 use Rattle.gq_model.specs.machine.Lists.{or_first}
 use Rattle.gq_model.specs.declared.program.Form.TheVariants.{Slice}
 use Rattle.gq_model.specs.declared.section.Section.{Section}
-use Rattle.gq_model.specs.declared.section.Section.TheVariants.{Main, Opening, Upgrading, Calling, Closing}
+use Rattle.gq_model.specs.declared.section.Section.TheVariants.{Main, Opening, Upgrading, Calling, Closing, Reacting}
 use Rattle.gq_model.specs.declared.phase.Phase.TheVariants.{Blocked, Handling}
 use Rattle.gq_model.specs.machine.Scenario.{Component, interface_in, number_of}
 use Rattle.gq_model.specs.machine.World.{Slot, SlotId, In_leaf, In_session, In_object, Session, Request, Current, Leaf, World, session_at, section_of}
@@ -184,6 +184,7 @@ module _ (promised : ℕ → Option Kind) (before : Extra) (d : Doing) (sure : I
         by (Upgrading l) e level b = (sym (some_same e), ap (λ l. Link_kind s.service l s.donation) level, b)
         by (Calling l) e level b = (sym (some_same e), ap (λ l. Link_kind s.service l s.donation) level, b)
         by (Closing l) e level b = absurd (none_some e)
+        by (Reacting i) e level b = absurd (none_some e)
 
     no_more : section_asked w k s ≡ None
     no_more =

@@ -6,7 +6,7 @@ use Rattle.gq_model.specs.machine.Amounts.{Amount}
 use Rattle.gq_model.specs.declared.program.Form.{Form}
 use Rattle.gq_model.specs.declared.program.Form.TheVariants.{Space}
 use Rattle.gq_model.specs.declared.section.Section.{Section}
-use Rattle.gq_model.specs.declared.section.Section.TheVariants.{Main, Opening, Upgrading, Calling, Closing}
+use Rattle.gq_model.specs.declared.section.Section.TheVariants.{Main, Opening, Upgrading, Calling, Closing, Reacting}
 use Rattle.gq_model.specs.declared.phase.Phase.{Phase}
 use Rattle.gq_model.specs.declared.phase.Phase.TheVariants.{Blocked}
 use Rattle.gq_model.specs.machine.Scenario.{System, Component, interface_in, number_of}
@@ -49,6 +49,7 @@ no_memory s (Some Opening) = tt
 no_memory s (Some (Upgrading l)) = tt
 no_memory s (Some (Calling l)) = tt
 no_memory s (Some (Closing l)) = tt
+no_memory s (Some (Reacting i)) = tt
 
 module _ (promised : ℕ → Option Kind) (system : System) (w : World) (h : IsLinkedWorld system w) (reports : PromisesSessions promised w) where
   -- the session to which a link leads has no request

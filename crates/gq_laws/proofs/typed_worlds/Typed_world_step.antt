@@ -4,7 +4,7 @@ use Rattle.std.specs.Prelude.{slice_get}
 use Rattle.gq_model.specs.declared.program.Instruction.{Instruction}
 use Rattle.gq_model.specs.declared.program.Instruction.TheVariants.{Open, Upgrade, Call, Close}
 use Rattle.gq_model.specs.declared.section.Section.{Section}
-use Rattle.gq_model.specs.declared.section.Section.TheVariants.{Main, Opening, Upgrading, Calling, Closing}
+use Rattle.gq_model.specs.declared.section.Section.TheVariants.{Main, Opening, Upgrading, Calling, Closing, Reacting}
 use Rattle.gq_model.specs.declared.phase.Phase.{Phase}
 use Rattle.gq_model.specs.declared.phase.Phase.TheVariants.{Pending, Running, Blocked, Serving, Handling, Exited}
 use Rattle.gq_model.specs.machine.Program.{Statements, Done, Do, If, Loop, section_in}
@@ -28,7 +28,7 @@ use Rattle.gq_laws.proofs.statement_rules.Ruled_step_shapes.{safe_gives}
 use Rattle.gq_laws.proofs.statement_rules.Statement_leaves_others.{keeps_to_itself}
 use Rattle.gq_laws.proofs.statement_rules.Control_statement_rules.{leads_on}
 use Rattle.gq_laws.proofs.reply_rules.Ruled_section_end.{ends_ruled}
-use Rattle.gq_laws.proofs.verified_programs.Accepted_program_facts.{section_there, bank_opened, bank_upgraded, bank_called, own_section}
+use Rattle.gq_laws.proofs.verified_programs.Accepted_program_facts.{section_there, bank_opened, bank_upgraded, bank_called, own_section, keeps_own}
 use Rattle.gq_laws.proofs.verified_programs.Sure_system_facts.{IsSure}
 use Rattle.gq_laws.proofs.statement_rules.Branch_loop_flow.{do_ok}
 use Rattle.gq_laws.proofs.typed_worlds.Asked_typed.{after_typed}
@@ -83,6 +83,7 @@ leaves_bank v (Upgrading zero) end last level is at whole ends = absurd (false�
 leaves_bank v (Upgrading (suc l)) end last level is at whole ends = bank_upgraded v l end whole ∙ ap (bank_at v) at
 leaves_bank v (Calling l) end last level is at whole ends = bank_called v l end last ends ∙ ap (bank_at v) at
 leaves_bank v (Closing l) end last level is at whole ends = tt
+leaves_bank v (Reacting i) end last level is at whole ends = absurd at
 
 -- WHAT A STEP DOES
 
@@ -301,7 +302,7 @@ module _ (promised : ℕ → Option Kind) (before : Extra) (d : Doing) (sure : I
         subst (λ o. flow (context v (section_of o)) (start_of v (section_of o)) (body v (section_of o)) ≡ Ok a.end) mine a.whole in
         let listed = subst (λ o. (list : Statements) × (section_in (section_of o) d.component.node.program.sections ≡ Some list)) mine a.listed in
         let last_is = subst (λ o. section_end v (section_of o) a.end ≡ Ok last) mine ends in
-        let own = own_section v g.section a.end (subst (IsCurrent g.section) mine m.current).1 whole in
+        let own = own_section v g.section a.end (keeps_own g.section (subst (IsCurrent g.section) mine m.current).1) whole in
         let bank = leaves_bank v g.section a.end last s.0.level (sure.sections d.x d.component g.section listed.0 at listed.1)
         (its_level promised before d sure takes h t at handles g s.0 mine s.1) whole last_is in
         let provided = sym (provided_current promised before d.system sure d.world h t d.x d.component d.leaf.phase d.leaf.current at

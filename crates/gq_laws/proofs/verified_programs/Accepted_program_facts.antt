@@ -6,9 +6,9 @@ use Rattle.std.specs.Prelude.{nat_le, is_some, slice_get}
 use Rattle.std.proofs.lemmas.Bool.{eqb-true, leb-true, le-leb, lt-ltb, false≢true}
 use Rattle.gq_model.specs.declared.program.Form.TheVariants.{Block, Slice, Space}
 use Rattle.gq_model.specs.declared.section.Section.{Section}
-use Rattle.gq_model.specs.declared.section.Section.TheVariants.{Main, Opening, Upgrading, Calling, Closing}
+use Rattle.gq_model.specs.declared.section.Section.TheVariants.{Main, Opening, Upgrading, Calling, Closing, Reacting}
 use Rattle.gq_model.specs.machine.Program.{Statements, section_in}
-use Rattle.gq_model.specs.machine.Sections.{same_section, all_sections, is_own_section}
+use Rattle.gq_model.specs.machine.Sections.{same_section, all_sections, is_start_section, is_own_section}
 use Rattle.gq_model.specs.machine.Scenario.{Interface, number_of}
 use Rattle.gq_model.specs.machine.Lists.{any_of}
 use Rattle.gq_model.specs.rules.Kinds.{Kind, Empty_kind, Memory, Pool_kind, Link_kind, AbstractState, Subject, same_kinds}
@@ -88,6 +88,7 @@ among_all i Opening few wanted positive = refl
 among_all i (Upgrading l) few wanted positive = upgrading_among l (positive l refl) (level_few i l few wanted)
 among_all i (Calling l) few wanted positive = calling_among l (level_few i l few wanted)
 among_all i (Closing l) few wanted positive = closing_among l (level_few i l few wanted)
+among_all i (Reacting j) few wanted positive = absurd (false≢true wanted)
 
 -- a section that is wanted is there
 pub section_there : (v : Subject) (i : Interface) (section : Section) → program_fault v ≡ None → v.provided ≡ Some i → length i.upgrades ≤ 3
@@ -114,14 +115,24 @@ bank_upgraded v l end e = ap (λ r. (state_or (start_of v (Upgrading (suc l))) r
 pub own_main : (v : Subject) (end : AbstractState) → flow (context v Main) (start_of v Main) (body v Main) ≡ Ok end → end.own ≡ own_after v
 own_main v end e = ap (λ r. (state_or (start_of v Main) r).own) (sym e)
 
-own_started : (v : Subject) (section : Section) → is_own_section section ≡ false → own_before v section ≡ own_after v
+-- a section with a current session changes no own slot
+pub keeps_own : (section : Section) → is_own_section section ≡ false → is_start_section section ≡ false
+keeps_own Main h = absurd cc
+keeps_own Opening h = refl
+keeps_own (Upgrading l) h = refl
+keeps_own (Calling l) h = refl
+keeps_own (Closing l) h = refl
+keeps_own (Reacting i) h = absurd cc
+
+own_started : (v : Subject) (section : Section) → is_start_section section ≡ false → own_before v section ≡ own_after v
 own_started v Main outside = absurd (false≢true (sym outside))
 own_started v Opening outside = refl
 own_started v (Upgrading l) outside = refl
 own_started v (Calling l) outside = refl
 own_started v (Closing l) outside = refl
+own_started v (Reacting i) outside = refl
 
-pub own_section : (v : Subject) (section : Section) (end : AbstractState) → is_own_section section ≡ false
+pub own_section : (v : Subject) (section : Section) (end : AbstractState) → is_start_section section ≡ false
     → flow (context v section) (start_of v section) (body v section) ≡ Ok end → end.own ≡ own_after v
 own_section v section end outside e = own_stays (context v section) (start_of v section) end (body v section) outside e ∙ own_started v section outside
 
@@ -183,6 +194,7 @@ upgrading_after l m e = subst (λ k. 0 < k) (level e) (omega arith)
     level_or (Upgrading a) = a
     level_or (Calling a) = 0
     level_or (Closing a) = 0
+    level_or (Reacting i) = 0
 
     level : Upgrading (suc l) ≡ Upgrading m → suc l ≡ m
     level f = ap level_or f

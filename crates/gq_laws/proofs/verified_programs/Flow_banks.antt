@@ -14,7 +14,7 @@ use Rattle.gq_model.specs.machine.Program.{bytes_of, Statements, Done, Do, If, L
 use Rattle.gq_model.specs.machine.Scenario.{Interface, interface_in, number_of}
 use Rattle.gq_model.specs.declared.fault.Rule.{Rule}
 use Rattle.gq_model.specs.rules.Kinds.{Kind, Empty_kind, Memory, Pool_kind, Link_kind, AbstractState, Context, kind_at, with_kind}
-use Rattle.gq_model.specs.machine.Sections.{is_own_section}
+use Rattle.gq_model.specs.machine.Sections.{is_start_section, is_own_section}
 use Rattle.gq_model.specs.rules.Rules.{Judged, Bounded, must, given, top, pushed, is_empty_kind, is_memory_kind, is_later, is_kept, may_change, reach}
 use Rattle.gq_model.specs.rules.Rules.{pool_kind, fill, freed, link_kind, linked, opened, upgraded, called, closed, pooled, reached, with_bounds, judge}
 use Rattle.gq_model.specs.rules.Rules.{judged}
@@ -178,13 +178,13 @@ module _ (c : Context) (P : List Kind → List Kind → Type 0) (change : (s : A
 
 -- OWN SLOTS
 
-own_set : (c : Context) (s : AbstractState) (place : OperandSlot) (kind : Kind) → is_own_section c.section ≡ false → may_change c place ≡ true →
+own_set : (c : Context) (s : AbstractState) (place : OperandSlot) (kind : Kind) → is_start_section c.section ≡ false → may_change c place ≡ true →
     (with_kind s place kind).own ≡ s.own
 own_set c s (Own i) kind outside may = absurd (true≢false (sym may ∙ outside))
 own_set c s (Shared i) kind outside may = refl
 own_set c s Object kind outside may = refl
 
-pub own_stays : (c : Context) (s t : AbstractState) (todo : Statements) → is_own_section c.section ≡ false → flow c s todo ≡ Ok t → t.own ≡ s.own
+pub own_stays : (c : Context) (s t : AbstractState) (todo : Statements) → is_start_section c.section ≡ false → flow c s todo ≡ Ok t → t.own ≡ s.own
 own_stays c s t todo outside e = flow_keeps c (λ own bank. own ≡ s.own) (λ u place old kind there may unkept h. own_set c u place kind outside may
     ∙ h) s t todo e refl
 

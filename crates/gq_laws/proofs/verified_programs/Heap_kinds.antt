@@ -9,7 +9,7 @@ use Rattle.gq_model.specs.declared.program.Instruction.{Instruction}
 use Rattle.gq_model.specs.declared.program.Instruction.TheVariants.{Say, Out, Operands, Make, MakePool, Load}
 use Rattle.gq_model.specs.declared.program.Instruction.TheVariants.{Store, Free, Take, Give, Peek, Poke, Open, Upgrade, Call, Close}
 use Rattle.gq_model.specs.declared.section.Section.{Section}
-use Rattle.gq_model.specs.declared.section.Section.TheVariants.{Main, Opening, Upgrading, Calling, Closing}
+use Rattle.gq_model.specs.declared.section.Section.TheVariants.{Main, Opening, Upgrading, Calling, Closing, Reacting}
 use Rattle.gq_model.specs.declared.fault.Rule.{Rule}
 use Rattle.gq_model.specs.machine.Program.{bytes_of, Statements, Done, Do, If, Loop}
 use Rattle.gq_model.specs.machine.Scenario.{Interface, interface_in}
@@ -180,3 +180,4 @@ bank_before_no_heap v (Upgrading zero) = none_light
 bank_before_no_heap v (Upgrading (suc l)) = bank_at_no_heap v l
 bank_before_no_heap v (Calling l) = bank_at_no_heap v l
 bank_before_no_heap v (Closing l) = bank_at_no_heap v l
+bank_before_no_heap v (Reacting i) = none_light

@@ -8,7 +8,7 @@ use Rattle.gq_model.specs.machine.Amounts.{Resource, part}
 use Rattle.gq_model.specs.declared.program.Form.{Form}
 use Rattle.gq_model.specs.declared.program.Form.TheVariants.{Block, Slice, Space}
 use Rattle.gq_model.specs.declared.section.Section.{Section}
-use Rattle.gq_model.specs.declared.section.Section.TheVariants.{Main, Opening, Upgrading, Calling, Closing}
+use Rattle.gq_model.specs.declared.section.Section.TheVariants.{Main, Opening, Upgrading, Calling, Closing, Reacting}
 use Rattle.gq_model.specs.machine.Scenario.{System}
 use Rattle.gq_model.specs.machine.World.{Slot, Empty, Waiting, Bytes, Pool, Link, SlotId, Session, World, session_at, slot_at}
 use Rattle.gq_model.specs.machine.Sums.{slot_price, slot_places}
@@ -43,6 +43,7 @@ StaysOpen (Some Opening) = Unit {0}
 StaysOpen (Some (Upgrading l)) = Unit {0}
 StaysOpen (Some (Calling l)) = Unit {0}
 StaysOpen (Some (Closing l)) = ⊥
+StaysOpen (Some (Reacting i)) = ⊥
 
 -- the session that a slot names is there, and stays open with what is asked of it
 abbrev pub NoClose : World → Slot → Type 0
@@ -115,6 +116,7 @@ module _ (r : Resource) where
   price_then s (Some (Upgrading l)) = refl
   price_then s (Some (Calling l)) = refl
   price_then s (Some (Closing l)) = refl
+  price_then s (Some (Reacting i)) = refl
 
   lent_then : (s : Session) (o : Option Section) → StaysOpen o → kind_lent r (kind_then s o) ≡ part r s.donation
   lent_then s None h = refl
@@ -123,6 +125,7 @@ module _ (r : Resource) where
   lent_then s (Some (Upgrading l)) h = refl
   lent_then s (Some (Calling l)) h = refl
   lent_then s (Some (Closing l)) h = absurd h
+  lent_then s (Some (Reacting i)) h = absurd h
 
   module _ (promised : ℕ → Option Kind) (w : World) (reports : PromisesSessions promised w) where
     -- the kind of a slot that names this session

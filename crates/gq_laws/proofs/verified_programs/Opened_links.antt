@@ -3,7 +3,7 @@ use Rattle.std.proofs.Common.{◌≡◌, ℕ, zero, suc, ◌+◌, ◌*◌, ◌&&
 use Rattle.std.proofs.Common.{ap, ◌∙◌, arith}
 use Rattle.gq_model.specs.machine.Lists.{any_of}
 use Rattle.gq_model.specs.declared.section.Section.{Section}
-use Rattle.gq_model.specs.declared.section.Section.TheVariants.{Main, Opening, Upgrading, Calling, Closing}
+use Rattle.gq_model.specs.declared.section.Section.TheVariants.{Main, Opening, Upgrading, Calling, Closing, Reacting}
 use Rattle.gq_model.specs.declared.program.Instruction.{Instruction}
 use Rattle.gq_model.specs.declared.program.Instruction.TheVariants.{Say, Out, Operands, Make, MakePool, Load}
 use Rattle.gq_model.specs.declared.program.Instruction.TheVariants.{Store, Free, Take, Give, Peek, Poke, Open, Upgrade, Call, Close}
@@ -111,6 +111,7 @@ module _ (v : Subject) (service : List ℕ) (none : any_of (text_eq service) (se
   own_before_bare (Upgrading l) = own_after_bare
   own_before_bare (Calling l) = own_after_bare
   own_before_bare (Closing l) = own_after_bare
+  own_before_bare (Reacting i) = own_after_bare
 
   bank_by_bare : (section : Section) (bank : List Kind) → Bare bank → Bare (bank_by v section bank)
   bank_by_bare section bank h =
@@ -128,6 +129,7 @@ module _ (v : Subject) (service : List ℕ) (none : any_of (text_eq service) (se
   bank_before_bare (Upgrading (suc l)) = bank_at_bare l
   bank_before_bare (Calling l) = bank_at_bare l
   bank_before_bare (Closing l) = bank_at_bare l
+  bank_before_bare (Reacting i) = none_empty service 8
 
   start_linkless : (section : Section) → Linkless service (start_of v section)
   start_linkless section = (own_before_bare section, bank_before_bare section)

@@ -13,7 +13,7 @@ use Rattle.gq_model.specs.machine.Program.{Statements, Done, Do, If, Loop}
 use Rattle.gq_model.specs.machine.Scenario.{Scenario, System, Component, components, system}
 use Rattle.gq_model.specs.machine.World.{Round}
 use Rattle.gq_model.specs.rules.Kinds.{Kind, AbstractState, Subject, Context, inside}
-use Rattle.gq_model.specs.machine.Sections.{is_own_section}
+use Rattle.gq_model.specs.machine.Sections.{is_start_section}
 use Rattle.gq_model.specs.rules.Rules.{judged}
 use Rattle.gq_model.specs.rules.Flow.{at, later, flow, state_or, points, context, body, own_after, start_of}
 use Rattle.gq_model.specs.rules.Budgets.{own}
@@ -32,14 +32,14 @@ use Rattle.gq_model.proofs.Rules_laws.{then_ok, later_ok, loop_ok, section_flows
 
 -- OUTSIDE MAIN
 
-after_own : (c : Context) (loops : List Round) (u end : AbstractState) → is_own_section c.section ≡ false → After c loops u end → u.own ≡ end.own
+after_own : (c : Context) (loops : List Round) (u end : AbstractState) → is_start_section c.section ≡ false → After c loops u end → u.own ≡ end.own
 after_own c [] u end outside h = ap (λ (s : AbstractState). s.own) h
 after_own c (r ∷ loops) u end outside h =
     let rest = h.3 in sym (own_stays (within c loops) u rest.0 r.rest outside rest.1) ∙ after_own c loops rest.0 end outside rest.2
 
 -- what is left of a section changes no own slot
-pub own_at : (c : Context) (s end : AbstractState) (todo : Statements) (loops : List Round) → is_own_section c.section ≡ false → Continues c s todo loops end →
-    s.own ≡ end.own
+pub own_at : (c : Context) (s end : AbstractState) (todo : Statements) (loops : List Round) → is_start_section c.section ≡ false → Continues c s todo loops end
+    → s.own ≡ end.own
 own_at c s end todo loops outside h = sym (own_stays (within c loops) s h.0 todo outside h.1) ∙ after_own c loops h.0 end outside h.2
 
 -- AT THE END OF MAIN
@@ -95,7 +95,7 @@ module _ (g : List Kind → ℕ) where
       subst (λ own. g own ≤ most_of (points (context v Main) (start_of v Main) (body v Main))) (own_main v f.0 f.2) (own_after_is_point v f.0 f.2)
 
 -- in every other section the own slots are as `main` left them
-pub own_in_section : (v : Subject) (section : Section) (s end : AbstractState) (todo : Statements) (loops : List Round) → is_own_section section ≡ false
+pub own_in_section : (v : Subject) (section : Section) (s end : AbstractState) (todo : Statements) (loops : List Round) → is_start_section section ≡ false
     → flow (context v section) (start_of v section) (body v section) ≡ Ok end
     → Continues (context v section) s todo loops end → s.own ≡ own_after v
 own_in_section v section s end todo loops outside whole goes =

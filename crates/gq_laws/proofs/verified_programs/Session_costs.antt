@@ -5,7 +5,7 @@ use Rattle.std.specs.Prelude.{nat_le, nat_lt, slice_index_or}
 use Rattle.std.proofs.lemmas.Bool.{leb-true, true≢false}
 use Rattle.gq_model.specs.machine.Amounts.{Resource, Ram, Caps, Amount, amount, part, plus, total}
 use Rattle.gq_model.specs.declared.section.Section.{Section}
-use Rattle.gq_model.specs.declared.section.Section.TheVariants.{Main, Opening, Upgrading, Calling, Closing}
+use Rattle.gq_model.specs.declared.section.Section.TheVariants.{Main, Opening, Upgrading, Calling, Closing, Reacting}
 use Rattle.gq_model.specs.declared.program.OperandSlot.{OperandSlot}
 use Rattle.gq_model.specs.declared.program.Instruction.{Instruction}
 use Rattle.gq_model.specs.declared.program.Instruction.TheVariants.{Open, Upgrade}
@@ -39,6 +39,7 @@ within_covers Opening i s t outside e = covered_each i.counted i 0 s t e
 within_covers (Upgrading l) i s t outside e = covered_each i.counted i l s t e
 within_covers (Calling l) i s t outside e = covered_each i.counted i l s t e
 within_covers (Closing l) i s t outside e = covered_each i.counted i l s t e
+within_covers (Reacting j) i s t outside e = absurd (true≢false outside)
 
 passed_covers : (v : Subject) (section : Section) (s t : AbstractState) → is_own_section section ≡ false → within_need section v.provided s ≡ Ok t
     → Covers v (level_of section) s.bank

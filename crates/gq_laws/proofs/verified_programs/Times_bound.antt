@@ -5,7 +5,7 @@ use Rattle.std.specs.Prelude.{slice_get}
 use Rattle.std.proofs.lemmas.Option.{slice_get_within}
 use Rattle.gq_model.specs.machine.Lists.{any_of}
 use Rattle.gq_model.specs.declared.section.Section.{Section}
-use Rattle.gq_model.specs.declared.section.Section.TheVariants.{Main, Opening, Upgrading, Calling, Closing}
+use Rattle.gq_model.specs.declared.section.Section.TheVariants.{Main, Opening, Upgrading, Calling, Closing, Reacting}
 use Rattle.gq_model.specs.machine.Program.{Statements, text_eq}
 use Rattle.gq_model.specs.machine.Scenario.{System, Component}
 use Rattle.gq_model.specs.machine.Routes.{server_of}
@@ -77,7 +77,7 @@ module _ (system : System) where
       by false there = omega arith
 
   module _ (resolved : cycle_fault system 0 system.components ≡ None) (done : ℕ → Section → ℕ) (main_once : (x : ℕ) → done x Main ≤ 1)
-      (asked : (x : ℕ) (section : Section) → is_own_section section ≡ false
+      (never : (x i : ℕ) → done x (Reacting i) ≡ 0) (asked : (x : ℕ) (section : Section) → is_own_section section ≡ false
       → done x section ≤ asked_of done system x section (provided_by (slice_get system.components x))) where
     by_users : (d x : ℕ) (section : Section) (provided : Option (List ℕ)) → ((y : ℕ) → Uses system y x → (p : Section) → done y p ≤ times d system y p)
         → asked_of done system x section provided ≤ asked_of (times d system) system x section provided
@@ -102,6 +102,7 @@ module _ (system : System) where
     by_depth (suc d) x rest chain long (Upgrading l) = step d x (Upgrading l) refl (λ y used p. by_depth d y (x ∷ rest) (used, chain) (omega arith) p)
     by_depth (suc d) x rest chain long (Calling l) = step d x (Calling l) refl (λ y used p. by_depth d y (x ∷ rest) (used, chain) (omega arith) p)
     by_depth (suc d) x rest chain long (Closing l) = step d x (Closing l) refl (λ y used p. by_depth d y (x ∷ rest) (used, chain) (omega arith) p)
+    by_depth (suc d) x rest chain long (Reacting i) = let none = never x i in omega (arith, none)
 
     nowhere : (d x : ℕ) (section : Section) → done x section ≤ asked_of done system x section None → done x section ≤ times d system x section
     nowhere d x section least = omega (arith, least)
@@ -119,3 +120,4 @@ module _ (system : System) where
         by None e (Upgrading l) least = nowhere (length system.components) x (Upgrading l) (least refl)
         by None e (Calling l) least = nowhere (length system.components) x (Calling l) (least refl)
         by None e (Closing l) least = nowhere (length system.components) x (Closing l) (least refl)
+        by None e (Reacting i) least = let none = never x i in omega (arith, none)

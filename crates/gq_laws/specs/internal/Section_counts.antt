@@ -1,7 +1,7 @@
 -- How often sections have been asked for so far, and the steps and requests that they have left.
 use Rattle.std.specs.Prelude.{◌≡◌, ◌≤◌, ℕ, suc, ◌+◌, ◌-◌, ◌*◌, ◌==◌, if◌then◌else◌, false, ◌&&◌, List, [], ◌∷◌, Option, Some, None, slice_get}
 use Rattle.gq_model.specs.declared.section.Section.{Section}
-use Rattle.gq_model.specs.declared.section.Section.TheVariants.{Main}
+use Rattle.gq_model.specs.declared.section.Section.TheVariants.{Main, Reacting}
 use Rattle.gq_model.specs.declared.phase.Phase.{Phase}
 use Rattle.gq_model.specs.declared.phase.Phase.TheVariants.{Pending, Running, Blocked, Serving, Handling, Exited}
 use Rattle.gq_model.specs.machine.Sections.{same_section, is_own_section}
@@ -85,8 +85,9 @@ Within system left y from state todo loops =
 
 -- what sections have cost so far, and what they have asked for, is paid by how often they were asked for
 pub record Counts (done : Often) (made left : Requests) (system : System) (w : World) : Type 0 where
-  -- `main` once
+  -- `main` once, and what is done for a signal never
   pub once : (x : ℕ) → done x Main ≤ 1
+  pub never : (x i : ℕ) → done x (Reacting i) ≡ 0
   pub taken : (x : ℕ) (c : Component) (leaf : Leaf) → slice_get system.components x ≡ Some c → slice_get w.leaves x ≡ Some leaf
       → leaf.steps + ahead leaf leaf.phase + steps_of (waiting w x) c.node.program.sections ≤ steps_of (done x) c.node.program.sections
   -- any other section no more often than leaves have made requests for it

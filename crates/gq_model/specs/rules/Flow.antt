@@ -2,7 +2,7 @@
 use Rattle.std.specs.Prelude.{ℕ, zero, suc, ◌+◌, nat_le, ◌==◌, Bool, true, false, ◌&&◌, not, List, [], ◌∷◌, ◌++◌, Option, Some, None, Result, Ok, Err}
 use Rattle.std.specs.Prelude.{slice_get}
 use Rattle.gq_model.specs.machine.Program.{Space, Statements, Done, Do, If, Loop, size, section_in}
-use Rattle.gq_model.specs.machine.Sections.{Section, Main, Opening, Upgrading, Calling, Closing}
+use Rattle.gq_model.specs.machine.Sections.{Section, Main, Opening, Upgrading, Calling, Closing, Reacting}
 use Rattle.gq_model.specs.machine.Program.{body_of}
 use Rattle.gq_model.specs.machine.Scenario.{Interface, number_of}
 use Rattle.gq_model.specs.rules.Kinds.{Kind, Memory, Link_kind, AbstractState, Subject, Context, inside, same_kinds, no_kinds, own_empty}
@@ -114,6 +114,7 @@ bank_before v (Upgrading zero) = no_kinds
 bank_before v (Upgrading (suc l)) = bank_at v l
 bank_before v (Calling l) = bank_at v l
 bank_before v (Closing l) = bank_at v l
+bank_before v (Reacting i) = no_kinds
 
 -- the state in which a section starts
 abbrev pub start_of : Subject → Section → AbstractState
@@ -157,6 +158,7 @@ section_end v Opening s = and_then (none_left s) (opening_end (number_of v.provi
 section_end v (Upgrading l) s = none_left s
 section_end v (Calling l) s = calling_end v.provided (bank_at v l) s
 section_end v (Closing l) s = and_then (none_left s) (λ t. must (bank_is_empty t.bank) SessionBankChanged (Ok t))
+section_end v (Reacting i) s = none_left s
 
 -- a section from its start, place 0, to its end, the place after its last statement
 abbrev pub section_flow : Subject → Section → Flowed

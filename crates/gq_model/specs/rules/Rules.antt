@@ -8,7 +8,7 @@ use Rattle.gq_model.specs.machine.Program.{And, Equal, Less, Drop, Dup, Combine,
 use Rattle.gq_model.specs.machine.Program.{Numbered}
 use Rattle.gq_model.specs.machine.Program.{Instruction, Say, Out, Operands, Make, MakePool, Load, Store, Free, Take, Give, Peek, Poke, Open, Upgrade, Call}
 use Rattle.gq_model.specs.machine.Program.{Close}
-use Rattle.gq_model.specs.machine.Sections.{Section, Main, level_of, is_own_section}
+use Rattle.gq_model.specs.machine.Sections.{Section, Main, Reacting, level_of, is_start_section}
 use Rattle.gq_tariff.specs.Prices.{up}
 use Rattle.gq_model.specs.machine.Scenario.{Interface, interface_in, number_of}
 use Rattle.gq_model.specs.rules.Kinds.{Kind, Empty_kind, Memory, Pool_kind, Link_kind, AbstractState, Context, kind_at, with_kind, need_of}
@@ -68,9 +68,9 @@ is_heap_kind (Memory Block n) = true
 is_heap_kind (Pool_kind n m) = true
 is_heap_kind _ = false
 
--- outside `main` no own slot is changed
+-- no own slot is changed but in `main`
 abbrev pub may_change : Context → OperandSlot → Bool
-may_change c (Own i) = is_own_section c.section
+may_change c (Own i) = is_start_section c.section
 may_change c (Shared i) = true
 may_change c Object = true
 
@@ -268,6 +268,7 @@ covered (r ∷ resources) i level s =
 -- so it is where a session is current
 abbrev pub within_need : Section → Option Interface → AbstractState → Judged
 within_need Main provided s = Ok s
+within_need (Reacting i) provided s = Ok s
 within_need section None s = Ok s
 within_need section (Some i) s = covered i.counted i (level_of section) s
 

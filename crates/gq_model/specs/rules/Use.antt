@@ -2,7 +2,7 @@
 use Rattle.std.specs.Prelude.{ℕ, zero, suc, ◌+◌, ◌*◌, ◌==◌, if◌then◌else◌, Bool, false, ◌||◌, List, [], ◌∷◌, ◌++◌, length, Option, Some, None, slice_get}
 use Rattle.gq_model.specs.machine.Lists.{any_of}
 use Rattle.gq_model.specs.machine.Program.{Instruction, Open, Statements, Done, Do, If, Loop}
-use Rattle.gq_model.specs.machine.Sections.{Section, Main}
+use Rattle.gq_model.specs.machine.Sections.{Section, Main, Reacting}
 use Rattle.gq_model.specs.machine.Scenario.{System, Component, service_in}
 use Rattle.gq_model.specs.machine.Routes.{server_of}
 use Rattle.gq_model.specs.rules.Kinds.{Subject}
@@ -84,9 +84,10 @@ abbrev pub provided_by : Option Component → Option (List ℕ)
 provided_by None = None
 provided_by (Some c) = c.node.provides
 
--- how often a section of the x-th leaf runs, by chains of at most `depth` uses: `main` once, another as often as it is asked for
+-- how often a section of the x-th leaf runs, by chains of at most `depth` uses: `main` once, a signal's never, another as often as it is asked for
 abbrev pub times : ℕ → System → ℕ → Section → ℕ
 times depth system x Main = 1
+times depth system x (Reacting i) = 0
 times zero system x section = 0
 times (suc depth) system x section = asked_of (times depth system) system x section (provided_by (slice_get system.components x))
 

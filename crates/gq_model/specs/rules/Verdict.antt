@@ -2,7 +2,7 @@
 use Rattle.std.specs.Prelude.{ℕ, suc, ◌^◌, nat_le, if◌then◌else◌, Bool, true, false, List, [], ◌∷◌, length, Option, Some, None, Result, Ok, Err, is_some}
 use Rattle.gq_model.specs.machine.Amounts.{Ram, Caps, Amount, amount}
 use Rattle.gq_model.specs.machine.Program.{Statements, size, section_in, Program}
-use Rattle.gq_model.specs.machine.Sections.{Section, Main, Opening, Upgrading, Calling, Closing, all_sections}
+use Rattle.gq_model.specs.machine.Sections.{Section, Main, Opening, Upgrading, Calling, Closing, Reacting, all_sections}
 use Rattle.gq_model.specs.machine.Scenario.{Interface, Interfaces, service_in}
 use Rattle.gq_model.specs.machine.Lists.{or_first}
 use Rattle.gq_model.specs.rules.Kinds.{Subject}
@@ -34,6 +34,7 @@ is_wanted (Some i) Opening = true
 is_wanted (Some i) (Upgrading l) = has_level l i
 is_wanted (Some i) (Calling l) = has_level l i
 is_wanted (Some i) (Closing l) = has_level l i
+is_wanted (Some i) (Reacting j) = false
 
 abbrev pub same_truth : Bool → Bool → Bool
 same_truth true b = b

@@ -124,9 +124,9 @@ sections_at (s ∷ rest) bits k bytes =
     let absent = sections_at rest (bits / 2) k bytes in
     if bits % 2 == 1 then given else absent
 
--- bits of limits, limits, bits of the 13 sections, sections
+-- bits of limits, limits, bits of the 16 sections, sections
 abbrev pub decoded : List ℕ → Decoded Program
 decoded bytes =
     decoded_then (number_at 1 Truncated bytes) (λ bits. decoded_then (limits_at 8 bits.0 bits.1) (λ limits.
-    decoded_then (number_at 2 Truncated limits.1) (λ present. decoded_then (checked (nat_lt present.0 8192) BadOperand present) (λ present.
-    decoded_then (sections_at all_sections present.0 0 present.1) (λ sections. Ok (record { sections = sections; locals = limits.0 }))))))
+    decoded_then (number_at 2 Truncated limits.1) (λ present.
+    decoded_then (sections_at all_sections present.0 0 present.1) (λ sections. Ok (record { sections = sections; locals = limits.0 })))))

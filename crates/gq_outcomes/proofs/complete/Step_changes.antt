@@ -6,7 +6,7 @@ use Rattle.gq_model.specs.declared.fault.Wrong.TheVariants.{WrongKind, ExceededQ
 use Rattle.gq_model.specs.declared.phase.Phase.{Phase}
 use Rattle.gq_model.specs.declared.phase.Phase.TheVariants.{Pending, Running, Blocked, Serving, Handling, Exited}
 use Rattle.gq_model.specs.declared.section.Section.{Section}
-use Rattle.gq_model.specs.declared.section.Section.TheVariants.{Main, Opening, Upgrading, Calling, Closing}
+use Rattle.gq_model.specs.declared.section.Section.TheVariants.{Main, Opening, Upgrading, Calling, Closing, Reacting}
 use Rattle.gq_model.specs.machine.Doing.{Doing, Event, Idle, Quiet, Finished, settled, standing}
 use Rattle.gq_model.specs.machine.Program.{Statements, Done, Do, If, Loop}
 use Rattle.gq_model.specs.machine.Scenario.{Component, System}
@@ -226,6 +226,7 @@ module _ (u : System) (w0 : World) (linked : IsLinkedWorld u w0) (x y : ℕ) (ne
     reply_pends k (Upgrading l) s other = replied_pends k s _ other
     reply_pends k (Calling l) s other = pop_ends Pends _ _ (λ a rest. replied_pends k s _ other)
     reply_pends k (Closing l) s other = close_pends k s other
+    reply_pends k (Reacting i) s other = fails _
 
     stay : (r : Stepped) → Ends Pends r → Ends StaysOr r
     stay r h = record { holds = λ w e is. record { is = inl (h.holds w e is) } }

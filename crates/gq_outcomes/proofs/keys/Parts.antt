@@ -18,7 +18,7 @@ use Rattle.gq_model.specs.declared.program.OperandStatement.TheVariants.{Plain, 
 use Rattle.gq_model.specs.declared.program.Instruction.{Instruction}
 use Rattle.gq_model.specs.declared.program.Instruction.TheVariants.{Say, Out, Operands, Make, MakePool, Load, Store, Free, Take, Give, Peek, Poke, Open}
 use Rattle.gq_model.specs.declared.program.Instruction.TheVariants.{Upgrade, Call, Close}
-use Rattle.gq_model.specs.declared.section.Section.TheVariants.{Main, Opening, Upgrading, Calling, Closing}
+use Rattle.gq_model.specs.declared.section.Section.TheVariants.{Main, Opening, Upgrading, Calling, Closing, Reacting}
 use Rattle.gq_outcomes.specs.internal.Keys.{bare_key, form_tag, instruction_key, number_key, operand_slot_key, operands_key, operator_tag, phase_tag}
 use Rattle.gq_outcomes.specs.internal.Keys.{section_key, text_key, width_tag, with_number_tag}
 use Rattle.gq_outcomes.proofs.keys.Numbers.{IsFree, both_free, number_free, tag_free, tail_is, text_free}
@@ -101,6 +101,8 @@ section_free (Calling i) (Calling j) r s e =
     let p = number_free i j r s (tail_is 3 3 (number_key i ++ r) (number_key j ++ s) e) in (ap Calling p.0, p.1)
 section_free (Closing i) (Closing j) r s e =
     let p = number_free i j r s (tail_is 4 4 (number_key i ++ r) (number_key j ++ s) e) in (ap Closing p.0, p.1)
+section_free (Reacting i) (Reacting j) r s e =
+    let p = number_free i j r s (tail_is 5 5 (number_key i ++ r) (number_key j ++ s) e) in (ap Reacting p.0, p.1)
 section_free _ _ r s e = absurd (cc e)
 
 -- INSTRUCTIONS

@@ -7,8 +7,8 @@ use Rattle.gq_model.specs.machine.Program.{Statements, Done, Do, If, Loop}
 use Rattle.gq_model.specs.rules.Use.{opened_by, services, services_in, services_of}
 use Rattle.gq_resolve.specs.Served.{server_among}
 use Rattle.gq_bytecode.specs.Bytecode_layout.{width}
-use Rattle.gq_races.specs.internal.Table_leaves.{LeafOfAll, served_by}
-use Rattle.gq_races.proofs.Table_leaf_servers.{AreAmong, among_parts, served_is}
+use Rattle.gq_views.specs.internal.Table_leaves.{LeafOfAll, served_by}
+use Rattle.gq_views.proofs.Table_leaf_servers.{AreAmong, among_parts, served_is}
 use Rattle.gq_outcomes.specs.declared.asks.Asks.TheVariants as asks
 use Rattle.gq_outcomes.specs.declared.asks.SectionAsks.{SectionAsks}
 use Rattle.gq_outcomes.specs.internal.Asks.{AreOfSections, IsOfSection, asked, asks_of}

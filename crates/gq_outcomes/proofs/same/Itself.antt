@@ -21,7 +21,7 @@ use Rattle.gq_model.specs.declared.program.Instruction.{Instruction}
 use Rattle.gq_model.specs.declared.program.Instruction.TheVariants.{Say, Out, Operands, Make, MakePool, Load, Store, Free, Take, Give, Peek, Poke, Open}
 use Rattle.gq_model.specs.declared.program.Instruction.TheVariants.{Upgrade, Call, Close}
 use Rattle.gq_model.specs.declared.section.Section.{Section}
-use Rattle.gq_model.specs.declared.section.Section.TheVariants.{Main, Opening, Upgrading, Calling, Closing}
+use Rattle.gq_model.specs.declared.section.Section.TheVariants.{Main, Opening, Upgrading, Calling, Closing, Reacting}
 use Rattle.gq_model.specs.machine.Amounts.{Amount, same_amount}
 use Rattle.gq_model.specs.machine.Program.{Statements, Done, Do, If, Loop, text_eq}
 use Rattle.gq_model.specs.machine.Sections.{same_section}
@@ -162,6 +162,7 @@ section_itself Opening = refl
 section_itself (Upgrading l) = number_itself l
 section_itself (Calling l) = number_itself l
 section_itself (Closing l) = number_itself l
+section_itself (Reacting i) = number_itself i
 
 -- PARTS OF WORLDS
 

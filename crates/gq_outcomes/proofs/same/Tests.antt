@@ -19,7 +19,7 @@ use Rattle.gq_model.specs.declared.program.Instruction.{Instruction}
 use Rattle.gq_model.specs.declared.program.Instruction.TheVariants.{Say, Out, Operands, Make, MakePool, Load, Store, Free, Take, Give, Peek, Poke, Open}
 use Rattle.gq_model.specs.declared.program.Instruction.TheVariants.{Upgrade, Call, Close}
 use Rattle.gq_model.specs.declared.section.Section.{Section}
-use Rattle.gq_model.specs.declared.section.Section.TheVariants.{Main, Opening, Upgrading, Calling, Closing}
+use Rattle.gq_model.specs.declared.section.Section.TheVariants.{Main, Opening, Upgrading, Calling, Closing, Reacting}
 use Rattle.gq_model.specs.declared.phase.Phase.{Phase}
 use Rattle.gq_model.specs.declared.phase.Phase.TheVariants.{Pending, Running, Blocked, Serving, Handling, Exited}
 use Rattle.gq_model.specs.machine.Program.{Statements, Done, Do, If, Loop, text_eq}
@@ -218,4 +218,5 @@ section_is_equal Opening Opening e = refl
 section_is_equal (Upgrading m) (Upgrading n) e = ap Upgrading (number_is_equal m n e)
 section_is_equal (Calling m) (Calling n) e = ap Calling (number_is_equal m n e)
 section_is_equal (Closing m) (Closing n) e = ap Closing (number_is_equal m n e)
+section_is_equal (Reacting m) (Reacting n) e = ap Reacting (number_is_equal m n e)
 section_is_equal _ _ e = absurd (cc e)

@@ -20,7 +20,7 @@ use Rattle.gq_model.specs.declared.program.Instruction.{Instruction}
 use Rattle.gq_model.specs.declared.program.Instruction.TheVariants.{Say, Out, Operands, Make, MakePool, Load, Store, Free, Take, Give, Peek, Poke, Open}
 use Rattle.gq_model.specs.declared.program.Instruction.TheVariants.{Upgrade, Call, Close}
 use Rattle.gq_model.specs.declared.section.Section.{Section}
-use Rattle.gq_model.specs.declared.section.Section.TheVariants.{Main, Opening, Upgrading, Calling, Closing}
+use Rattle.gq_model.specs.declared.section.Section.TheVariants.{Main, Opening, Upgrading, Calling, Closing, Reacting}
 use Rattle.gq_model.specs.machine.Program.{Statements, Done, Do, If, Loop}
 use Rattle.gq_model.specs.machine.World.{Slot, Empty, Bytes, Pool, Link, Waiting, SlotId, In_leaf, In_session, In_object, Session, Ask, Ask_open, Ask_upgrade}
 use Rattle.gq_model.specs.machine.World.{Ask_close, Ask_call, Request, Current, Round, Leaf, World}
@@ -179,6 +179,7 @@ section_key Opening = 1 ∷ []
 section_key (Upgrading l) = 2 ∷ number_key l
 section_key (Calling l) = 3 ∷ number_key l
 section_key (Closing l) = 4 ∷ number_key l
+section_key (Reacting i) = 5 ∷ number_key i
 
 abbrev pub current_key : Current → List ℕ
 current_key c = number_key c.session ++ section_key c.section

@@ -1,15 +1,23 @@
 -- The services that leaves open with the leaves that serve them, as the code keeps them.
 use Rattle.std.specs.Prelude.{◌≡◌, ℕ, List, [], ◌∷◌, ◌++◌, map, Option, Some, None, codes, slice_get}
+use Rattle.gq_model.specs.machine.Routes.{numbered}
 use Rattle.gq_model.specs.machine.Scenario.{Scenario, Component, System, components, system}
 use Rattle.gq_model.specs.rules.Accept.{Budget, budgets}
 use Rattle.gq_model.specs.rules.Use.{services}
+use Rattle.gq_resolve.specs.NodeTables.{number_named}
 use Rattle.gq_resolve.specs.Served.{server_among}
+use Rattle.gq_laws.specs.Ready.{IsReady}
+use Rattle.gq_views.specs.internal.Table_leaves.{LeafOfAll, served_by}
 use Rattle.gq_views.specs.Listing.{line}
 use Rattle.gq_views.specs.Tree.{arrow_to, first_of_each, in_quotes, server_label}
 
 -- these services of a leaf, each with its server
 abbrev pub opened_among : List Component → Component → List (List ℕ) → List (List ℕ × Option ℕ)
 opened_among all c services = map (λ service. (service, server_among all c service)) services
+
+-- these services of a leaf, each with the server that the table of nodes has
+abbrev pub opened_by_table : LeafOfAll → List (List ℕ) → List (List ℕ × Option ℕ)
+opened_by_table l services = map (λ service. (service, served_by l service)) services
 
 -- those that a leaf opens, each once
 abbrev pub opened_by : List Component → Component → List (List ℕ × Option ℕ)
@@ -26,9 +34,14 @@ opened_of all (Some c) = opened_by all c
 abbrev pub opened_at : Scenario → ℕ → List (List ℕ × Option ℕ)
 opened_at s x = opened_of (components s) (slice_get (components s) x)
 
--- these are a scenario's leaves, what each opens, and what each uses at most
-pub record IsDrawn (s : Scenario) (all : List Component) (opened : List (List (List ℕ × Option ℕ))) (most : List Budget) : Type 0 where
-  pub leaves : all ≡ components s
+-- the leaf that a leaf starts after
+abbrev pub started_after : Scenario → Option Component → Option ℕ
+started_after s None = None
+started_after s (Some c) = number_named c.node.after (λ name. numbered 0 name (components s))
+
+-- a scenario that can be run, what each of its leaves opens, and what each uses at most
+pub record IsDrawn (s : Scenario) (opened : List (List (List ℕ × Option ℕ))) (most : List Budget) : Type 0 where
+  pub ready : IsReady s
   pub opens : opened ≡ opened_by_all (components s) (components s)
   pub uses : most ≡ budgets s
 

@@ -5,8 +5,8 @@ use Rattle.gq_fit.specs.Places.{lexer_in}
 use Rattle.gq_fit.proofs.Text_value_changes.{changed, one_more, split_twice}
 use Rattle.gq_fit.proofs.edits.+push_edited.Goals as goal
 
-pub returns : goal.returns
-returns t c =
+pub returns-clause-ends : goal.returns-clause-ends
+returns-clause-ends t c =
     let rest = c.args.rest.now in
     let kept = c.split_at.result.0.now in
     let after = c.split_at.result.1.now in
@@ -22,4 +22,4 @@ returns t c =
     on_ok_weaker c.push_edited.result
     (one_more c.args.with_gifts _ there behind rest kept value new left c.args.made.now.items c.extend_from_slice-3.new.self.items
     c.push_edited.new.made.items was both.0 both.1 c.in_ok-pass.ensures c.in_ok-pass-2.ensures placed
-    (c.in_ok-extend_from_slice-3.ensures.items ∙ ap (λ t. t ++ new) c.in_ok-extend_from_slice-2.ensures.items)) c.push_edited.ensures
+    (c.in_ok-extend_from_slice-3.ensures.items ∙ ap (λ t. t ++ new) c.in_ok-extend_from_slice-2.ensures.items)) c.push_edited.ensures.ends

@@ -1,4 +1,4 @@
-use Rattle.std.proofs.Common.{◌∙◌, ap, refl}
+use Rattle.std.proofs.Common.{ap}
 use Rattle.gq_scenario.specs.Given.{source_of}
 use Rattle.gq_fit.specs.Fitted.{is_code}
 use Rattle.gq_fit.proofs.Coded_leaves.{coded_first, coded_leaf}

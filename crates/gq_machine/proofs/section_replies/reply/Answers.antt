@@ -1,5 +1,6 @@
 -- The reply at the end of a section.
-use Rattle.gq_machine.proofs.Section_end_reply.{main_wrong}
+use Rattle.std.proofs.Common.{inl, inr}
+use Rattle.gq_machine.proofs.Section_end_reply.{main_wrong, reacting_wrong}
 use Rattle.gq_machine.proofs.section_replies.reply.Goals as goal
 
 pub returns-in-Main-clause-step : goal.returns-in-Main-clause-step
@@ -8,7 +9,12 @@ returns-in-Main-clause-step c =
     let m = c.args.state.now in
     let x = c.args.number in
     let current = c.args.current in
-    main_wrong f m x c.client_at-client.result current c.client_at-client.ensures.client.end c.in-Main.is
+    let client = c.client_at-client.result in
+    let end = c.client_at-client.ensures.client.end in
+    elim c.in-Main.is [
+      | inl e ↦ main_wrong f m x client current end e
+      | inr e ↦ reacting_wrong f m x client current end e.0 e.1
+    ]
 
 pub upgraded-requires-clause-section : goal.upgraded-requires-clause-section
 upgraded-requires-clause-section c =

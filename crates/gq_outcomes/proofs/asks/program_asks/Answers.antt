@@ -1,7 +1,7 @@
 use Rattle.std.proofs.Common.{◌<◌, ◌+◌, ◌∙◌, ◌++◌, length, get_or, ◌∷◌, [], sym, ap, subst, take}
 use Rattle.std.proofs.lemmas.List.{take_all, take_more}
 use Rattle.gq_model.specs.machine.Program.{Program}
-use Rattle.gq_races.specs.internal.Table_leaves.{served_by}
+use Rattle.gq_views.specs.internal.Table_leaves.{served_by}
 use Rattle.gq_outcomes.specs.internal.Asks.{AreOfSections}
 use Rattle.gq_outcomes.proofs.keys.Section_asks.{narrow, sections_more}
 use Rattle.gq_outcomes.proofs.asks.program_asks.Goals as goal

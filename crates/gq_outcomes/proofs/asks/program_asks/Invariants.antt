@@ -1,6 +1,6 @@
 use Rattle.std.proofs.Common.{take}
 use Rattle.gq_outcomes.specs.internal.Asks.{AreOfSections}
-use Rattle.gq_races.specs.internal.Table_leaves.{served_by}
+use Rattle.gq_views.specs.internal.Table_leaves.{served_by}
 use Rattle.gq_outcomes.proofs.asks.program_asks.Given as goal
 
 -- those of the sections so far

@@ -3,7 +3,7 @@ use Rattle.std.specs.Prelude.{slice_get}
 use Rattle.gq_outcomes.specs.declared.asks.Asks.{Asks}
 use Rattle.gq_outcomes.specs.internal.Asks.{asks_of}
 use Rattle.gq_outcomes.specs.internal.Left.{ahead_in}
-use Rattle.gq_races.specs.internal.Table_leaves.{served_by}
+use Rattle.gq_views.specs.internal.Table_leaves.{served_by}
 use Rattle.gq_outcomes.proofs.keys.Section_asks.{count_more, each_more}
 use Rattle.gq_outcomes.proofs.asks.section_asks.Goals as goal
 

@@ -4,7 +4,7 @@ use Rattle.std.proofs.lemmas.Option.{slice_get-get_or}
 use Rattle.gq_model.specs.machine.Scenario.{components, system}
 use Rattle.gq_model.specs.rules.Use.{services}
 use Rattle.gq_resolve.specs.Served.{server_among}
-use Rattle.gq_races.proofs.Table_leaf_servers.{among_self, leaf_there}
+use Rattle.gq_views.proofs.Table_leaf_servers.{among_self, leaf_there}
 use Rattle.gq_outcomes.specs.internal.Asks.{AreOfSections}
 use Rattle.gq_outcomes.proofs.Choice_lists.{asks_more, count_put}
 use Rattle.gq_outcomes.proofs.keys.Served_asks.{sections_served}

@@ -1,5 +1,5 @@
 use Rattle.std.proofs.Common.{◌∙◌, List, ℕ, ap, sym}
-use Rattle.gq_races.specs.internal.Table_leaves.{served_by}
+use Rattle.gq_views.specs.internal.Table_leaves.{served_by}
 use Rattle.gq_outcomes.specs.internal.Racy.{is_marked}
 use Rattle.gq_outcomes.proofs.Racy_lists.{service_past}
 use Rattle.gq_outcomes.proofs.racy.leads_to_marked.Goals as goal

@@ -1,6 +1,6 @@
 use Rattle.std.proofs.Common.{◌≡◌, List, ℕ, drop}
 use Rattle.gq_model.specs.machine.Lists.{any_of}
-use Rattle.gq_races.specs.internal.Table_leaves.{served_by}
+use Rattle.gq_views.specs.internal.Table_leaves.{served_by}
 use Rattle.gq_outcomes.specs.internal.Racy.{is_marked}
 use Rattle.gq_outcomes.proofs.racy.leads_to_marked.Given as goal
 

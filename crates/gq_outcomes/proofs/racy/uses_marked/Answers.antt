@@ -2,8 +2,8 @@ use Rattle.std.proofs.Common.{◌∙◌, List, ℕ, ap}
 use Rattle.gq_model.specs.machine.Lists.{any_of}
 use Rattle.gq_model.specs.machine.Program.{Program}
 use Rattle.gq_model.specs.rules.Use.{services, services_in}
-use Rattle.gq_races.specs.internal.Table_leaves.{served_by}
-use Rattle.gq_races.proofs.Table_leaf_servers.{among_self, served_any}
+use Rattle.gq_views.specs.internal.Table_leaves.{served_by}
+use Rattle.gq_views.proofs.Table_leaf_servers.{among_self, served_any}
 use Rattle.gq_outcomes.specs.internal.Racy.{is_marked}
 use Rattle.gq_outcomes.proofs.racy.uses_marked.Goals as goal
 

@@ -1,6 +1,6 @@
 use Rattle.std.proofs.Common.{◌<◌, ◌∙◌, ap, sym, subst}
 use Rattle.gq_model.specs.machine.Scenario.{components}
-use Rattle.gq_races.proofs.Table_leaf_servers.{leaf_there}
+use Rattle.gq_views.proofs.Table_leaf_servers.{leaf_there}
 use Rattle.gq_outcomes.specs.internal.Racy.{uses_marked}
 use Rattle.gq_outcomes.proofs.Racy_lists.{get_or_same, user_more}
 use Rattle.gq_outcomes.proofs.racy.with_users.Goals as goal

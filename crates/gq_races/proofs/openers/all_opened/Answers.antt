@@ -3,7 +3,7 @@ use Rattle.std.proofs.lemmas.List.{length-map}
 use Rattle.gq_model.specs.machine.Scenario.{components}
 use Rattle.gq_races.specs.internal.Openers.{opened_from}
 use Rattle.gq_races.proofs.Served_openers.{servers_put, servers_served}
-use Rattle.gq_races.proofs.Table_leaf_servers.{leaf_there}
+use Rattle.gq_views.proofs.Table_leaf_servers.{leaf_there}
 use Rattle.gq_races.proofs.openers.all_opened.Goals as goal
 
 pub loop-number-preserved : goal.loop-number-preserved

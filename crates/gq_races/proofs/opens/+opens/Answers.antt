@@ -4,7 +4,7 @@ use Rattle.gq_model.specs.machine.Program.{size}
 use Rattle.gq_program.proofs.Statement_list_sizes.{size_here}
 use Rattle.gq_races.proofs.Race_line_text.{arms_text, sizes_here, statement_put}
 use Rattle.gq_races.specs.internal.Openers.{opens_among}
-use Rattle.gq_races.specs.internal.Table_leaves.{served_by}
+use Rattle.gq_views.specs.internal.Table_leaves.{served_by}
 use Rattle.gq_races.specs.internal.Kind_lines.{opened_line}
 use Rattle.gq_races.proofs.opens.+opens.Goals as goal
 

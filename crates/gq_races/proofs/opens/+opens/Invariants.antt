@@ -3,7 +3,7 @@ use Rattle.gq_model.specs.machine.Program.{size}
 use Rattle.gq_program.specs.Statement_trees.{tree_of}
 use Rattle.gq_races.specs.Races.{found_in}
 use Rattle.gq_races.specs.internal.Openers.{opens_among}
-use Rattle.gq_races.specs.internal.Table_leaves.{served_by}
+use Rattle.gq_views.specs.internal.Table_leaves.{served_by}
 use Rattle.gq_races.specs.internal.Kind_lines.{opened_line}
 use Rattle.gq_views.specs.Listing.{joined}
 use Rattle.gq_races.proofs.opens.+opens.Given as goal

@@ -4,7 +4,7 @@ use Rattle.gq_races.specs.Race_text.{opened_text}
 use Rattle.gq_races.proofs.Race_leaf_lines.{opener_put}
 use Rattle.gq_races.proofs.Served_openers.{opened_served}
 use Rattle.gq_views.specs.Listing.{joined}
-use Rattle.gq_races.proofs.Table_leaf_servers.{leaf_there}
+use Rattle.gq_views.proofs.Table_leaf_servers.{leaf_there}
 use Rattle.gq_races.proofs.opens.push_openers.Goals as goal
 
 pub loop-number-preserved : goal.loop-number-preserved

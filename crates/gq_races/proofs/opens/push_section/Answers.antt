@@ -3,7 +3,7 @@ use Rattle.gq_races.proofs.Race_line_text.{opened_same, section_lines}
 use Rattle.gq_races.specs.Race_text.{prefix_of, opened_text}
 use Rattle.gq_races.specs.internal.Kind_lines.{opened_line}
 use Rattle.gq_races.specs.internal.Openers.{opens_among}
-use Rattle.gq_races.specs.internal.Table_leaves.{served_by}
+use Rattle.gq_views.specs.internal.Table_leaves.{served_by}
 use Rattle.gq_races.proofs.opens.push_section.Goals as goal
 
 pub returns-in-Ok : goal.returns-in-Ok

@@ -3,7 +3,7 @@ use Rattle.gq_races.proofs.Race_line_text.{opened_same, few_after, section_put}
 use Rattle.gq_races.specs.Race_text.{opened_text}
 use Rattle.gq_races.specs.internal.Kind_lines.{opened_line}
 use Rattle.gq_races.specs.internal.Openers.{opens_among}
-use Rattle.gq_races.specs.internal.Table_leaves.{served_by}
+use Rattle.gq_views.specs.internal.Table_leaves.{served_by}
 use Rattle.gq_races.proofs.opens.push_sections.Goals as goal
 
 pub loop-section-preserved : goal.loop-section-preserved

@@ -5,7 +5,7 @@ use Rattle.gq_model.specs.texts.Code.{greatest_statements}
 use Rattle.gq_races.specs.Races.{stated_in}
 use Rattle.gq_races.specs.Race_text.{opened_text}
 use Rattle.gq_races.specs.internal.Openers.{opens_among}
-use Rattle.gq_races.specs.internal.Table_leaves.{served_by}
+use Rattle.gq_views.specs.internal.Table_leaves.{served_by}
 use Rattle.gq_views.specs.Listing.{joined}
 use Rattle.gq_races.proofs.opens.push_sections.Given as goal
 

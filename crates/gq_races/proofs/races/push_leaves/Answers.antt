@@ -5,8 +5,8 @@ use Rattle.gq_races.specs.Races.{stated_of}
 use Rattle.gq_races.specs.Race_text.{has_effect, heading, sharing_lines}
 use Rattle.gq_races.specs.internal.Openers.{opened_among, opened_from}
 use Rattle.gq_views.specs.Listing.{joined}
-use Rattle.gq_races.specs.internal.Table_leaves.{leaf_of}
-use Rattle.gq_races.proofs.Table_leaf_servers.{leaf_there}
+use Rattle.gq_views.specs.internal.Table_leaves.{leaf_of}
+use Rattle.gq_views.proofs.Table_leaf_servers.{leaf_there}
 use Rattle.gq_races.proofs.Shared_leaf_servers.{shared_test}
 use Rattle.gq_races.proofs.Race_leaf_lines.{leaf_put, lines_are}
 use Rattle.gq_races.proofs.races.push_leaves.Goals as goal

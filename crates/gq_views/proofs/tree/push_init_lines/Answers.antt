@@ -1,4 +1,4 @@
-use Rattle.std.proofs.Common.{◌∙◌, suc, ◌++◌, refl, ap, ap₂, append_assoc, add-one}
+use Rattle.std.proofs.Common.{◌∙◌, suc, ◌++◌, refl, ap₂, append_assoc, add-one}
 use Rattle.std.proofs.lemmas.Result.{on_ok_weaker}
 use Rattle.gq_scenario.specs.Component_trees.{version_number}
 use Rattle.gq_views.specs.Listing.{line}

@@ -5,8 +5,8 @@ use Rattle.gq_model.specs.machine.Doing.{Line}
 use Rattle.gq_model.specs.machine.Run.{line_of}
 use Rattle.gq_model.specs.machine.Scenario.{Component, components}
 use Rattle.gq_model.proofs.Small_facts.{some_same}
-use Rattle.gq_races.specs.internal.Table_leaves.{leaf_of}
-use Rattle.gq_races.proofs.Table_leaf_servers.{leaf_there}
+use Rattle.gq_views.specs.internal.Table_leaves.{leaf_of}
+use Rattle.gq_views.proofs.Table_leaf_servers.{leaf_there}
 use Rattle.gq_outcomes.specs.Outcomes.{line_by}
 use Rattle.gq_outcomes.specs.internal.Walks.{said_of}
 use Rattle.gq_outcomes.proofs.Walk_facts.{line_put, none_put, ok_items, on_ok, provided, some_map, unprovided}

@@ -1,6 +1,6 @@
 use Rattle.std.proofs.Common.{◌≡◌, ◌++◌, drop}
 use Rattle.gq_races.specs.internal.Openers.{first_servers, later_servers}
-use Rattle.gq_races.specs.internal.Table_leaves.{served_by}
+use Rattle.gq_views.specs.internal.Table_leaves.{served_by}
 use Rattle.gq_races.proofs.openers.OpenedFrom.of.Given as goal
 
 -- the servers so far, with those of the sections that are left, are all
