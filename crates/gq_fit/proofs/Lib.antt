@@ -5,6 +5,7 @@ mod Fitted_text_written
 mod Giving_lines
 mod Programs_compared
 mod Same_texts
+mod Lengths_compared
 mod Coded_leaves
 mod Place_rows
 mod Due_quantities

@@ -23,3 +23,7 @@ pub refitted : (old new : Scenario) (ps qs : List Program) → bare new ≡ bare
     → map program_giving_nothing ps ≡ map program_giving_nothing qs → IsRefitted old new
 refitted old new ps qs shape are were same =
     record { shape = shape; programs = sym (giving new ps are) ∙ (same ∙ giving old qs were) }
+
+pub compared : (old new : Scenario) (ps qs : List Program) → ps ≡ programs new → qs ≡ programs old → IsRefitted old new
+    → map program_giving_nothing ps ≡ map program_giving_nothing qs
+compared old new ps qs are were r = giving new ps are ∙ (r.programs ∙ sym (giving old qs were))

@@ -47,15 +47,14 @@ fn programs_of(alloc: Global, scenario: &Scenario) -> Result<Vec<Program>, LoadE
 
 /// Whether a scenario is another with other quantities, whose programs give other amounts with `open` and `upgrade`.
 ///
-/// The contract says only what `true` means. That it is returned for each such scenario is tested.
-///
 /// Fails with the first fault of either that no quantity decides, or if the host refuses memory.
 pub(crate) fn is_refitted(
     alloc: Global,
     made: &Scenario,
     scenario: &Scenario,
 ) -> Result<bool, LoadError>
-    ensures { IfOk result (λ b. IsTrue b → IsRefitted scenario.now made.now) }
+    ensures refitted { IfOk result (λ b. IsTrue b → IsRefitted scenario.now made.now) }
+    ensures only { IfOk result (λ b. IsRefitted scenario.now made.now → IsTrue b) }
 {
     if !same_shape(made, scenario) {
         return Ok(false);

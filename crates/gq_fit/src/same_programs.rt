@@ -10,7 +10,8 @@ use gq_program::program_tree::{Body, Program, Statement};
 
 /// Whether two statements without statements in them are the same but for what they give.
 fn same_instruction(a: &Instruction, b: &Instruction) -> bool
-    ensures { IsTrue result → giving_nothing a.now ≡ giving_nothing b.now }
+    ensures same { IsTrue result → giving_nothing a.now ≡ giving_nothing b.now }
+    ensures only { giving_nothing a.now ≡ giving_nothing b.now → IsTrue result }
 {
     match (a, b) {
         (Instruction::Say(a), Instruction::Say(b)) => same_text(a.as_bytes(), b.as_bytes()),
@@ -40,7 +41,8 @@ fn same_instruction(a: &Instruction, b: &Instruction) -> bool
 /// Whether two lists of statements are the same but for what they give.
 #[cycle(statements)]
 fn same_list(a: &[Statement], b: &[Statement]) -> bool
-    ensures { IsTrue result → statements_giving_nothing (tree_of a.now) ≡ statements_giving_nothing (tree_of b.now) }
+    ensures same { IsTrue result → statements_giving_nothing (tree_of a.now) ≡ statements_giving_nothing (tree_of b.now) }
+    ensures only { statements_giving_nothing (tree_of a.now) ≡ statements_giving_nothing (tree_of b.now) → IsTrue result }
 {
     match (a, b) {
         ([], []) => true,
@@ -52,7 +54,8 @@ fn same_list(a: &[Statement], b: &[Statement]) -> bool
 /// Whether the statements of two bodies are the same but for what they give.
 #[cycle(statements)]
 fn same_body(a: &Body, b: &Body) -> bool
-    ensures { IsTrue result → statements_giving_nothing a.now ≡ statements_giving_nothing b.now }
+    ensures same { IsTrue result → statements_giving_nothing a.now ≡ statements_giving_nothing b.now }
+    ensures only { statements_giving_nothing a.now ≡ statements_giving_nothing b.now → IsTrue result }
 {
     same_list(a.statements(), b.statements())
 }
@@ -60,7 +63,8 @@ fn same_body(a: &Body, b: &Body) -> bool
 /// Whether two statements are the same but for what they and those in them give.
 #[cycle(statements)]
 fn same_statement(a: &Statement, b: &Statement) -> bool
-    ensures { IsTrue result → statements_giving_nothing (tree_of (a.now ∷ [])) ≡ statements_giving_nothing (tree_of (b.now ∷ [])) }
+    ensures same { IsTrue result → statements_giving_nothing (tree_of (a.now ∷ [])) ≡ statements_giving_nothing (tree_of (b.now ∷ [])) }
+    ensures only { statements_giving_nothing (tree_of (a.now ∷ [])) ≡ statements_giving_nothing (tree_of (b.now ∷ [])) → IsTrue result }
 {
     match (a, b) {
         (Statement::Plain(a), Statement::Plain(b)) => same_instruction(a, b),
@@ -74,7 +78,8 @@ fn same_statement(a: &Statement, b: &Statement) -> bool
 
 /// Whether two lists of sections are the same but for what their statements give.
 fn same_sections(a: &[(Section, Body)], b: &[(Section, Body)]) -> bool
-    ensures { IsTrue result → map section_giving_nothing a.now ≡ map section_giving_nothing b.now }
+    ensures same { IsTrue result → map section_giving_nothing a.now ≡ map section_giving_nothing b.now }
+    ensures only { map section_giving_nothing a.now ≡ map section_giving_nothing b.now → IsTrue result }
 {
     match (a, b) {
         ([], []) => true,
@@ -87,14 +92,16 @@ fn same_sections(a: &[(Section, Body)], b: &[(Section, Body)]) -> bool
 
 /// Whether two programs are the same but for what their statements give.
 fn same_program(a: &Program, b: &Program) -> bool
-    ensures { IsTrue result → program_giving_nothing a.now ≡ program_giving_nothing b.now }
+    ensures same { IsTrue result → program_giving_nothing a.now ≡ program_giving_nothing b.now }
+    ensures only { program_giving_nothing a.now ≡ program_giving_nothing b.now → IsTrue result }
 {
     a.locals() == b.locals() && same_sections(a.sections(), b.sections())
 }
 
-/// Whether two lists of programs are the same but for what their statements give. The contract says only what `true` means.
+/// Whether two lists of programs are the same but for what their statements give.
 pub(crate) fn same_programs(a: &[Program], b: &[Program]) -> bool
-    ensures { IsTrue result → map program_giving_nothing a.now ≡ map program_giving_nothing b.now }
+    ensures same { IsTrue result → map program_giving_nothing a.now ≡ map program_giving_nothing b.now }
+    ensures only { map program_giving_nothing a.now ≡ map program_giving_nothing b.now → IsTrue result }
 {
     match (a, b) {
         ([], []) => true,

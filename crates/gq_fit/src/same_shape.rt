@@ -13,7 +13,8 @@ use gq_sizes::same::{
 
 /// Whether two leaves are the same but for their quanta and programs.
 fn same_leaf(a: &Leaf, b: &Leaf) -> bool
-    ensures { IsTrue result → bare_leaf a.now ≡ bare_leaf b.now }
+    ensures same { IsTrue result → bare_leaf a.now ≡ bare_leaf b.now }
+    ensures only { bare_leaf a.now ≡ bare_leaf b.now → IsTrue result }
 {
     same_name(a.name(), b.name())
         && same_names(a.provides(), b.provides())
@@ -24,7 +25,8 @@ fn same_leaf(a: &Leaf, b: &Leaf) -> bool
 
 /// Whether two inits are the same but for their quanta.
 fn same_init(a: &Init, b: &Init) -> bool
-    ensures { IsTrue result → bare_init a.now ≡ bare_init b.now }
+    ensures same { IsTrue result → bare_init a.now ≡ bare_init b.now }
+    ensures only { bare_init a.now ≡ bare_init b.now → IsTrue result }
 {
     same_name(a.name(), b.name())
         && same_routes(a.routes(), b.routes())
@@ -35,7 +37,8 @@ fn same_init(a: &Init, b: &Init) -> bool
 /// Whether nodes are the same but for their quanta and programs.
 #[cycle(nodes)]
 fn same_nodes(a: &[Node], b: &[Node]) -> bool
-    ensures { IsTrue result → bare_nodes (nodes_of a.now) ≡ bare_nodes (nodes_of b.now) }
+    ensures same { IsTrue result → bare_nodes (nodes_of a.now) ≡ bare_nodes (nodes_of b.now) }
+    ensures only { bare_nodes (nodes_of a.now) ≡ bare_nodes (nodes_of b.now) → IsTrue result }
 {
     match (a, b) {
         ([], []) => true,
@@ -47,7 +50,8 @@ fn same_nodes(a: &[Node], b: &[Node]) -> bool
 /// Whether two nodes are the same but for the quanta and programs of them and of those in them.
 #[cycle(nodes)]
 fn same_node(a: &Node, b: &Node) -> bool
-    ensures { IsTrue result → bare_nodes (nodes_of (a.now ∷ [])) ≡ bare_nodes (nodes_of (b.now ∷ [])) }
+    ensures same { IsTrue result → bare_nodes (nodes_of (a.now ∷ [])) ≡ bare_nodes (nodes_of (b.now ∷ [])) }
+    ensures only { bare_nodes (nodes_of (a.now ∷ [])) ≡ bare_nodes (nodes_of (b.now ∷ [])) → IsTrue result }
 {
     match (a, b) {
         (Node::Leaf(a), Node::Leaf(b)) => same_leaf(a, b),
@@ -60,7 +64,8 @@ fn same_node(a: &Node, b: &Node) -> bool
 
 /// Whether there are as many upgrades.
 fn same_count(a: &[Upgrade], b: &[Upgrade]) -> bool
-    ensures { IsTrue result → map (λ (u : Amount). amount 0 0) a.now ≡ map (λ (u : Amount). amount 0 0) b.now }
+    ensures same { IsTrue result → map (λ (u : Amount). amount 0 0) a.now ≡ map (λ (u : Amount). amount 0 0) b.now }
+    ensures only { map (λ (u : Amount). amount 0 0) a.now ≡ map (λ (u : Amount). amount 0 0) b.now → IsTrue result }
 {
     match (a, b) {
         ([], []) => true,
@@ -71,7 +76,8 @@ fn same_count(a: &[Upgrade], b: &[Upgrade]) -> bool
 
 /// Whether two interfaces are the same but for what they ask.
 fn same_interface(a: &Interface, b: &Interface) -> bool
-    ensures { IsTrue result → bare_interface a.now ≡ bare_interface b.now }
+    ensures same { IsTrue result → bare_interface a.now ≡ bare_interface b.now }
+    ensures only { bare_interface a.now ≡ bare_interface b.now → IsTrue result }
 {
     a.arg() == b.arg()
         && a.reply() == b.reply()
@@ -83,7 +89,8 @@ fn same_interface(a: &Interface, b: &Interface) -> bool
 
 /// Whether two lists of interfaces are the same but for what these ask.
 fn same_interfaces(a: &[(Name, Interface)], b: &[(Name, Interface)]) -> bool
-    ensures { IsTrue result → map bare_entry a.now ≡ map bare_entry b.now }
+    ensures same { IsTrue result → map bare_entry a.now ≡ map bare_entry b.now }
+    ensures only { map bare_entry a.now ≡ map bare_entry b.now → IsTrue result }
 {
     match (a, b) {
         ([], []) => true,
@@ -96,7 +103,8 @@ fn same_interfaces(a: &[(Name, Interface)], b: &[(Name, Interface)]) -> bool
 
 /// Whether two scenarios are the same but for their quantities and programs.
 pub(crate) fn same_shape(a: &Scenario, b: &Scenario) -> bool
-    ensures { IsTrue result → bare a.now ≡ bare b.now }
+    ensures same { IsTrue result → bare a.now ≡ bare b.now }
+    ensures only { bare a.now ≡ bare b.now → IsTrue result }
 {
     same_version(a.version(), b.version())
         && same_routes(a.default_routes(), b.default_routes())
