@@ -3,14 +3,8 @@
     from trade import World
 
     with World.load(open("examples/echo.toml", "rb").read()) as world:
-        srv, cli = world.leaf("srv"), world.leaf("cli")
-        while True:
-            world.turns(srv, 100)
-            turn = world.turns(cli, 100)
-            if turn.line is not None:
-                print(turn.line)
-            if turn.taken == 0:
-                break
+        for leaf, line in world.run():
+            print(world.label(world.node(leaf)), line)
 
 Leaves and nodes are numbers, from 0 in preorder. A world stays on the thread that loaded it: a call on another thread raises RuntimeError. End a world by
 `close` or a `with` statement. TRADE_LIBRARY in the environment names another library file.
@@ -24,15 +18,18 @@ import pathlib
 import threading
 import warnings
 from dataclasses import dataclass
-from typing import Any, Callable, Optional, Union
+from typing import Any, Callable, Iterator, Optional, Tuple, Union
 
-__all__ = ["Account", "Budget", "Event", "InputError", "Phase", "Refused", "Turn", "Turns", "World", "fault_of"]
+__all__ = ["Account", "Budget", "Event", "InputError", "Phase", "Reaction", "Refused", "SignalError", "Turn", "Turns", "World", "fault_of"]
 
 _NONE = 0xFFFFFFFF
 _LOADED, _REFUSED, _MEMORY = 0, 1, 3
 _NO_INPUT, _TOO_LARGE = 1, 2
+_SUBMITTED = 0
 # The greatest line of a leaf; and a room for labels and faults, which grows where it is too small.
 _LINE, _TEXT = 64, 256
+# How many turns `run` asks for at once: between two such calls Python sees an interrupt.
+_SOME_TURNS = 1 << 20
 
 
 class Refused(ValueError):
@@ -41,6 +38,10 @@ class Refused(ValueError):
 
 class InputError(ValueError):
     """A leaf has no such input, or the number is above its greatest value."""
+
+
+class SignalError(ValueError):
+    """A leaf has no such signal."""
 
 
 class Event(enum.IntEnum):
@@ -95,11 +96,19 @@ class Account:
 
 @dataclass(frozen=True)
 class Budget:
-    """The verified bounds of a leaf: bytes and capabilities of its own, and steps."""
+    """The verified bounds of a leaf: bytes and capabilities of its own, and steps from the start, without signals."""
 
     own: int
     own_caps: int
     steps: int
+
+
+@dataclass(frozen=True)
+class Reaction:
+    """The verified bounds of a signal: how many steps it takes at most each time that it is taken, of its leaf and of all leaves together."""
+
+    steps: int
+    all: int
 
 
 class _World(ctypes.Structure):
@@ -112,6 +121,10 @@ class _Account(ctypes.Structure):
 
 class _Budget(ctypes.Structure):
     _fields_ = [(name, ctypes.c_uint64) for name in ("own", "own_caps", "steps")]
+
+
+class _Reaction(ctypes.Structure):
+    _fields_ = [(name, ctypes.c_uint64) for name in ("steps", "all")]
 
 
 def _opened() -> ctypes.CDLL:
@@ -134,8 +147,12 @@ def _opened() -> ctypes.CDLL:
         "trade_read_account": (flag, world, number, ctypes.POINTER(_Account)),
         "trade_read_budget": (flag, world, number, ctypes.POINTER(_Budget)),
         "trade_set_input": (number, world, number, number, number),
+        "trade_read_reaction": (flag, world, number, number, ctypes.POINTER(_Reaction)),
+        "trade_signal": (number, world, number, number),
+        "trade_at_rest": (flag, world),
         "trade_turn": (number, world, number, text, size, sizes),
         "trade_turns": (number, world, number, number, numbers, text, size, sizes),
+        "trade_run": (number, world, number, numbers, numbers, text, size, sizes),
         "trade_drop": (None, world),
     }
     for name, (result, *arguments) in types.items():
@@ -289,7 +306,7 @@ class World:
 
     def set_input(self, leaf: int, input: int, number: int) -> None:
         """Gives an input of a leaf another value, from here on. InputError if there is no such leaf or input, or if the number is too large for it."""
-        if not 0 <= input < _NONE or not 0 <= leaf < _NONE:
+        if not self._has_numbers(leaf, input):
             raise InputError(f"leaf {leaf} has no input {input}")
         if not 0 <= number <= _NONE:
             raise InputError(f"{number} is not within the values of input {input} of leaf {leaf}")
@@ -298,6 +315,22 @@ class World:
             raise InputError(f"leaf {leaf} has no input {input}")
         if status == _TOO_LARGE:
             raise InputError(f"{number} is not within the values of input {input} of leaf {leaf}")
+
+    def reaction(self, leaf: int, signal: int) -> Reaction:
+        """The verified bounds of a signal of a leaf. SignalError if there is no such leaf or signal."""
+        read = _Reaction()
+        if not self._has_numbers(leaf, signal) or not _calls().trade_read_reaction(self._at(), leaf, signal, ctypes.byref(read)):
+            raise SignalError(f"leaf {leaf} has no signal {signal}")
+        return Reaction(read.steps, read.all)
+
+    def signal(self, leaf: int, signal: int) -> None:
+        """Submits a signal to a leaf. It counts once until it is taken. SignalError if there is no such leaf or signal."""
+        if not self._has_numbers(leaf, signal) or _calls().trade_signal(self._at(), leaf, signal) != _SUBMITTED:
+            raise SignalError(f"leaf {leaf} has no signal {signal}")
+
+    def is_at_rest(self) -> bool:
+        """Whether no leaf can take a turn."""
+        return _calls().trade_at_rest(self._at())
 
     def turn(self, leaf: int) -> Turn:
         """One turn of a leaf. IndexError if there is no such leaf."""
@@ -315,6 +348,25 @@ class World:
         if event == _NONE:
             raise IndexError(f"no leaf {leaf}")
         return Turns(self._taken.value, Event(event), self._said(event))
+
+    def run(self) -> Iterator[Tuple[int, str]]:
+        """Turns of all leaves until the world is at rest: round by round in preorder, each as long as it can take one. Gives each line with its leaf.
+
+        Between two lines inputs may be set and signals submitted. The turns go on when the next line is asked for.
+        """
+        leaf, taken, written = ctypes.c_uint32(0), ctypes.byref(self._taken), ctypes.byref(self._written)
+        while True:
+            event = _calls().trade_run(self._at(), _SOME_TURNS, ctypes.byref(leaf), taken, self._line, _LINE, written)
+            if self._taken.value == 0:
+                return
+            line = self._said(event)
+            if line is not None:
+                yield leaf.value, line
+
+    @staticmethod
+    def _has_numbers(*values: int) -> bool:
+        """Whether C can take these numbers."""
+        return all(0 <= value < _NONE for value in values)
 
     def _said(self, event: int) -> Optional[str]:
         """The text of the line that was given, if one was."""

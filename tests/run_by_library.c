@@ -1,9 +1,11 @@
 /* run_by_library SCENARIO TURNS: does what `trade run SCENARIO TURNS` does, by the calls of library/trade.h. Both files are there.
 
    Standard output, standard error and the exit status are those of the program. It reads the list of turns itself, as docs/SCENARIOS.md has it.
-   With ONE_BY_ONE it calls trade_turn for each turn, and else trade_turns. With COUNTED it counts the calls of the allocator (link with
-   -Wl,--wrap=malloc,--wrap=realloc,--wrap=free). COUNTS=1 in the environment prints on standard error how many calls loading made, how many came later up
-   to the drop, and how many blocks are left after it; whether the handle was empty after the load, and is after the drop. FAIL=n refuses the n-th call. */
+   It calls trade_turns, and for `rest` trade_run. With ONE_BY_ONE it calls trade_turn for each turn instead, and trade_run for one turn at a time. With COUNTED
+   it counts the calls of the allocator (link with -Wl,--wrap=malloc,--wrap=realloc,--wrap=free). COUNTS=1 in the environment prints on standard error how many
+   calls loading made, how many came later up to the drop, and how many blocks are left after it; whether the handle was empty after the load, and is after the
+   drop. FAIL=n refuses the n-th call. */
+#include "counted_calls.h"
 #include "trade.h"
 
 #include <inttypes.h>
@@ -11,43 +13,18 @@
 #include <stdlib.h>
 #include <string.h>
 
-enum { MOST_TEXT = 18 << 20, MOST_LINE = 4096, MOST_TURNS = 1000000, MOST_TURNS_TEXT = 16 << 20 };
-
-/* Calls of malloc and realloc, blocks that are not freed, and the number of the call that is refused. */
-static long calls, blocks, fail_at;
-
-#ifdef COUNTED
-void *__real_malloc(size_t size);
-void *__real_realloc(void *old, size_t size);
-void __real_free(void *old);
-
-void *__wrap_malloc(size_t size) {
-    void *made = ++calls == fail_at ? NULL : __real_malloc(size);
-    blocks += made != NULL;
-    return made;
-}
-
-void *__wrap_realloc(void *old, size_t size) {
-    void *made = ++calls == fail_at ? NULL : __real_realloc(old, size);
-    blocks += made != NULL && old == NULL;
-    return made;
-}
-
-void __wrap_free(void *old) {
-    blocks -= old != NULL;
-    __real_free(old);
-}
-#endif
+enum { MOST_TEXT = 18 << 20, MOST_LINE = 4096, MOST_TURNS = 1000000, MOST_TURNS_TEXT = 16 << 20, SHORTEST_ITEM = 4 };
 
 static uint8_t scenario[MOST_TEXT], turns[MOST_TEXT];
 
-/* An item of a list of turns: turns of a leaf, or a value for one of its inputs. */
+/* An item of a list of turns: so many turns of a leaf, the value of an input, a signal, or turns until all is at rest. */
+typedef enum kind { TURNS, SETTING, SIGNAL, REST } kind;
 typedef struct item {
-    uint32_t leaf, number;
-    int input;
+    kind kind;
+    uint32_t leaf, which, number;
 } item;
 
-static item items[MOST_TURNS + 1];
+static item items[MOST_TURNS_TEXT / SHORTEST_ITEM + 1];
 
 static size_t read_file(const char *name, uint8_t *text) {
     FILE *file = fopen(name, "rb");
@@ -79,34 +56,59 @@ static bool is_name(const uint8_t *text, size_t length) {
     return length >= 1 && length <= 16;
 }
 
+/* Whether there is a leaf of the name that stands there. The fault's text, or null. */
+static const char *read_leaf(trade_world *world, const uint8_t *name, size_t length, item *read) {
+    if (!is_name(name, length)) return "U1 BadLine";
+    read->leaf = trade_leaf(world, name, length);
+    return read->leaf == TRADE_NONE ? "U2 NoSuchComponent" : NULL;
+}
+
+/* NAME!I. The library judges the signal, of which the bounds can be read if it is there. */
+static const char *read_signal(trade_world *world, const uint8_t *line, size_t name, item *read) {
+    trade_reaction reaction;
+    uint8_t digit = line[name + 1];
+    if (digit < '0' || digit > '2') return "U1 BadLine";
+    *read = (item){.kind = SIGNAL, .which = digit - '0'};
+    const char *fault = read_leaf(world, line, name, read);
+    if (fault) return fault;
+    return trade_read_reaction(world, read->leaf, read->which, &reaction) ? NULL : "U6 NoSignal";
+}
+
+/* NAME.I = N, of which the digits begin at `from`. The library judges it: the input is set at once, and back to 0 before the run, with which a leaf starts. */
+static const char *read_setting(trade_world *world, const uint8_t *line, size_t name, size_t from, size_t length, item *read) {
+    uint64_t number;
+    uint8_t digit = line[name + 1];
+    if (digit < '0' || digit > '7' || !read_number(line + from, length - from, 10, &number) || number > UINT32_MAX) return "U1 BadLine";
+    *read = (item){.kind = SETTING, .which = digit - '0', .number = (uint32_t)number};
+    const char *fault = read_leaf(world, line, name, read);
+    if (fault) return fault;
+    uint32_t set = trade_set_input(world, read->leaf, read->which, read->number);
+    if (set == TRADE_NO_INPUT) return "U4 NoInput";
+    if (set == TRADE_TOO_LARGE) return "U5 InputTooLarge";
+    return trade_set_input(world, read->leaf, read->which, 0) == TRADE_SET ? NULL : "unset";
+}
+
+/* NAME N, of which the digits begin at `from`. */
+static const char *read_count(trade_world *world, const uint8_t *line, size_t name, size_t from, size_t length, item *read) {
+    uint64_t number;
+    if (from == length || line[from] == '0' || !read_number(line + from, length - from, 7, &number)) return "U1 BadLine";
+    *read = (item){.kind = TURNS, .number = (uint32_t)number};
+    return read_leaf(world, line, name, read);
+}
+
 /* Reads a line that says something. The fault's text, or null. */
-static const char *read_item(trade_world *world, bool has_inputs, const uint8_t *line, size_t length, item *read) {
+static const char *read_item(trade_world *world, int version, const uint8_t *line, size_t length, item *read) {
+    if (version >= 4 && length == 4 && !memcmp(line, "rest", 4)) return *read = (item){.kind = REST}, NULL;
+    if (version >= 4 && length >= 3 && line[length - 2] == '!') return read_signal(world, line, length - 2, read);
     const uint8_t *blank = memchr(line, ' ', length);
     if (!blank) return "U1 BadLine";
     size_t name = (size_t)(blank - line), rest = length - name - 1;
-    uint64_t number;
-    read->input = -1;
-    if (rest >= 2 && blank[1] == '=' && blank[2] == ' ' && has_inputs && name >= 3 && line[name - 2] == '.') {
-        if (line[name - 1] < '0' || line[name - 1] > '7' || !read_number(blank + 3, rest - 2, 10, &number) || number > UINT32_MAX) return "U1 BadLine";
-        read->input = line[name - 1] - '0';
-        name -= 2;
-    } else if (rest < 1 || blank[1] == '0' || !read_number(blank + 1, rest, 7, &number)) {
-        return "U1 BadLine";
-    }
-    if (!is_name(line, name)) return "U1 BadLine";
-    read->number = (uint32_t)number;
-    read->leaf = trade_leaf(world, line, name);
-    if (read->leaf == TRADE_NONE) return "U2 NoSuchComponent";
-    if (read->input < 0) return NULL;
-    /* (A setting at once, and back to 0 before the run: the library judges the input. A leaf starts with 0 in all of them.) */
-    uint32_t set = trade_set_input(world, read->leaf, (uint32_t)read->input, read->number);
-    if (set == TRADE_NO_INPUT) return "U4 NoInput";
-    if (set == TRADE_TOO_LARGE) return "U5 InputTooLarge";
-    return trade_set_input(world, read->leaf, (uint32_t)read->input, 0) == TRADE_SET ? NULL : "unset";
+    bool is_setting = version >= 3 && rest >= 2 && blank[1] == '=' && blank[2] == ' ' && name >= 3 && line[name - 2] == '.';
+    return is_setting ? read_setting(world, line, name - 2, name + 3, length, read) : read_count(world, line, name, name + 1, length, read);
 }
 
 /* Reads the list of turns. The number of items, or -1 after the fault's line. */
-static long read_turns(trade_world *world, bool has_inputs, size_t length) {
+static long read_turns(trade_world *world, int version, size_t length) {
     long count = 0;
     uint64_t sum = 0;
     size_t number = 0;
@@ -118,9 +120,9 @@ static long read_turns(trade_world *world, bool has_inputs, size_t length) {
         if (of_line && line[of_line - 1] == '\r' && end) of_line--;
         if (of_line == 0 || line[0] == '#') continue;
         item *read = &items[count++];
-        const char *fault = read_item(world, has_inputs, line, of_line, read);
+        const char *fault = read_item(world, version, line, of_line, read);
         if (fault) return refuse(fault, number + 1), -1;
-        if (read->input < 0) sum += read->number;
+        if (read->kind == TURNS) sum += read->number;
         if (sum > MOST_TURNS) return refuse("U3 TooMany", number + 1), -1;
     }
     return count;
@@ -153,6 +155,25 @@ static void take_turns(trade_world *world, uint32_t leaf, uint32_t count) {
         if (event == TRADE_LINE) put_line(world, leaf, line, written);
         if (event == TRADE_IDLE) break;
         count -= taken;
+    }
+}
+
+/* Turns of all leaves from the first on, until all is at rest or so many were taken as a list may have. */
+static void take_to_rest(trade_world *world) {
+#ifdef ONE_BY_ONE
+    enum { AT_ONCE = 1 };
+#else
+    enum { AT_ONCE = MOST_TURNS };
+#endif
+    uint32_t leaf = 0, taken;
+    for (uint32_t left = MOST_TURNS; left > 0; left -= taken) {
+        uint8_t line[64];
+        size_t written;
+        if (trade_run(world, left < AT_ONCE ? left : AT_ONCE, &leaf, &taken, line, sizeof line, &written) == TRADE_LINE) put_line(world, leaf, line, written);
+        if (taken == 0) {
+            if (!trade_at_rest(world)) exit(6);
+            break;
+        }
     }
 }
 
@@ -198,12 +219,15 @@ static int load(trade_world *world, size_t length) {
 /* Runs the turns. The exit status, after the fault's line where there is one. */
 static int run(trade_world *world, size_t length, size_t of_turns) {
     int version = version_of(length);
-    long count = read_turns(world, version >= 3, of_turns);
+    long count = read_turns(world, version, of_turns);
     for (long at = 0; at < count; at++) {
-        if (items[at].input < 0)
-            take_turns(world, items[at].leaf, items[at].number);
-        else
-            trade_set_input(world, items[at].leaf, (uint32_t)items[at].input, items[at].number);
+        const item *done = &items[at];
+        switch (done->kind) {
+        case TURNS: take_turns(world, done->leaf, done->number); break;
+        case SETTING: trade_set_input(world, done->leaf, done->which, done->number); break;
+        case SIGNAL: trade_signal(world, done->leaf, done->which); break;
+        case REST: take_to_rest(world); break;
+        }
     }
     if (count >= 0) put_accounts(world, version >= 2);
     return count < 0 ? TRADE_REFUSED : TRADE_LOADED;

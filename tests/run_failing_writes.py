@@ -2,11 +2,13 @@
 """Runs a program whose output can not be written, or not all of it: run_failing_writes.py PROGRAM
 
 Standard output is a full device, or a pipe whose reader closes it after some bytes. The program has to end with status 4. It prints `trade: file fault` and why
-for the full device, and nothing for the pipe, and what the reader has got is a prefix of what the run writes where all is written. The runs are those of the examples, and one of 200,000 lines,
-which is longer than a pipe holds; and so are tried the other commands, over each example, and those that read nothing, and `faults` over scenarios and turns
-that have one fault and many. Each command prints one short text at least, which leaves the program's buffer only at its end.
+for the full device, and nothing for the pipe, and what the reader has got is a prefix of what the run writes where all is written. The runs are those of the
+examples, one of thousands of signals, and one of 200,000 lines, which is longer than a pipe holds; and so are tried the other commands, over each example, and
+those that read nothing, and `faults` over scenarios, turns and signals that have one fault and many. Each command prints one short text at least, which leaves
+the program's buffer only at its end.
 
-Where standard error is a full device, a refusal has the status that it has otherwise, and writes nothing to standard output. The last line is 'N passed, M failed', and the exit status is 1 where a run failed.
+Where standard error is a full device, a refusal has the status that it has otherwise, and writes nothing to standard output. The last line is
+'N passed, M failed', and the exit status is 1 where a run failed.
 """
 import os
 import pathlib
@@ -52,15 +54,18 @@ def commands():
     """The name and the words of each command that is no run: over each example, and without one."""
     for scenario in sorted(EXAMPLES.glob("*.toml")):
         leaf = first_leaf(tomllib.loads(scenario.read_text())["start"])
-        for words in (["check"], ["tree"], ["tree", "--dot"], ["size"], ["fit"], ["fit", "--donations"], ["turns"], ["turns", "--seed", "7"]):
+        for words in (["check"], ["tree"], ["tree", "--dot"], ["size"], ["fit"], ["fit", "--donations"], ["turns"], ["turns", "--seed", "7"], ["turns", "--signals", "3"]):
             yield f"{' '.join(words)} of {scenario.name}", [*words, str(scenario)]
         for words in (["trace"], ["trace", "--all"], ["state"], ["state", "--at", "3"], ["peaks"]):
             yield f"{' '.join(words)} of {scenario.name}", [*words, str(scenario), str(scenario.with_suffix(".turns"))]
         for words in (["asm"], ["list"], ["list", "--numbers"], ["why"]):
             yield f"{' '.join(words)} of {leaf} of {scenario.name}", [*words, str(scenario), leaf]
-    yield "races of shared_count.toml", ["races", str(EXAMPLES / "shared_count.toml")]
+    for name in ("shared_count.toml", "signal_race.toml"):
+        yield f"races of {name}", ["races", str(EXAMPLES / name)]
     yield "outcomes of shared_count.toml", ["outcomes", str(EXAMPLES / "shared_count.toml")]
-    for words in (["rule"], ["rule", "V12"], ["--version"], ["--help"]):
+    thermostat = str(EXAMPLES / "thermostat.toml")
+    yield "turns with many signals", ["turns", "--signals", "5000", thermostat]
+    for words in (["rule"], ["rule", "V12"], ["rule", "U6"], ["--version"], ["--help"]):
         yield " ".join(words), words
 
 
@@ -124,16 +129,26 @@ def results(program, room):
         yield f"{name}, whole", (1, True), (ran.returncode, 0 < len(ran.stdout) < 65536)
         yield f"{name} to a full device", FULL, to_full_device(program, words)
         yield f"{name} to a closed pipe", (b"", CLOSED), to_closed_pipe(program, words, 0)
-    faulty, wrong = room / "faulty.toml", room / "wrong"
+    faulty, wrong, unknown = room / "faulty.toml", room / "wrong", room / "unknown"
     faulty.write_text(FAULTY)
     wrong.write_text("no turn\n" * 5000)
-    for name, words in (("faults", [str(faulty)]), ("faults of turns", [str(EXAMPLES / "hello.toml"), str(wrong)])):
+    unknown.write_text("rest\n" + "controller!1\n" * 5000)
+    of_turns, of_signals = [str(EXAMPLES / "hello.toml"), str(wrong)], [str(EXAMPLES / "thermostat.toml"), str(unknown)]
+    for name, words in (("faults", [str(faulty)]), ("faults of turns", of_turns), ("faults of signals", of_signals)):
         words = ["faults", *words]
         text = subprocess.run([program, *words], capture_output=True, timeout=SECONDS).stdout
         yield f"{name}, whole", True, text.count(b"\n") >= 10_000
         yield f"{name} to a full device", FULL, to_full_device(program, words)
         for count in (0, 1, 17, 65536, 65537, 100_000):
             yield f"{name} to a pipe closed after {count}", (text[:count], CLOSED), to_closed_pipe(program, words, count)
+    ticks = room / "ticks"
+    ticks.write_text("rest\n" + "sensor_drv.0 = 190\ncontroller!0\nrest\n" * 10_000)
+    words = ["run", str(EXAMPLES / "thermostat.toml"), str(ticks)]
+    text = whole(program, words)
+    yield "lines of a run with signals", True, text.count(b"\n") >= 20_000
+    yield "a run with signals to a full device", FULL, to_full_device(program, words)
+    for count in (0, 65536, 100_000):
+        yield f"a run with signals to a pipe closed after {count}", (text[:count], CLOSED), to_closed_pipe(program, words, count)
     scenario, turns = room / "long.toml", room / "turns"
     scenario.write_text(LONG)
     turns.write_text(f"a {3 * LINES + 10}\n")

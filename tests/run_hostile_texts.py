@@ -1,11 +1,13 @@
 #!/usr/bin/env python3
-"""Hands texts of any bytes to the commands of a program that read a scenario: run_hostile_texts.py PROGRAM
+"""Hands texts of any bytes to the commands of a program that read a scenario or turns: run_hostile_texts.py PROGRAM
 
-Long, deep and broken texts have to be refused with the line that stands beside each; texts made of a scenario by random changes, always the same
-ones, have to be done or refused, by `check`, `tree` and `faults` with the same line; of those that are done `size` prints no quantity that is less than its
-least one. A refusal is one line on standard error, with nothing on standard output (but for `faults`, of which the first line there has the same fault) and
-exit status 1. The program may take no more memory than 64 MiB and 50 times the text; 640 times, where the text is one of tables that have one key each, since
-the TOML reader takes room for fifteen keys for each table. The last line is 'N passed, M failed', and the exit status is 1 where one failed.
+Long, deep and broken texts have to be refused with the line that stands beside each; texts made of a scenario by random changes, always the same ones, have to
+be done or refused, by `check`, `tree` and `faults` with the same line; of those that are done `size` prints no quantity that is less than its least one. So it
+is with texts of turns that have settings, signals and `rest`, by `run`, `trace`, `state`, `peaks` and `faults`.
+
+A refusal is one line on standard error, with nothing on standard output (but for `faults`, of which the first line there has the same fault) and exit status 1.
+The program may take no more memory than 64 MiB and 50 times the text; 640 times, where the text is one of tables that have one key each, since the TOML reader
+takes room for fifteen keys for each table. The last line is 'N passed, M failed', and the exit status is 1 where one failed.
 """
 import pathlib
 import random
@@ -17,7 +19,7 @@ import tempfile
 
 TOP = pathlib.Path(__file__).resolve().parent.parent
 SECONDS = 120
-CHANGES = 600
+CHANGES, CHANGES_OF_TURNS = 600, 300
 OF_TURNS = {"run", "trace", "state", "peaks"}
 OF_LEAVES = {"list", "why"}
 COMMANDS = [
@@ -25,7 +27,28 @@ COMMANDS = [
     ["tree", "--dot"],
     ["fit", "--donations"],
     ["turns", "--seed", "7"],
+    ["turns", "--signals", "2"],
 ]
+# A scenario with an input and a signal, and the greatest length of a text of turns.
+SIGNALLED = b'''version = 4
+ram = "64K"
+caps = 10
+[[start]]
+name = "a"
+quantum = "8K"
+caps = 2
+inputs = [9]
+signals = 1
+program = """
+main
+end
+on 0
+end
+"""
+'''
+MOST_TURNS_TEXT = 16 * 2**20
+# Accounts of SIGNALLED after so many signals.
+ENDED = "account init quota 57344 caps 8\naccount init -> a quota 8192 used 0 caps 2 taken 0 steps {0}/{0} serving\n"
 # The program may take so many times the text, beside 64 MiB.
 TIMES, TIMES_OF_TABLES = 50, 640
 
@@ -51,6 +74,8 @@ def texts():
     yield "a long number", b"version = 1\nram = " + b"9" * 1000000 + b"\nstart = []\n", "S1 NotToml"
     yield "a number beyond 64 bits", b"version = 1\nram = 18446744073709551616\nstart = []\n", "S1 NotToml"
     yield "a negative number", b"version = 1\nram = -4096\nstart = []\n", "S3 BadValue ram"
+    for number in ("4", "4294967296", "9223372036854775807", "-1"):
+        yield f"{number} signals", SIGNALLED.replace(b"signals = 1", f"signals = {number}".encode()), "S3 BadValue signals"
     yield "a name of control characters", named("\\u0000\\u0001").encode(), "S3 BadValue name"
     yield "a name beyond ASCII", named("é").encode(), "S3 BadValue name"
     yield "a name with a line feed", named("a\\nb").encode(), "S3 BadValue name"
@@ -78,6 +103,20 @@ def tables():
     yield "tables in one another", b"".join(b"[b%d%s]\n" % (place, b".a" * 78) for place in range(6300)), "S4 UnknownKey ?"
 
 
+def texts_of_turns():
+    """The name of each text of turns of SIGNALLED, the text, and the line that refuses it, or what a run over it writes."""
+    yield "many signals", b"a!0\n" * 1000000, None, ENDED.format(1).replace("1/1 serving", "0/1 running")
+    yield "many settings", b"a.0 = 9\n" * 500000, None, ENDED.format(1).replace("1/1 serving", "0/1 running")
+    yield "many lines that bring all to rest", b"rest\n" * 500000, None, ENDED.format(1)
+    yield "many signals and much rest", b"a!0\nrest\n" * 100000, None, ENDED.format(200001)
+    yield "a signal of a long number", b"a!" + b"0" * 1000000, "U1 BadLine line 1", None
+    yield "signals in one line", b"a!0" * 1000000, "U1 BadLine line 1", None
+    yield "exclamation marks", b"!" * 1000000, "U1 BadLine line 1", None
+    yield "zeros in turns", b"\0" * 1000000, "U1 BadLine line 1", None
+    yield "a signal that is not there, at the end", b"a!0\n" * 500000 + b"a!1", "U6 NoSignal line 500001", None
+    yield "a byte too many of turns", b"#" * MOST_TURNS_TEXT + b"\n", "U3 TooMany line 0", None
+
+
 def changed(text, source):
     """The text with some of its bytes replaced, left out, doubled or moved."""
     text = bytearray(text)
@@ -98,14 +137,15 @@ def changed(text, source):
     return bytes(text)
 
 
-def result_of(program, words, room, text, times=TIMES):
+def result_of(program, words, room, text, times=TIMES, list_of_turns=b""):
     """How a run of the program over this text ends, within its memory."""
     path = room / "scenario.toml"
     path.write_bytes(text)
     turns = room / "turns"
-    turns.write_bytes(b"")
-    most = 64 * 2**20 + times * len(text)
-    files = [str(path)] + ([str(turns)] if words[0] in OF_TURNS else []) + (["a"] if words[0] in OF_LEAVES else [])
+    turns.write_bytes(list_of_turns)
+    most = 64 * 2**20 + times * (len(text) + len(list_of_turns))
+    takes_turns = words[0] in OF_TURNS or words[0] == "faults" and list_of_turns
+    files = [str(path)] + ([str(turns)] if takes_turns else []) + (["a"] if words[0] in OF_LEAVES else [])
     ran = subprocess.run(
         [program, *words, *files],
         capture_output=True,
@@ -122,8 +162,8 @@ def is_refusal(stdout, stderr, status):
 
 
 def is_done(stdout, stderr, status):
-    """A check that is done: a line for each leaf, and nothing else."""
-    return status == 0 and not stderr and all(line.startswith(b"budget init -> ") for line in stdout.splitlines())
+    """A check that is done: a line for each leaf and each signal, and nothing else."""
+    return status == 0 and not stderr and all(line.startswith((b"budget init -> ", b"signal init -> ")) for line in stdout.splitlines())
 
 
 def is_tree(stdout, stderr, status):
@@ -154,6 +194,26 @@ def are_faults(got, checked):
     return (b"trade: " + first_fault(printed) + b"\n", stderr, status) == (checked[1], *checked[1:])
 
 
+def turns_judged(program, room):
+    """What is tried with each text of turns, and how it ended where it is wrong."""
+    for name, text, line, written in texts_of_turns():
+        got = result_of(program, ["run"], room, SIGNALLED, list_of_turns=text)
+        faults = result_of(program, ["faults"], room, SIGNALLED, list_of_turns=text)
+        wanted = (b"", f"trade: {line}\n".encode(), 1) if line else (written.encode(), b"", 0)
+        yield name, None if got == wanted and are_faults(faults, (b"", *got[1:])) else (got[0][:200], got[1:], faults[0][:200], faults[1:])
+    source, folders = random.Random(2), sorted((TOP / "tests" / "cases").glob("*/turns"))
+    pairs = [(turns.with_name("scenario.toml").read_bytes(), turns.read_bytes()) for turns in folders if "cut" not in turns.parent.name]
+    samples = [(scenario, turns) for scenario, turns in pairs if b"version = 4" in scenario and turns]
+    for _ in range(CHANGES_OF_TURNS):
+        scenario, turns = source.choice(samples)
+        text = changed(turns, source)
+        run, *others = (result_of(program, [word], room, scenario, list_of_turns=text) for word in ("run", "trace", "state", "peaks"))
+        faults = result_of(program, ["faults"], room, scenario, list_of_turns=text)
+        same = all(other == run for other in others) if run[2] else all(other[1:] == (b"", 0) for other in others)
+        ends = is_refusal(*run) if run[2] else not run[1]
+        yield f"{text!r} of {scenario!r}", None if ends and same and are_faults(faults, (b"", *run[1:])) else (run, *others, faults)
+
+
 def main():
     program = sys.argv[1]
     passed = failed = 0
@@ -171,7 +231,7 @@ def main():
                     print(f"FAILED {' '.join(words)} of {name}: {got[0][:100]} {got[1][:200]} {got[2]}")
         source = random.Random(1)
         cases = sorted((TOP / "tests" / "cases").glob("*/scenario.toml"))
-        samples = [path.read_bytes() for path in cases if path.parent.name.startswith("check-") or b"version = 3" in path.read_bytes()]
+        samples = [path.read_bytes() for path in cases if path.parent.name.startswith("check-") or re.search(rb"^version = [34]", path.read_bytes())]
         for _ in range(CHANGES):
             text = changed(source.choice(samples), source)
             got, tree, size, faults = (result_of(program, [word], room, text) for word in ("check", "tree", "size", "faults"))
@@ -181,6 +241,10 @@ def main():
             else:
                 failed += 1
                 print(f"FAILED check, tree, size and faults of {text!r}: {got}, {tree}, {size}, {faults}")
+        for name, wrong in turns_judged(program, room):
+            passed, failed = passed + (wrong is None), failed + (wrong is not None)
+            if wrong is not None:
+                print(f"FAILED turns: {name}: {wrong}")
     print(f"{passed} passed, {failed} failed")
     sys.exit(1 if failed else 0)
 

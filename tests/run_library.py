@@ -5,8 +5,9 @@
 - tests/run_by_library.c does what `trade run` does: every case of `run`, and every example, has to give the same bytes and the same status. So it does with a
   call for each turn, and under the address and undefined-behaviour sanitizers, where the compiler has them.
 - No case calls the allocator between load and drop, and none leaves a block. Where the n-th call is refused, for each n, the status is 3 and no block is left.
+- tests/many_signals.c submits a million signals. None calls the allocator, and all leaves together take the steps that a signal has, and no more.
 - tests/misuse_library.c calls with numbers that are out of range, small buffers and empty handles; under the sanitizers, too.
-- library/example/ is built by its Makefile and given good and bad measurements.
+- library/example/ is built by its Makefile and given good and bad measurements. The programs of docs/LIBRARY.md print what stands below them.
 - library/trade.py gives what the calls give, where libtrade.so is there. A world that nobody closes is reported, and none is used or freed on another thread.
 
 The last line is 'N passed, M failed', and the exit status is 1 where one failed.
@@ -35,8 +36,13 @@ CPP = '#include "trade.h"\nint main() { trade_world world = TRADE_EMPTY; trade_d
 # A scenario that is refused.
 SHORT = b"version = 1\nram = 4097\nstart = []\n"
 # The scenarios of which each allocation is refused in turn.
-REFUSED_IN = "echo.toml", "thermostat.toml", "capabilities.toml"
+REFUSED_IN = "echo.toml", "thermostat.toml", "uart_eth_timer.toml", "capabilities.toml"
 COUNTS = re.compile(rb"load (\d+) later (\d+) left (\d+) empty (\d) (\d)\n\Z")
+# How many signals are submitted, plainly and under the sanitizers.
+MANY, MANY_SANITIZED = 1_000_000, 10_000
+# The steps that an example takes at its start, those of its signals together, one of each, for the inputs 0; and whether these are as many as there may be.
+OF_SIGNALS = {"uart_eth_timer.toml": (17, (58, 58, 11, 59), True), "signal_race.toml": (10, (13, 13), True), "thermostat.toml": (17, (52,), False)}
+STEPS = re.compile(rb"start (\d+) steps (\d+) full (\d+) load (\d+) later (\d+) left (\d+)\n\Z")
 SECONDS = 120
 # Measurements, and what the thermostat answers on both streams.
 MEASURED = [
@@ -53,8 +59,14 @@ MEASURED = [
     ("1000", "heater 0", None),
     ("0000191", "heater 96", None),
 ]
-# As many measurements the controller takes.
-DAY = 48
+# As many measurements as there are seconds in a day.
+DAY = 86400
+# A controller that takes no ticks; and the line behind which a tick of examples/thermostat.toml gets 1001 steps more.
+NO_TICKS = """version = 4
+ram = "4K"
+caps = 1
+""" + "".join(f"[[start]]\nname = \"{name}\"\nquantum = 0\ncaps = 0\nprogram = \"main\\nend\"\n" for name in ("sensor_drv", "heater_drv", "controller"))
+HEADING, SLOW = "\non 0\n", "\non 0\n  loop 1000\n  end\n"
 
 
 class Tally:
@@ -153,11 +165,24 @@ def refuse_each(tally, program, name, scenario, turns):
         tally.expect(f"{name}: call {number} of {calls} refused", wanted, (out, COUNTS.sub(b"", err), status, *(found.group(3, 4, 5) if found else ())))
 
 
+def try_many(tally, what, program, count, counted):
+    """Many signals, one after the other: what they take, and no call of the allocator."""
+    for name, (start, of_each, is_full) in OF_SIGNALS.items():
+        out, err, status = ran([program, EXAMPLES / name, count])
+        found = STEPS.match(out)
+        tally.expect(f"{what}: many signals of {name} end", (True, b"", 0), (bool(found), err or out[:400] * (not found), status))
+        if found:
+            taken, steps, full, load, later, left = map(int, found.groups())
+            wanted = start, sum(of_each) * (count // len(of_each)), count if is_full else 0, counted, 0, 0
+            tally.expect(f"{what}: many signals of {name}", wanted, (taken, steps, full, load > 0, later, left))
+    tally.expect(f"{what}: signals of a system that has none", 1, ran([program, EXAMPLES / "echo.toml", count])[2])
+
+
 def try_misuse(room, tally, what, program):
     """Numbers out of range, small buffers and empty handles."""
     short = room / "short.toml"
     short.write_bytes(SHORT)
-    tally.expect(f"{what}: misuse", (b"", b"", 0), ran([program, EXAMPLES / "echo.toml", short]))
+    tally.expect(f"{what}: misuse", (b"", b"", 0), ran([program, EXAMPLES / "echo.toml", EXAMPLES / "uart_eth_timer.toml", short]))
 
 
 def try_example(room, tally):
@@ -177,13 +202,35 @@ def try_example(room, tally):
     tally.expect("the example", (said, faults, 0), ran([program, scenario], given))
     tally.expect("the example without a line feed at the end", (b"heater 60\n", b"", 0), ran([program, scenario], b"200"))
     tally.expect("the example without measurements", (b"", b"", 0), ran([program, scenario]))
-    ended = b"line %d: the controller has ended\n" % (DAY + 1)
-    tally.expect("the example for longer than a day", (b"heater 60\n" * DAY, ended, 0), ran([program, scenario], b"200\n" * (DAY + 2)))
-    short = room / "short.toml"
-    short.write_bytes(SHORT)
-    tally.expect("the example with a bad scenario", (b"", f"{short}: S3 BadValue ram\n".encode(), 1), ran([program, short]))
+    tally.expect("the example for a day", (b"heater 60\n" * DAY, b"", 0), ran([program, scenario], b"200\n" * DAY))
+    other = room / "other.toml"
+    other.write_bytes(SHORT)
+    tally.expect("the example with a bad scenario", (b"", f"{other}: S3 BadValue ram\n".encode(), 1), ran([program, other]))
+    other.write_text(scenario.read_text().replace(HEADING, SLOW))
+    slow = b"a tick may take 1062 steps, and there is time for 1000\n"
+    tally.expect("the example with a slow scenario", (b"", slow, 1), ran([program, other], b"200\n"))
+    other.write_text(NO_TICKS)
+    tally.expect("the example without a tick", (b"", b"the controller takes no ticks\n", 1), ran([program, other], b"200\n"))
     tally.expect("the example with another scenario", (b"", b"the scenario has no component sensor_drv\n", 1), ran([program, EXAMPLES / "echo.toml"]))
     tally.expect("the example without a scenario", (b"", b"usage: thermostat SCENARIO\n", 2), ran([program]))
+
+
+def try_document(room, tally):
+    """The programs of docs/LIBRARY.md print what stands in the code block behind them, below the line that runs them."""
+    text = (TOP / "docs/LIBRARY.md").read_text()
+    blocks = re.findall(r"```(c|python)\n(.*?)```\n(.*?)(?=\n```|\n## |\Z)", text, re.S)
+    tally.expect("the languages of docs/LIBRARY.md", ["c", "python"], [language for language, _, _ in blocks])
+    for language, program, behind in blocks:
+        wanted = re.search(r"prints\n\n((?:    .*\n)+)", behind)
+        lines = "".join(line[4:] + "\n" for line in wanted[1].splitlines()) if wanted else "no lines"
+        source = room / f"first.{language}"
+        source.write_text(program)
+        if language == "c":
+            scenario = (EXAMPLES / "thermostat.toml").read_bytes()
+            tally.expect("the program in C of docs/LIBRARY.md", (lines.encode(), b"", 0), ran([compiled(room, "first", source, [])], scenario))
+        elif (LIBRARY / "libtrade.so").is_file():
+            done = subprocess.run([sys.executable, source], cwd=TOP, capture_output=True, text=True, timeout=SECONDS)
+            tally.expect("the program in Python of docs/LIBRARY.md", (lines, "", 0), (done.stdout, done.stderr, done.returncode))
 
 
 def refusal_of(call):
@@ -226,19 +273,44 @@ def try_python(tally):
     alone = {**os.environ, "TRADE_LIBRARY": "/no/such/library.so"}
     ended = subprocess.run([sys.executable, "-c", "import trade; trade.World.load('')"], cwd=LIBRARY, env=alone, capture_output=True, text=True).stderr
     tally.expect("python: no library", True, "OSError: /no/such/library.so: " in ended and "(`./trade library` builds libtrade.so" in ended)
+    try_python_signals(tally, trade)
+
+
+def try_python_signals(tally, trade):
+    """Inputs and signals of library/trade.py, and its turns of all leaves."""
     with trade.World.load((EXAMPLES / "thermostat.toml").read_bytes()) as world:
-        sensor, heater = world.leaf("sensor_drv"), world.leaf("heater_drv")
-        powers = []
+        sensor, line, heater, controller = map(world.leaf, ("sensor_drv", "line_drv", "heater_drv", "controller"))
+        tally.expect("python: work to do", False, world.is_at_rest())
+        tally.expect("python: a start without lines", ([], True), (list(world.run()), world.is_at_rest()))
+        tally.expect("python: a reaction", trade.Reaction(28, 61), world.reaction(controller, 0))
+        said = []
         for tenths in (195, 215, 100):
             world.set_input(sensor, 0, tenths)
-            said = None
-            while said is None:
-                all_turns = [(leaf, world.turns(leaf, 64)) for leaf in range(world.leaves)]
-                said = next((turns.line for leaf, turns in all_turns if leaf == heater and turns.line is not None), None)
-            powers.append(said)
-        tally.expect("python: inputs", ["80", "0", "100"], powers)
+            world.signal(controller, 0)
+            world.signal(controller, 0)
+            said.append((world.is_at_rest(), list(world.run()), world.is_at_rest()))
+        wanted = [(False, [(line, tenths), (heater, power)], True) for tenths, power in (("195", "80"), ("215", "0"), ("100", "100"))]
+        tally.expect("python: inputs and signals", wanted, said)
+        # (A signal between two lines, when the controller has taken the one before.)
+        world.signal(controller, 0)
+        said = []
+        for leaf, text in world.run():
+            said.append((leaf, text))
+            if len(said) < 6 and leaf == line:
+                world.signal(controller, 0)
+        tally.expect("python: signals between lines", ([(line, "100"), (heater, "100")] * 4, True), (said, world.is_at_rest()))
         fault = "1001 is not within the values of input 0 of leaf 0"
         tally.expect("python: a large input", ("InputError", fault), refusal_of(lambda: world.set_input(sensor, 0, 1001)))
+        numbers = (controller, 1), (controller, -1), (controller, 1 << 40), (sensor, 0), (5, 0), (-1, 0)
+        faults = [("SignalError", f"leaf {leaf} has no signal {signal}") for leaf, signal in numbers]
+        tally.expect("python: no such signal", faults, [refusal_of(lambda: world.signal(*given)) for given in numbers])
+        tally.expect("python: no bounds of it", faults, [refusal_of(lambda: world.reaction(*given)) for given in numbers])
+        tally.expect("python: nothing of that was a signal", True, world.is_at_rest())
+        lines = world.run()
+        world.signal(controller, 0)
+        tally.expect("python: a first line", (line, "100"), next(lines, None))
+    tally.expect("python: closed between two lines", [], list(lines))
+    tally.expect("python: at rest where it is closed", (True, []), (world.is_at_rest(), list(world.run())))
 
 
 def left_by(makes):
@@ -285,7 +357,10 @@ def try_python_ends(tally):
     stays = "RuntimeError", "a world stays on the thread that loaded it, and this is another thread"
     with trade.World.load(text) as world:
         world.turns(0, 100)
-        calls = (lambda: world.nodes, lambda: world.turn(0), lambda: world.turns(0, 1), lambda: world.account(0), world.close)
+        calls = (
+            lambda: world.nodes, lambda: world.turn(0), lambda: world.turns(0, 1), lambda: list(world.run()), lambda: world.account(0),
+            lambda: world.signal(0, 0), lambda: world.reaction(0, 0), world.is_at_rest, world.close,
+        )
         tally.expect("python: calls on another thread", [stays] * len(calls), [on_a_thread(lambda: refusal_of(call)) for call in calls])
         tally.expect("python: the world after them", 3, world.nodes)
     world.close()
@@ -297,20 +372,23 @@ def main():
         sys.exit(__doc__)
     if not (LIBRARY / "libtrade.a").is_file():
         sys.exit("library/libtrade.a is not there: ./trade library builds it")
-    tally, by_library, misuse = Tally(), TESTS / "run_by_library.c", TESTS / "misuse_library.c"
+    tally, by_library, many, misuse = Tally(), TESTS / "run_by_library.c", TESTS / "many_signals.c", TESTS / "misuse_library.c"
     with tempfile.TemporaryDirectory() as name:
         room = pathlib.Path(name)
         try_header(room, tally)
         try_runs(room, tally, "by trade_turns", compiled(room, "turns", by_library, []))
         try_runs(room, tally, "by trade_turn", compiled(room, "turn", by_library, ["-DONE_BY_ONE"]))
         try_counts(room, tally, compiled(room, "counted", by_library, WRAPPED))
+        try_many(tally, "counted", compiled(room, "many", many, WRAPPED), MANY, True)
         try_misuse(room, tally, "plain", compiled(room, "misuse", misuse, []))
         if has_sanitizers(room):
             try_runs(room, tally, "sanitized", compiled(room, "sanitized", by_library, SANITIZERS))
+            try_many(tally, "sanitized", compiled(room, "many_sanitized", many, SANITIZERS), MANY_SANITIZED, False)
             try_misuse(room, tally, "sanitized", compiled(room, "misuse_sanitized", misuse, SANITIZERS))
         else:
             print(f"{CC} has no address and undefined-behaviour sanitizers, so nothing was tried under them")
         try_example(room, tally)
+        try_document(room, tally)
     if (LIBRARY / "libtrade.so").is_file():
         try_python(tally)
         try_python_ends(tally)

@@ -29,8 +29,8 @@ SCHEMA = TOP / "docs" / "scenario.schema.json"
 READING = "check", "run", "stored", "asm", "list", "tree", "unverified"
 
 # Cases that the program refuses by a value that a schema can't see, and why it can't.
-UNDECLARED = "a schema compares no value with the names of other tables"
-EXCEPTIONS = {"check-bad-provides": UNDECLARED, "node 3": UNDECLARED}
+UNDECLARED, FRACTION = "a schema compares no value with the names of other tables", "a schema takes 1.0 for a whole number"
+EXCEPTIONS = {"check-bad-provides": UNDECLARED, "node 3": UNDECLARED, "signals 3": FRACTION}
 
 # How the lines on standard error begin where a scenario's tables are wrong, and where they are right and something else is wrong.
 WRONG = re.compile(rb"trade: (S[2347] |S5 NameTwice init$)", re.MULTILINE)
@@ -40,7 +40,7 @@ RIGHT = re.compile(rb"trade: (S[589]|S1\d|U\d|[\w-]+: [MCVB]\d+) |trade: no comp
 INTERFACE = "properties", "interface", "additionalProperties"
 NODE = "properties", "start", "items"
 ROUTE = "properties", "default-route", "items"
-NODE_KEYS = "name quantum caps route start default-route offers provides after inputs program code"
+NODE_KEYS = "name quantum caps route start default-route offers provides after inputs signals program code"
 ROUTE_KEYS = "service any-service child any-child parent"
 TABLES = [
     ((), "version ram caps default-route interface start"),
@@ -51,9 +51,9 @@ TABLES = [
     ((*NODE, "properties", "route", "items"), ROUTE_KEYS),
     ((*NODE, "properties", "default-route", "items"), ROUTE_KEYS),
 ]
-OPTIONAL = {"default-route", "interface", "object", "upgrades", "upgrade-caps", "buffer", "route", "provides", "after", "inputs", "offers"}
+OPTIONAL = {"default-route", "interface", "object", "upgrades", "upgrade-caps", "buffer", "route", "provides", "after", "inputs", "signals", "offers"}
 # The keys that each version lacks.
-LACKING = {1: {"caps", "need-caps", "upgrade-caps", "inputs", "offers"}, 2: {"inputs", "offers"}, 3: set()}
+LACKING = {1: {"caps", "need-caps", "upgrade-caps", "inputs", "offers", "signals"}, 2: {"inputs", "offers", "signals"}, 3: {"signals"}, 4: set()}
 
 # Quantities: the place, the least value, the greatest one, and of what it is a multiple.
 QUANTITIES = [
@@ -69,7 +69,7 @@ NO_QUANTITIES = ["", "K", "4k", "4 K", " 4K", "4K ", "K4", "4KK", "4KM", "-4", "
 
 # Numbers: the place, the least value and the greatest one.
 NUMBERS = [
-    (("properties", "version"), 1, 3),
+    (("properties", "version"), 1, 4),
     (("properties", "caps"), 1, 65536),
     ((*INTERFACE, "properties", "arg"), 0, 4294967295),
     ((*INTERFACE, "properties", "reply"), 0, 4294967295),
@@ -77,6 +77,7 @@ NUMBERS = [
     ((*INTERFACE, "properties", "upgrade-caps", "items"), 0, 65536),
     ((*NODE, "properties", "caps"), 0, 65536),
     ((*NODE, "properties", "inputs", "items"), 0, 4294967295),
+    ((*NODE, "properties", "signals"), 0, 3),
 ]
 
 # Other values: the place, values that fit and values that don't.
@@ -112,8 +113,8 @@ VALUES = [
 ]
 
 # Typical mistakes: the text, and what has to be reported, where and with which words.
-ONE, TWO, THREE = 'version = 1\nram = "64K"\n', 'version = 2\nram = "64K"\ncaps = 4\n', 'version = 3\nram = "64K"\ncaps = 4\n'
-NODE_2, NODE_3 = (it + 'start = [{{ name = "a", quantum = 0, caps = 0, {} }}]' for it in (TWO, THREE))
+ONE, TWO, THREE, FOUR = ('version = 1\nram = "64K"\n', *(f'version = {it}\nram = "64K"\ncaps = 4\n' for it in (2, 3, 4)))
+NODE_2, NODE_3, NODE_4 = (it + 'start = [{{ name = "a", quantum = 0, caps = 0, {} }}]' for it in (TWO, THREE, FOUR))
 NODE_1, ROUTE_1 = ONE + 'start = [{{ name = "a", quantum = 0, {} }}]', ONE + "start = []\ndefault-route = [{{ {} }}]"
 LOG, DEEP = "start = []\n[interface.log]\narg = 1\nreply = 1\nneed = 0\n", '{ name = "a", quantum = 0, caps = 0, start = [' * 5 + "] }" * 5
 MISTAKES = [
@@ -121,10 +122,11 @@ MISTAKES = [
     (ONE.replace("K", "k") + "start = []", [("ram", "'64k'")]),
     (ONE.replace("64K", "65K") + "start = []", [("ram", "'65K'")]),
     (ONE.replace("64K", "65M") + "start = []", [("ram", "'65M'")]),
-    ("version = 4\nram = 4096\ncaps = 4\nstart = []", [("version", "4"), ("caps", "in version 1")]),
+    ("version = 5\nram = 4096\ncaps = 4\nstart = []", [("version", "5"), ("caps", "in version 1")]),
     ("ram = 4096\ncaps = 4\nstart = []", [("", "'version'"), ("caps", "in version 1")]),
     (TWO.replace("caps = 4", "") + "start = []", [("", "'caps'")]),
     (THREE.replace("caps = 4", "") + "start = []", [("", "'caps'")]),
+    (FOUR.replace("caps = 4", "") + "start = []", [("", "'caps'")]),
     (ONE + "default_route = []\nstart = []", [("", "'default_route'")]),
     (ONE + LOG.replace("interface", "interfaces"), [("", "'interfaces'")]),
     (ONE + LOG.replace("log", '"a b"'), [("interface", "'a b'")]),
@@ -132,6 +134,7 @@ MISTAKES = [
     (ONE + LOG + "need-caps = 1", [("interface.log.need-caps", "in version 1")]),
     (TWO + LOG, [("interface.log", "'need-caps'")]),
     (THREE + LOG, [("interface.log", "'need-caps'")]),
+    (FOUR + LOG, [("interface.log", "'need-caps'")]),
     (TWO + LOG + "need_caps = 1", [("interface.log", "'need_caps'"), ("interface.log", "'need-caps'")]),
     (TWO + LOG + "need-caps = 1\nupgrade-caps = [1]", [("interface.log.upgrade-caps", "")]),
     (TWO + 'start = [{ name = "a", quantum = 0, cap = 4, start = [] }]', [("start.0", "'cap'"), ("start.0", "'caps'")]),
@@ -151,6 +154,14 @@ MISTAKES = [
     (NODE_3.format("inputs = [1, 4294967296], code = ''"), [("start.0.inputs.1", "4294967296")]),
     (NODE_3.format("inputs = [1, 1, 1, 1, 1, 1, 1, 1, 1], code = ''"), [("start.0.inputs", "")]),
     (NODE_3.format("inputs = [1], code = ''").replace("caps = 0, ", ""), [("start.0", "'caps'")]),
+    (NODE_1.format("signals = 1, code = ''"), [("start.0.signals", "in version 1")]),
+    (NODE_2.format("signals = 1, code = ''"), [("start.0.signals", "in version 2")]),
+    (NODE_3.format("signals = 0, code = ''"), [("start.0.signals", "in version 3")]),
+    (NODE_4.format("signal = 1, code = ''"), [("start.0", "'signal'")]),
+    (NODE_4.format("signals = 1, start = []"), [("start.0.signals", "on an init")]),
+    (NODE_4.format("signals = 4, code = ''"), [("start.0.signals", "4")]),
+    (NODE_4.format("signals = [1], code = ''"), [("start.0.signals", "[1]")]),
+    (NODE_4.format("signals = 1, code = ''").replace("caps = 0, ", ""), [("start.0", "'caps'")]),
     (NODE_1.format("offers = {}, start = []"), [("start.0.offers", "in version 1")]),
     (NODE_2.format("offers = { log = 'b' }, start = []"), [("start.0.offers", "in version 2")]),
     (NODE_3.format("offers = {}, code = ''"), [("start.0.offers", "on a leaf")]),
@@ -269,7 +280,7 @@ def nodes(depth):
     """Two nodes at this depth, which have all keys of a node."""
     node = {"name": f"a{depth}", "quantum": 0, "caps": 0, "route": []}
     init = {**node, "start": nodes(depth + 1) if depth < 4 else [], "default-route": [], "offers": {}}
-    return [{**node, "provides": "e", "after": "a", "inputs": [], "program": ""}, init]
+    return [{**node, "provides": "e", "after": "a", "inputs": [], "signals": 0, "program": ""}, init]
 
 
 def without(value, keys):
@@ -298,7 +309,7 @@ def tables_in(value):
 def of_keys(schema):
     """Tables that have all their keys are valid, without one that is required they are not, and not with one more, whose value fits elsewhere."""
     validator = part_validator(schema, ())
-    values = {**LEAF, **PARENT, "any-child": True, "colour": 0} | {key: value for table in tables_in(whole(3)) for key, value in table.items()}
+    values = {**LEAF, **PARENT, "any-child": True, "colour": 0} | {key: value for table in tables_in(whole(4)) for key, value in table.items()}
     for version in LACKING:
         tables = whole(version)
         yield f"all keys of version {version}", as_text(reports(validator, tables))
@@ -318,7 +329,7 @@ def of_keys(schema):
 def of_upgrades(schema):
     """An interface has capabilities for none of its upgrades, or for each."""
     validator = part_validator(schema, ())
-    for version, upgrades in ((version, upgrades) for version in (2, 3) for upgrades in (None, 0, 1, 2, 3)):
+    for version, upgrades in ((version, upgrades) for version in (2, 3, 4) for upgrades in (None, 0, 1, 2, 3)):
         bad = []
         for caps in (None, 0, 1, 2, 3, 4):
             given = {"upgrades": upgrades, "upgrade-caps": caps}

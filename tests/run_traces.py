@@ -2,10 +2,11 @@
 """tests/run_traces.py PROGRAM: holds `trade trace` and `trade state` against `trade run`, over all examples and all cases of runs.
 
 The lines of a trace that begin with `[`, with the account lines at its end, are the run's text, with `--all` and without. Without it the trace is what it is
-with it, but for the steps of which nothing but the first line is printed, and the settings that change no value. The lines of a state that are not indented are
-the run's account lines; of a leaf that lives the lines `holds` add up to what it has used, and its quantum with what it receives less what it lends to its
-quota; of an init its quantum less what it hands on; so for capabilities. With `--at N` a state is that of a list of the first N turns with the settings
-before the last of them. The last line is 'N passed, M failed', and the exit status is 1 where one failed.
+with it, but for the steps of which nothing but the first line is printed, the settings that change no value, and the signals that were not taken since they
+were submitted before. The lines of a state that are not indented are the run's account lines; of a leaf that lives the lines `holds` add up to what it has
+used, and its quantum with what it receives less what it lends to its quota; of an init its quantum less what it hands on; so for capabilities. With `--at N` a
+state is that of a list of the first N turns, each `rest` being the turns that the trace has of it, with the settings and signals before the last of them. The
+last line is 'N passed, M failed', and the exit status is 1 where one failed.
 """
 import pathlib
 import re
@@ -17,6 +18,11 @@ TOP = pathlib.Path(__file__).resolve().parent.parent
 SECONDS = 120
 ITEM = re.compile(r" +(quantum|hands|holds|lends|receives) (\d+)(?: caps (\d+))?")
 SETTING = re.compile(r"input (.*)\.(\d) = (\d+)$")
+SIGNAL = re.compile(r"signal (.*)!(\d)$")
+TAKEN = re.compile(r"turn \d+ (.*) on (\d) at 0$")
+STEP = re.compile(r"^turn (\d+) (?:\S+ -> )+(\S+) ", re.M)
+# The most turns that a list may have.
+MOST_TURNS = 1000000
 ACCOUNT = re.compile(r"account .* quota (\d+)(?: used (\d+))?(?: caps (\d+))?(?: taken (\d+))?(?: steps \S+ (\w+))?$")
 
 
@@ -43,13 +49,16 @@ def of_trace(text):
 
 
 def changes_in(text):
-    """What a trace of all steps has of those that change something: all lines but the first ones of steps behind which there is no other, and settings that
-    change no value; those of a leaf that has exited change none."""
+    """What a trace of all steps has of those that change something: all lines but the first ones of steps behind which there is no other, settings that change
+    no value, and signals that are submitted again before they are taken; those of a leaf that has exited change none."""
     lines = text.splitlines(keepends=True)
-    heads = [line.startswith(("turn ", "input ", "end after ")) for line in lines] + [True]
-    values, exited, kept = {}, set(), []
+    heads = [line.startswith(("turn ", "input ", "signal ", "end after ")) for line in lines] + [True]
+    values, exited, submitted, kept = {}, set(), set(), []
     for i, line in enumerate(lines):
         setting, account = SETTING.match(line), ACCOUNT.match(line.rstrip("\n"))
+        signal, taken = SIGNAL.match(line), TAKEN.match(line)
+        if taken:
+            submitted.discard(taken.groups())
         if account and account.group(5) == "exited":
             exited.add(line.split(" quota ")[0].removeprefix("account "))
         if setting:
@@ -57,6 +66,9 @@ def changes_in(text):
             if label not in exited and values.get((label, setting.group(2)), "0") != value:
                 kept.append(line)
             values[label, setting.group(2)] = value
+        elif signal:
+            kept += [line] * (signal.groups() not in submitted)
+            submitted.add(signal.groups())
         elif not (line.startswith("turn ") and heads[i + 1]):
             kept.append(line)
     return "".join(kept)
@@ -90,14 +102,28 @@ def blocks(text):
     return found
 
 
-def listed(text):
-    """Each line of a list of turns, with its number of turns; a setting has none."""
-    lines = [line for line in text.splitlines() if line and not line.startswith("#")]
-    return [(line, 0 if "=" in line else int(line.split(" ")[1])) for line in lines]
+def listed(program, scenario, text, room):
+    """Each line of a list of turns, with its number of turns, which a setting and a signal have none of; in place of each `rest` the turns that a trace has of
+    it. Nothing, where these are more than a list may have."""
+    found, number, front = [], 0, ""
+    for line in (line for line in text.splitlines() if line and not line.startswith("#")):
+        front += f"{line}\n"
+        if line != "rest":
+            found.append((line, 0 if "=" in line or "!" in line else int(line.split(" ")[1])))
+            number += found[-1][1]
+            continue
+        (room / "front").write_text(front)
+        changes = output(program, "trace", scenario, room / "front")
+        if int(re.search(r"^end after (\d+) turns$", changes, re.M)[1]) > MOST_TURNS:
+            return None
+        steps = [step for step in STEP.findall(output(program, "trace", "--all", scenario, room / "front")) if int(step[0]) > number]
+        found += [(f"{name} 1", 1) for _, name in steps]
+        number += len(steps)
+    return found if number <= MOST_TURNS else None
 
 
 def first(turns, most):
-    """The lines of the first so many of these turns, with the settings before the last of them."""
+    """The lines of the first so many of these turns, with the settings and signals before the last of them."""
     lines = []
     for line, count in turns:
         taken = min(count, most)
@@ -111,10 +137,12 @@ def first(turns, most):
 
 def states_on_the_way(program, scenario, turns):
     """The numbers of turns after which a state is not that of a list with so many turns."""
-    all_turns = listed(turns.read_text())
-    number = sum(count for _, count in all_turns)
-    with tempfile.TemporaryDirectory() as room:
-        fewer = pathlib.Path(room, "turns")
+    with tempfile.TemporaryDirectory() as name:
+        room = pathlib.Path(name)
+        all_turns, fewer = listed(program, scenario, turns.read_text(), room), room / "turns"
+        if all_turns is None:
+            return
+        number = sum(count for _, count in all_turns)
         for most in sorted({0, 1, 2, 5, number // 2, max(number - 1, 0), number, number + 1}):
             fewer.write_text(first(all_turns, most))
             if output(program, "state", "--at", str(most), scenario, turns) != output(program, "state", scenario, fewer):

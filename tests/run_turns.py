@@ -1,11 +1,15 @@
 #!/usr/bin/env python3
-"""tests/run_turns.py PROGRAM: holds `trade turns` and `trade turns --seed N` against `trade run`, over all examples and the scenarios of all cases.
+"""tests/run_turns.py PROGRAM: holds `trade turns`, also with `--seed N` and `--signals N`, against `trade run`, over all examples and the scenarios of all cases.
 
-A run over such a list is done. Where the list isn't cut and a run may have as many, 16 more turns of each leaf change nothing. A line of a list with a seed has 1 to
-16 turns. The same seed gives the same list. Of the scenarios in which two leaves take turns, some have lists that differ from seed to seed. The last line is
-'N passed, M failed', and the exit status is 1 where one failed.
+A run over such a list is done. Where the list isn't cut and a run may have as many, 16 more turns of each leaf change nothing. A line of a list with a seed has
+1 to 16 turns. The same seed gives the same list. Of the scenarios in which two leaves take turns, some have lists that differ from seed to seed.
+
+With `--signals N` a list begins with the turns that there are without, and has all signals N times, leaves as in the tree, each time with turns behind them. A
+run over it is the run over `rest` in place of these turns, where neither list is cut and none was chosen by chance. Where no leaf has a signal, nothing is
+added. The last line is 'N passed, M failed', and the exit status is 1 where one failed.
 """
 import pathlib
+import re
 import subprocess
 import sys
 import tempfile
@@ -15,6 +19,8 @@ SECONDS = 120
 SEEDS = ("0", "1", "4294967295")
 CUT = "# cut after "
 MOST, MORE = 1_000_000, 16
+SIGNALS = 2
+OF_LEAF = re.compile(r"^ +([\w-]+) quantum .* signals (\d) own ", re.M)
 
 
 def output(program, *words):
@@ -35,7 +41,7 @@ def listed(text):
     """The leaf and the number of turns of each line, and whether the list is cut."""
     lines = text.splitlines()
     cut = bool(lines) and lines[-1].startswith(CUT)
-    turns = [(name, int(count)) for name, count in (line.split(" ") for line in lines[: len(lines) - cut])]
+    turns = [(name, int(count)) for name, count in (line.split(" ") for line in lines[: len(lines) - cut] if "!" not in line)]
     if cut and lines[-1] != f"{CUT}{sum(count for _, count in turns)} turns":
         return turns, None
     return turns, cut
@@ -60,6 +66,29 @@ def faults(program, scenario, text, most):
             yield "rest at its end"
 
 
+def signal_faults(program, scenario, text, words):
+    """What of a list with signals, which has the words besides, is not as it should be beside the text of the list without."""
+    more = output(program, "turns", "--signals", SIGNALS, *words, scenario)
+    signals = [f"{name}!{number}" for name, count in OF_LEAF.findall(output(program, "tree", scenario)) for number in range(int(count))]
+    if more is None or more != output(program, "turns", *words, "--signals", SIGNALS, scenario):
+        yield "none, or another one with its options in another order"
+        return
+    if CUT in text or CUT in more:
+        return
+    if not more.startswith(text) or (not signals and more != text):
+        yield "its beginning"
+    if [line for line in more.splitlines() if "!" in line] != SIGNALS * signals:
+        yield "its signals"
+    yield from faults(program, scenario, more, 16 if words else MOST)
+    if not words and signals:
+        with tempfile.TemporaryDirectory() as room:
+            path, other = pathlib.Path(room, "turns"), pathlib.Path(room, "rest")
+            path.write_text(more)
+            other.write_text("rest\n" + SIGNALS * "\n".join([*signals, "rest\n"]))
+            if output(program, "run", scenario, path) != output(program, "run", scenario, other):
+                yield "its run beside that with rest"
+
+
 def main(words):
     if len(words) != 1:
         sys.exit(__doc__)
@@ -76,6 +105,8 @@ def main(words):
                 found.append(f"seed {seed}: not the same again")
             else:
                 found += [f"seed {seed}: {fault}" for fault in faults(program, scenario, text, 16)]
+        found += [f"signals: {fault}" for fault in signal_faults(program, scenario, rounds, [])]
+        found += [f"signals by chance: {fault}" for fault in signal_faults(program, scenario, lists[SEEDS[1]] or "", ["--seed", SEEDS[1]])]
         differ += len({name for name, _ in listed(rounds)[0]}) > 1 and len(set(lists.values())) == len(SEEDS)
         passed, failed = passed + (not found), failed + bool(found)
         for fault in found:

@@ -1,10 +1,11 @@
 #!/usr/bin/env python3
-"""tests/run_viewer.py PROGRAM: tests the page that shows a run, over all examples with their turns and with those of `trade turns`.
+"""tests/run_viewer.py PROGRAM: tests the page that shows a run, over all examples with their turns, with those of `trade turns`, and with signals.
 
 The tests are `viewer/test.mjs`, which node's own test runner runs; where node is not there, this says so, and passes. It ends with 0 where all tests passed.
 """
 import os
 import pathlib
+import re
 import shutil
 import subprocess
 import sys
@@ -25,11 +26,15 @@ def put_pair(folder, name, tree, trace):
 
 
 def put_runs(program, folder):
-    """The texts of all examples: over each of their lists of turns, and over turns that bring all work to rest, with all steps."""
+    """The texts of all examples: over each of their lists of turns, and over turns that bring all work to rest, with all steps; also over turns by chance in
+    which each signal is submitted three times, where there are signals."""
     for scenario in sorted((TOP / "examples").glob("*.toml")):
         tree, made = output(program, "tree", scenario), folder / f"{scenario.stem}.turns"
         made.write_bytes(output(program, "turns", scenario))
         put_pair(folder, f"{scenario.stem}-made", tree, output(program, "trace", "--all", scenario, made))
+        if re.search(rb" signals [1-3] own ", tree):
+            made.write_bytes(output(program, "turns", "--signals", "3", "--seed", "1", scenario))
+            put_pair(folder, f"{scenario.stem}-signals", tree, output(program, "trace", scenario, made))
         for turns in sorted(scenario.parent.glob(f"{scenario.stem}.*turns")):
             put_pair(folder, turns.stem, tree, output(program, "trace", scenario, turns))
 

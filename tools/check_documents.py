@@ -92,7 +92,7 @@ def check_trusted():
 
 
 # Of the laws of gq_laws those that TRUSTED.md is about.
-LAWS = {"progress_laws", "apart_laws", "separation_laws"}
+LAWS = {"progress_laws", "reaction_laws", "apart_laws", "separation_laws"}
 
 
 @functools.cache

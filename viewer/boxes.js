@@ -100,7 +100,9 @@ class BoxView {
     }
     for (const leaf of this.leaves) {
       const { number } = leaf.node, account = state.accounts[number];
-      if (isNew(leaf, `${account.row} ${number === acts} ${number === chosen}`)) this.updateLeaf(leaf, account, number === acts, number === chosen);
+      const signals = signalWords(signalsAt(this.run, number, state.event));
+      if (!isNew(leaf, `${account.row} ${number === acts} ${number === chosen} ${signals}`)) continue;
+      this.updateLeaf(leaf, account, signals, number === acts, number === chosen);
     }
     const open = new Map();
     for (const session of state.sessions) {
@@ -130,7 +132,7 @@ class BoxView {
     const offers = node.offers.map(({ service, child }) => `\noffers ${service} from ${child}`).join("");
     setText(title, `${node.label}: ${counted(account.quota, "byte")} of ${counted(node.quantum, "byte")}${capsTitle} not handed to children${offers}`);
   }
-  updateLeaf(part, account, acts, chosen) {
+  updateLeaf(part, account, signals, acts, chosen) {
     const { node, width } = part, most = this.run.greatest[node.number].quota, room = width - 18;
     const live = account.phase !== "pending" && account.phase !== "exited";
     setAttributes(part.group, { class: `leaf ${account.phase} ${acts ? "acts" : ""} ${chosen ? "chosen" : ""}` });
@@ -152,7 +154,9 @@ class BoxView {
     const facts = [`${node.label}, ${account.phase}`, `${grouped(account.used)} of ${counted(account.quota, "byte")} used`];
     if (node.provides !== undefined) facts[0] += `, provides ${node.provides}`;
     if (this.run.two) facts.push(`${capsUse} taken`);
-    facts.push(`${grouped(account.steps)} of ${counted(node.steps, "step")}`, `the bar has room for the greatest quota of this run: ${counted(most, "byte")}`);
+    if (signals) facts.push(`signals taken: ${signals}`);
+    facts.push(`${grouped(account.steps)} of ${counted(account.budget, "step")}`);
+    facts.push(`the bar has room for the greatest quota of this run: ${counted(most, "byte")}`);
     setText(part.title, facts.join("\n"));
   }
   updateWay(part, sessions, mine) {

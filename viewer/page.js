@@ -128,6 +128,7 @@ function makeLegend() {
   const band = (name, text) => make("span", {}, make("i", { style: `background:var(--${name})` }), text);
   byId("legend").replaceChildren(...PHASES.map(phase => make("span", {}, glyph(phase), phase)), band("quota", "quota"), band("used", "used"),
     ...page.run.nodes.some(n => n.inputs?.length) ? [band("input", "an input is set")] : [],
+    ...page.run.nodes.some(n => n.signals) ? [band("signal", "a signal is submitted")] : [],
     make("span", {}, "sessions in the server's colour; dashed: waits, thick: at hand"));
 }
 

@@ -73,16 +73,18 @@ class Plot {
         this.pen.globalAlpha = 1;
       }
     }
-    this.drawSettings(node, top + 1);
+    const { settings, settingRows, signals } = this.run;
+    this.drawEvents(settings, settingRows.of(node), "--input", top + 1);
+    for (let signal = 0; signal < SIGNALS; signal++) this.drawEvents(signals, signals.ofSignal.of(node * SIGNALS + signal), "--signal", top + 7);
     this.run.nodes[node].lanes.forEach((lane, i) => this.drawLane(lane, base + 2 + i * ROW.lane));
   }
-  /** A mark at each event of this window at which an input of a leaf is set. */
-  drawSettings(node, y) {
-    const { event } = this.run.settings, half = this.axis === "event" ? 0.5 : 0;
+  /** A mark at each event of this window at which something comes to a leaf from outside: an input is set, or a signal submitted. */
+  drawEvents({ event }, rows, colour, y) {
+    const half = this.axis === "event" ? 0.5 : 0;
     let last = -1;
-    for (const row of this.run.settingRows.of(node)) {
+    for (const row of rows) {
       const x = Math.round(this.xOf(positionOf(this.run, this.axis, event[row]) + half, this.view));
-      if (x !== last && x >= 0 && x <= this.width) this.rect("--input", x - 1, y, 2, 5);
+      if (x !== last && x >= 0 && x <= this.width) this.rect(colour, x - 1, y, 2, 5);
       last = x;
     }
   }

@@ -3,16 +3,21 @@
 //
 // A run can have a million events, so what a trace has is kept in columns of plain numbers (a Table) and not as an object for each line. Everything
 // that changes has rows: a row says at which event it came and what holds from there on. An event is the start (0), a turn of the trace, a setting of an
-// input, or the end (the last one).
+// input, a signal that is submitted, or the end (the last one).
 
 const PHASES = ["pending", "running", "blocked", "serving", "handling", "exited"];
-const SECTIONS = ["main", "open", "up 1", "up 2", "up 3", "call 0", "call 1", "call 2", "call 3", "close 0", "close 1", "close 2", "close 3"];
+const SECTIONS = ["main", "open", "up 1", "up 2", "up 3", "call 0", "call 1", "call 2", "call 3", "close 0", "close 1", "close 2", "close 3",
+  "on 0", "on 1", "on 2"];
+/** The section that the first signal of a leaf begins. */
+const FIRST_ON = SECTIONS.indexOf("on 0");
 const STAGES = ["gone", "idle", "waits", "at hand"];
 const [GONE, IDLE, WAITS, AT_HAND] = [0, 1, 2, 3];
 /** The leaf of an event that is no turn, the lane of a session that has none, the node of a label that is none's. */
 const NOBODY = 0xffff;
 /** Inputs that a leaf can have. */
 const INPUTS = 8;
+/** Signals that a leaf can have. */
+const SIGNALS = 3;
 /** Sessions of one client at one time that have a lane of their own on the time line. */
 const MAX_LANES = 12;
 /** A session's number is below this: one per page of the largest `ram`, and one per leaf. */
@@ -84,7 +89,7 @@ class Words {
   }
 }
 
-const FEED = 10, RETURN = 13, SPACE = 32, DASH = 45, DOT = 46, ABOVE = 62, CLOSE = 93, ZERO = 48, N = 110;
+const FEED = 10, RETURN = 13, SPACE = 32, DASH = 45, DOT = 46, ABOVE = 62, CLOSE = 93, MARK = 33, ZERO = 48, N = 110;
 
 /** Goes over the bytes of a text line by line, and in a line from word to word. */
 class Scanner {
@@ -136,11 +141,11 @@ class Scanner {
     this.at = to;
     return number;
   }
-  /** The number of the label that stands here: names joined by ` -> `, up to a `]`, a dot or a blank with another word behind it. */
+  /** The number of the label that stands here: names joined by ` -> `, up to a `]`, a dot, a `!` or a blank with another word behind it. */
   label(labels) {
     const { bytes, end } = this;
     let to = this.at, hash = 0;
-    for (let byte; to < end && (byte = bytes[to]) !== CLOSE && byte !== DOT; to++) {
+    for (let byte; to < end && (byte = bytes[to]) !== CLOSE && byte !== DOT && byte !== MARK; to++) {
       if (byte === SPACE && bytes[to + 1] !== DASH && bytes[to - 1] !== ABOVE) break;
       hash = hashWith(hash, byte);
     }
@@ -155,15 +160,17 @@ const OFFERS = new RegExp(`^offers (${NAME}) from (${NAME})$`);
 const INIT = new RegExp(`^(${NAME}) quantum (\\d+) left (\\d+)(?: caps (\\d+) left (\\d+))?$`);
 const GREATEST = `\\d+(?: \\d+){0,${INPUTS - 1}}`;
 const LEAF = new RegExp(`^(${NAME}) quantum (\\d+)(?: caps (\\d+))?(?: provides (${NAME}))?(?: after (${NAME}))?(?: inputs (${GREATEST}))?`
-  + " own (\\d+)(?: caps (\\d+))? steps (\\d+)$");
+  + "(?: signals (\\d))? own (\\d+)(?: caps (\\d+))? steps (\\d+)$");
 const optional = digits => digits === undefined ? undefined : Number(digits);
 
 /** What a line of the tree says of a node, or undefined. */
 function nodeOf(line) {
   let m = LEAF.exec(line);
   if (m) {
-    const inputs = m[6] === undefined ? [] : m[6].split(" ").map(Number), [own, ownCaps, steps] = [+m[7], optional(m[8]), +m[9]];
-    return { leaf: true, name: m[1], quantum: +m[2], caps: optional(m[3]), provides: m[4], after: m[5], inputs, own, ownCaps, steps };
+    const inputs = m[6] === undefined ? [] : m[6].split(" ").map(Number), signals = Number(m[7] ?? 0);
+    const [own, ownCaps, steps] = [+m[8], optional(m[9]), +m[10]];
+    return signals > SIGNALS ? undefined
+      : { leaf: true, name: m[1], quantum: +m[2], caps: optional(m[3]), provides: m[4], after: m[5], inputs, signals, own, ownCaps, steps };
   }
   m = INIT.exec(line);
   return m ? { leaf: false, name: m[1], quantum: +m[2], left: +m[3], caps: optional(m[4]), capsLeft: optional(m[5]) } : undefined;
@@ -224,10 +231,11 @@ function addFirstAccount(accounts, node) {
   accounts.node[row] = node.number;
   accounts.quota[row] = node.leaf ? waits ? 0 : node.quantum : node.left;
   accounts.caps[row] = (node.leaf ? waits ? 0 : node.caps : node.capsLeft) ?? 0;
+  accounts.budget[row] = node.leaf ? node.steps : 0;
   accounts.phase[row] = PHASES.indexOf(node.leaf && !waits ? "running" : "pending");
 }
-/** An event; `setting` is one more than its row among the settings, or 0 where it is none. */
-function addEvent({ events }, turn, leaf, section, place, statement, setting = 0) {
+/** An event; `setting` is one more than its row among the settings, or 0 where it is none, and `signal` the same among the signals that are submitted. */
+function addEvent({ events }, turn, leaf, section, place, statement, setting = 0, signal = 0) {
   const row = events.add();
   events.turn[row] = turn;
   events.leaf[row] = leaf;
@@ -235,22 +243,26 @@ function addEvent({ events }, turn, leaf, section, place, statement, setting = 0
   events.place[row] = place;
   events.statement[row] = statement;
   events.setting[row] = setting;
+  events.signal[row] = signal;
 }
 
 const SECTION_WORDS = new Words(SECTIONS), PHASE_WORDS = new Words(PHASES), STAGE_WORDS = new Words(STAGES);
 const [BLANK, AT, QUOTA, USED, CAPS, TAKEN, STEPS, SLASH, ENDS, OF, FOR, LEVEL, LENDS, COMMA, CLOSED] =
   [" ", " at ", " quota ", " used ", " caps ", " taken ", " steps ", "/", "ends", " of ", " for ", " at level ", " lends ", ", ", "] "].map(bytesOf);
-const [POINT, IS] = [".", " = "].map(bytesOf);
-const [TURN, ACCOUNT, SESSION, INPUT, OUTPUT, END, TURNS] = ["turn ", "account ", "session ", "input ", "[", "end after ", " turns"].map(bytesOf);
+const [POINT, IS, EXCLAMATION] = [".", " = ", "!"].map(bytesOf);
+const [TURN, ACCOUNT, SESSION, INPUT, SIGNAL, OUTPUT, END, TURNS] =
+  ["turn ", "account ", "session ", "input ", "signal ", "[", "end after ", " turns"].map(bytesOf);
 
 function emptyRun(nodes, bytes) {
   const whole = Uint32Array, short = Uint16Array, byte = Uint8Array;
   const run = {
     nodes, bytes, two: nodes[0].caps !== undefined, turns: 0,
     labels: new Words(nodes.map(n => n.label)), statements: new Words([""]), services: new Words(),
-    events: new Table({ turn: whole, leaf: short, section: byte, place: short, statement: whole, setting: whole }),
+    events: new Table({ turn: whole, leaf: short, section: byte, place: short, statement: whole, setting: whole, signal: whole }),
     settings: new Table({ event: whole, leaf: short, input: byte, value: whole }),
-    accounts: new Table({ event: whole, node: short, quota: whole, used: whole, caps: whole, taken: whole, steps: Float64Array, phase: byte }),
+    signals: new Table({ event: whole, leaf: short, signal: byte, key: whole }), takings: new Table({ event: whole, leaf: short, signal: byte, key: whole }),
+    accounts: new Table({ event: whole, node: short, quota: whole, used: whole, caps: whole, taken: whole, steps: Float64Array, budget: Float64Array,
+      phase: byte }),
     sessions: new Table({ event: whole, number: short, service: short, server: short, client: short, level: byte, lends: whole, caps: whole, stage: byte,
       request: byte }),
     lines: new Table({ event: whole, leaf: short, from: whole, to: whole }),
@@ -260,11 +272,11 @@ function emptyRun(nodes, bytes) {
   return run;
 }
 
-/** `main`, `open`, or `up`, `call`, `close` with their level. */
+/** `main`, `open`, or `up`, `call`, `close` with their level, or `on` with the number of a signal. */
 function readSection(scanner) {
   let to = scanner.wordEnd();
-  const levelled = scanner.bytes[to - 1] !== N;              // only `main` and `open` end in it
-  return scanner.choice(SECTION_WORDS, levelled ? to + 2 : to);
+  const numbered = scanner.bytes[to - 1] !== N || to - scanner.at === 2;              // `main` and `open` end in it, and `on`, which is shorter
+  return scanner.choice(SECTION_WORDS, numbered ? to + 2 : to);
 }
 
 function readTurn(scanner, run) {
@@ -275,7 +287,17 @@ function readTurn(scanner, run) {
   const section = readSection(scanner);
   scanner.want(AT);
   const place = scanner.number(), statement = scanner.skips(BLANK) ? run.statements.number(scanner.bytes, scanner.at, scanner.end) : 0;
+  if (section >= FIRST_ON && section - FIRST_ON >= run.nodes[leaf].signals) scanner.refuse();
+  if (section >= FIRST_ON && place === 0) addSignal(run.takings, run.events.length, leaf, section - FIRST_ON);
   addEvent(run, turn, leaf, section, place, statement);
+}
+/** Adds to the signals that are submitted, or to those that are taken. */
+function addSignal(table, event, leaf, signal) {
+  const row = table.add();
+  table.key[row] = leaf * SIGNALS + signal;
+  table.event[row] = event;
+  table.leaf[row] = leaf;
+  table.signal[row] = signal;
 }
 
 /** The number behind a word. */
@@ -293,7 +315,7 @@ function readAccount(scanner, run) {
   if (two && leaf) accounts.taken[row] = readAfter(scanner, TAKEN);
   if (leaf) {
     accounts.steps[row] = readAfter(scanner, STEPS);
-    readAfter(scanner, SLASH);
+    accounts.budget[row] = readAfter(scanner, SLASH);
     scanner.want(BLANK);
     accounts.phase[row] = scanner.choice(PHASE_WORDS);
   }
@@ -340,6 +362,15 @@ function readSetting(scanner, run) {
   addEvent(run, events.turn[events.length - 1], leaf, 0, 0, 0, row + 1);
 }
 
+/** A signal that is submitted: an event at the turn of the one before it. */
+function readSignal(scanner, run) {
+  const { signals, events } = run, leaf = scanner.label(run.labels), signal = readAfter(scanner, EXCLAMATION);
+  scanner.wantEnd();
+  if (!run.nodes[leaf].leaf || signal >= run.nodes[leaf].signals) scanner.refuse();
+  addSignal(signals, events.length, leaf, signal);
+  addEvent(run, events.turn[events.length - 1], leaf, 0, 0, 0, 0, signals.length);
+}
+
 function readOutput(scanner, run) {
   const { lines } = run, row = lines.add();
   lines.leaf[row] = scanner.label(run.labels);
@@ -384,13 +415,14 @@ function giveLanes(run) {
 
 /** What is looked up while one moves about in a run. */
 function index(run) {
-  const { events, accounts, sessions, settings, lines, nodes } = run;
-  for (const table of [events, accounts, sessions, settings, lines]) table.resize(Math.max(1, table.length));
+  const { events, accounts, sessions, settings, signals, takings, lines, nodes } = run;
+  for (const table of [events, accounts, sessions, settings, signals, takings, lines]) table.resize(Math.max(1, table.length));
   run.last = events.length - 1;
   run.accountRows = groupRows(accounts.node, accounts.length, nodes.length);
   run.sessionCount = sessions.number.subarray(0, sessions.length).reduce((most, n) => Math.max(most, n + 1), 0);
   run.sessionRows = groupRows(sessions.number, sessions.length, run.sessionCount);
   run.settingRows = groupRows(settings.leaf, settings.length, nodes.length);
+  for (const table of [signals, takings]) table.ofSignal = groupRows(table.key, table.length, nodes.length * SIGNALS);
   for (const table of [accounts, sessions, lines]) table.at = groupRows(table.event, table.length, events.length).start;
   giveLanes(run);
   run.greatest = nodes.map(node => {
@@ -411,6 +443,7 @@ function readTrace(text, nodes) {
     else if (scanner.skips(TURN)) readTurn(scanner, run);
     else if (scanner.skips(OUTPUT)) readOutput(scanner, run);
     else if (scanner.skips(INPUT)) readSetting(scanner, run);
+    else if (scanner.skips(SIGNAL)) readSignal(scanner, run);
     else if (scanner.skips(END)) ended = true;
     else scanner.refuse();
   }

@@ -13,7 +13,8 @@ function lastUpTo(rows, eventOf, event) {
 
 /** The account of a row; the row stands in it, so that what shows it knows whether it is shown already. */
 function accountOf({ accounts: t }, row) {
-  return { row, quota: t.quota[row], used: t.used[row], caps: t.caps[row], taken: t.taken[row], steps: t.steps[row], phase: PHASES[t.phase[row]] };
+  return { row, quota: t.quota[row], used: t.used[row], caps: t.caps[row], taken: t.taken[row], steps: t.steps[row], budget: t.budget[row],
+    phase: PHASES[t.phase[row]] };
 }
 function accountAt(run, node, event) {
   const rows = run.accountRows.of(node);
@@ -32,6 +33,21 @@ function inputsAt(run, node, event) {
   }
   return values;
 }
+
+/** How many of the events at which a signal is submitted, or taken, are not after an event; and the last of them, -1 where there is none. */
+function eventsOfSignal(table, node, signal, event) {
+  const rows = table.ofSignal.of(node * SIGNALS + signal), place = lastUpTo(rows, table.event, event);
+  return { count: place + 1, last: place < 0 ? -1 : table.event[rows[place]] };
+}
+/** The signals of a leaf after an event: how often each was taken, and whether it is submitted and not yet taken. */
+function signalsAt(run, node, event) {
+  return Array.from({ length: run.nodes[node].signals ?? 0 }, (_, signal) => {
+    const submitted = eventsOfSignal(run.signals, node, signal, event), taken = eventsOfSignal(run.takings, node, signal, event);
+    return { taken: taken.count, submitted: submitted.last > taken.last };
+  });
+}
+/** The signals of a leaf as `trade state` has them: how often each was taken, with `!` where it is submitted and not yet taken. */
+const signalWords = signals => signals.map(({ taken, submitted }) => `${grouped(taken)}${submitted ? "!" : ""}`).join(" ");
 
 /** The session of a row, or null where it is gone. */
 function sessionOf(run, row) {
@@ -57,9 +73,9 @@ function stateAt(run, event) {
 
 /** The account as `trade` writes it. */
 function accountLine(run, node, account) {
-  const { leaf, label, steps } = run.nodes[node], { quota, used, taken, phase } = account, capsOf = run.two ? ` caps ${account.caps}` : "";
+  const { leaf, label } = run.nodes[node], { quota, used, taken, phase } = account, capsOf = run.two ? ` caps ${account.caps}` : "";
   if (!leaf) return `account ${label} quota ${quota}${capsOf}`;
-  return `account ${label} quota ${quota} used ${used}${capsOf}${run.two ? ` taken ${taken}` : ""} steps ${account.steps}/${steps} ${phase}`;
+  return `account ${label} quota ${quota} used ${used}${capsOf}${run.two ? ` taken ${taken}` : ""} steps ${account.steps}/${account.budget} ${phase}`;
 }
 
 /** The number of lines that were written up to and with an event. */
@@ -139,9 +155,18 @@ function sentence(run, event) {
     const { leaf, input, value } = run.settings, row = t.setting[event] - 1;
     return [`From outside: input ${input[row]} of ${name(leaf[row])} is ${grouped(value[row])} from here on`];
   }
+  if (t.signal[event]) {
+    const { leaf, signal } = run.signals, row = t.signal[event] - 1, again = signalsAt(run, leaf[row], event - 1)[signal[row]].submitted;
+    return [`From outside: signal ${signal[row]} of ${name(leaf[row])} is submitted${again ? " again, before it was taken" : ""}`];
+  }
   const who = name(t.leaf[event]), section = SECTIONS[t.section[event]], code = run.statements.texts[t.statement[event]];
   const [change] = sessionChanges(run, event), session = change?.after ?? change?.before;
   const which = session ? `session ${session.number} (${session.service})` : "its session";
+  if (t.section[event] >= FIRST_ON && (t.place[event] === 0 || !code)) {
+    const signal = t.section[event] - FIRST_ON, { taken } = signalsAt(run, t.leaf[event], event)[signal];
+    if (t.place[event] > 0) return [`${who} ends ${section} and serves again`];
+    return [`${who} takes signal ${signal}, which it has now taken ${counted(taken, "time")}`];
+  }
   if (t.place[event] === 0) return [`${who} takes ${section}${session ? ` of ${which} for ${name(session.client)}` : ""}`];
   if (code) {
     const asks = change?.after?.stage === WAITS && session.client === t.leaf[event], wrote = run.lines.at[event + 1] > run.lines.at[event];
@@ -155,10 +180,12 @@ function sentence(run, event) {
   return [`${who} ends main and ${accountAt(run, t.leaf[event], event).phase === "exited" ? "exits" : "serves from now on"}`];
 }
 
-/** The values of all inputs after an event, in words; empty where no component has inputs. */
+/** The values of all inputs after an event, and how often signals were taken, in words; empty where no component has either. */
 function inputsTold(run, event) {
   const settings = run.nodes.filter(n => n.inputs?.length).map(n => `${n.name} ${inputsAt(run, n.number, event).map(grouped).join(" ")}`);
-  return settings.length ? `Inputs: ${settings.join(" · ")}` : "";
+  const signals = run.nodes.filter(n => n.signals).map(n => `${n.name} ${signalWords(signalsAt(run, n.number, event))}`);
+  const told = [["Inputs", settings], ["Signals taken", signals]].filter(([, words]) => words.length);
+  return told.map(([what, words]) => `${what}: ${words.join(" · ")}`).join(". ");
 }
 
 /** A change in words. */

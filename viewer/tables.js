@@ -55,7 +55,7 @@ function cellOf(node, field, account) {
   if (field === "quota" || field === "used") return field === "used" && !node.leaf ? ["", ""] : [bytes(account[field]), counted(account[field], "byte")];
   if (field === "caps" && node.leaf) return [`${account.taken}/${account.caps}`, `${account.taken} of ${caps(account.caps)}`];
   if (field === "caps") return [grouped(account.caps), caps(account.caps)];
-  return node.leaf ? [grouped(account.steps), `${grouped(account.steps)} of ${counted(node.steps, "step")}`] : ["", ""];
+  return node.leaf ? [grouped(account.steps), `${grouped(account.steps)} of ${counted(account.budget, "step")}`] : ["", ""];
 }
 
 /** The lines up to an event: the last ones, those of the event marked. */

@@ -13,6 +13,7 @@ import { generate, nestedTree } from "./tests/generate.mjs";
 import { page as v, viewer } from "./tests/load.mjs";
 import { checkApart, checkBoxes, checkLabels, checkRoutes, checkThen, framesOf, WINDOWS } from "./tests/routes.mjs";
 
+const PHASES = ["pending", "running", "blocked", "serving", "handling", "exited"];
 const text = path => readFileSync(path, "utf8");
 
 /** The pairs of a folder in either form: { name, tree, trace }. */
@@ -40,18 +41,19 @@ function replay(tree, trace, visit) {
     const [, indent, name, rest] = /^( *)(\S+) (.*)$/.exec(line), number = word => Number(new RegExp(`(?:^| )${word} (\\d+)`).exec(rest)?.[1] ?? 0);
     path.length = indent.length / 2;
     path.push(name);
-    const leaf = !/^quantum \d+ left/.test(rest), waits = / after \S+ (?:own|inputs)/.test(rest), left = / caps \d+ left (\d+)/.exec(rest);
+    const leaf = !/^quantum \d+ left/.test(rest), waits = / after \S+ (?:own|inputs|signals)/.test(rest), left = / caps \d+ left (\d+)/.exec(rest);
     const quota = leaf ? waits ? 0 : number("quantum") : number("left"), caps = leaf ? waits ? 0 : number("caps") : Number(left?.[1] ?? 0);
-    accounts.set(path.join(" -> "), { quota, used: 0, caps, taken: 0, steps: 0, phase: leaf ? waits ? "pending" : "running" : "" });
+    const phase = leaf ? waits ? "pending" : "running" : "";
+    accounts.set(path.join(" -> "), { quota, used: 0, caps, taken: 0, steps: 0, budget: leaf ? number("steps") : 0, phase });
   }
   let k = 0;
   for (const line of trace.split("\n").filter(l => l)) {
-    const account = /^account (.*?) quota (\d+)(?: used (\d+))?(?: caps (\d+))?(?: taken (\d+))?(?: steps (\d+)\/\d+ (\w+))?$/.exec(line);
+    const account = /^account (.*?) quota (\d+)(?: used (\d+))?(?: caps (\d+))?(?: taken (\d+))?(?: steps (\d+)\/(\d+) (\w+))?$/.exec(line);
     const session = /^session (\d+) (\S+) of (.*) for (.*) at level (\d) lends (\d+)(?: caps (\d+))?(?:, (.*) (waits|at hand))?$/.exec(line);
-    if (/^turn |^end after |^input /.test(line)) visit(accounts, sessions, k++);
+    if (/^turn |^end after |^input |^signal /.test(line)) visit(accounts, sessions, k++);
     else if (account) {
-      const [quota, used, caps, taken, steps] = account.slice(2, 7).map(digits => Number(digits ?? 0));
-      accounts.set(account[1], { quota, used, caps, taken, steps, phase: account[7] ?? "" });
+      const [quota, used, caps, taken, steps, budget] = account.slice(2, 8).map(digits => Number(digits ?? 0));
+      accounts.set(account[1], { quota, used, caps, taken, steps, budget, phase: account[8] ?? "" });
     } else if (session) {
       const number = Number(session[1]), [service, server, client] = session.slice(2, 5);
       const [level, lends, caps] = session.slice(5, 8).map(digits => Number(digits ?? 0));
@@ -93,6 +95,13 @@ function checkLayout(nodes, frame) {
   }
 }
 
+/** Whether a leaf that is handling, or blocked in it, handles a signal, and no request. */
+function reacts(run, node, event) {
+  const rows = run.accountRows.of(node).filter(row => run.accounts.event[row] <= event), isServing = row => PHASES[run.accounts.phase[row]] === "serving";
+  const begun = rows[rows.findLastIndex(isServing) + 1];
+  return rows.some(isServing) && begun !== undefined && v.SECTIONS[run.events.section[run.accounts.event[begun]]].startsWith("on ");
+}
+
 /** What holds of accounts and sessions together. */
 function checkState(run, state, before) {
   const { nodes } = run, sum = field => state.accounts.reduce((total, a) => total + a[field], 0);
@@ -107,7 +116,8 @@ function checkState(run, state, before) {
     assert.equal(account.caps, (caps ?? 0) + moved("caps"));
     assert.equal(mine.filter(s => s.request).length, Number(account.phase === "blocked"), "who is blocked has one request");
     const hand = theirs.filter(s => v.STAGES[s.stage] === "at hand").length;
-    if (account.phase !== "blocked") assert.equal(hand, Number(account.phase === "handling"), "who handles has one request at hand");
+    if (reacts(run, number, state.event)) assert.equal(hand, 0, "who handles a signal has no request at hand");
+    else if (account.phase !== "blocked") assert.equal(hand, Number(account.phase === "handling"), "who handles else has one");
     else assert.ok(hand <= 1);
   }
   const numbers = before.map(s => s.number);
@@ -132,7 +142,7 @@ for (const { name, tree, trace } of pairs) {
   test(`${name}: the state at the end is the account lines of the trace`, () => {
     const lines = trace.split("\n").filter(l => l).slice(-nodes.length), end = v.stateAt(run, run.last), before = v.stateAt(run, run.last - 1);
     assert.deepEqual(end.accounts.map((a, node) => v.accountLine(run, node, a)), lines);
-    const steady = state => state.accounts.map(a => without(a, "row", "steps"));
+    const steady = state => state.accounts.map(a => without(a, "row", "steps", "budget"));
     assert.deepEqual(steady(before), steady(end));
     assert.deepEqual(before.sessions, end.sessions);
   });
@@ -486,6 +496,7 @@ test("view: it runs the program, and refuses with its line and status", t => {
   writeFileSync(trade, `#!/bin/sh
 case "$1 $2" in
   *refused) echo "trade: S5 NameTwice a" >&2; exit 1;;
+  "turns --signals") echo "a 3"; echo "a!0"; echo "# cut after 1000000 turns";;
   turns*) echo "a 3"; echo "# cut after 1000000 turns";;
   "outcomes --turns") echo "$4 $3";;
   tree*) echo "tree of $2";;
@@ -500,10 +511,13 @@ esac
   };
   assert.deepEqual(made("s.toml", at("turns")), [0, "", "s.toml, turns", "tree of s.toml\n", "trace of s.toml\nb 2\n"]);
   assert.deepEqual(made("s.toml"), [0, "", "s.toml, cut after 1,000,000 turns", "tree of s.toml\n", "trace of s.toml\na 3\n# cut after 1000000 turns\n"]);
+  assert.deepEqual(made("--signals", "2", "s.toml"), [0, "", "s.toml, each signal 2 times, cut after 1,000,000 turns", "tree of s.toml\n",
+    "trace of s.toml\na 3\na!0\n# cut after 1000000 turns\n"]);
   assert.deepEqual(made("--outcome", "7", "s.toml"), [0, "", "s.toml, outcome 7", "tree of s.toml\n", "trace of s.toml\ns.toml 7\n"]);
   assert.deepEqual(made("refused"), [1, "trade: S5 NameTwice a\n"]);
   assert.equal(run().status, 2);
-  assert.equal(run("--trade", trade, "--outcome", "1", "s.toml", at("turns")).status, 2);
+  for (const option of ["--outcome", "--signals"]) assert.equal(run("--trade", trade, option, "1", "s.toml", at("turns")).status, 2);
+  assert.equal(run("--trade", trade, "--outcome", "1", "--signals", "1", "s.toml").status, 2);
   assert.equal(run("--tree", at("turns")).status, 2);
   const missing = run("--tree", at("none"), "--trace", at("turns"));
   assert.deepEqual([missing.status, missing.stdout.length, missing.stderr.toString()], [4, 0, `view: No such file or directory: ${at("none")}\n`]);
@@ -553,4 +567,35 @@ test("settings are events between turns, and the values of inputs hold from ther
   assert.ok(sentences.length > 2);
   assert.match(v.inputsTold(run, event), /^Inputs: drv /);
   assert.throws(() => v.readTrace(trace.replace(".0 = ", ".7 = "), nodes), v.Malformed);
+});
+
+test("signals are events between turns, and each is submitted until it is taken", () => {
+  const tree = text(join(viewer, "tests", "signals.tree")), trace = text(join(viewer, "tests", "signals.trace"));
+  const nodes = v.readTree(tree), run = v.readTrace(trace, nodes), named = new Map(nodes.map(n => [n.label, n.number]));
+  const signals = new Map(nodes.map(n => [n.number, Array.from({ length: n.signals ?? 0 }, () => ({ taken: 0, submitted: false }))]));
+  let event = 0, takings = 0, submittedAgain = 0;
+  for (const line of trace.split("\n")) {
+    const [, label, digit] = /^signal (.*)!(\d)$/.exec(line) ?? /^turn \d+ (.*) on (\d) at 0$/.exec(line) ?? [];
+    if (!/^(?:turn|input|signal) /.test(line)) continue;
+    event++;
+    if (label !== undefined) {
+      const signal = signals.get(named.get(label))[Number(digit)], name = label.split(" ").at(-1), isTaken = line.startsWith("turn ");
+      const again = signal.submitted ? " again, before it was taken" : "", times = signal.taken ? `${signal.taken + 1} times` : "1 time";
+      const told = isTaken ? `${name} takes signal ${digit}, which it has now taken ${times}` : `From outside: signal ${digit} of ${name} is submitted${again}`;
+      assert.deepEqual(v.sentence(run, event), [told]);
+      assert.ok(!isTaken || signal.submitted, "what is taken was submitted");
+      takings += Number(isTaken);
+      submittedAgain += Number(!isTaken && signal.submitted);
+      Object.assign(signal, { taken: signal.taken + Number(isTaken), submitted: !isTaken });
+    }
+    for (const { number } of nodes) assert.deepEqual(v.signalsAt(run, number, event), signals.get(number));
+  }
+  assert.ok(takings > 4 && submittedAgain > 0);
+  assert.match(v.inputsTold(run, run.last), /Signals taken: [a-z_]+ \d/);
+  assert.deepEqual(v.signalsAt(run, 1, 0).map(s => s.submitted), signals.get(1).map(() => false));
+  const refuses = (from, to) => assert.throws(() => v.readTrace(trace.replace(from, to), nodes), v.Malformed);
+  refuses("!0\n", "!3\n");
+  refuses(" on 0 at 0", " on 2 at 0");
+  refuses(" on 0 at 0", " on at 0");
+  assert.throws(() => v.readTree(tree.replace(" signals 2", " signals 4")), v.Malformed);
 });

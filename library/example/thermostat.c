@@ -1,7 +1,8 @@
-/* thermostat SCENARIO: a control loop over a system of components, examples/thermostat.toml.
+/* thermostat SCENARIO: a control loop over a system of components, examples/thermostat.toml, which runs for ever.
 
-   Reads measurements from standard input, one a line, in tenths of a degree. Each one becomes the input of the driver `sensor_drv`. Then every leaf gets turns
-   until `heater_drv` says the power that the controller wants, which is printed. After a bad line there is an error on standard error, and the loop goes on. */
+   Each line of standard input is a tick of a timer, with a measurement in tenths of a degree. The measurement becomes the input of the driver `sensor_drv`,
+   and the tick a signal to `controller`. Then the components get turns until all are at rest. Each power that `heater_drv` says is printed. A scenario in which
+   a tick may take more steps than there is time for is refused. After a bad line there is an error on standard error, and the loop goes on. */
 #include "trade.h"
 
 #include <errno.h>
@@ -10,7 +11,8 @@
 #include <stdlib.h>
 #include <string.h>
 
-enum { MOST_TEXT = 1 << 20, TURNS = 64 };
+/* MOST_STEPS: how many steps there is time for between two ticks. TURNS: after so many the host would look after its other work. */
+enum { MOST_TEXT = 1 << 20, MOST_STEPS = 1000, TURNS = 100, TICK = 0 };
 
 static uint32_t leaf_named(trade_world *world, const char *name) {
     uint32_t leaf = trade_leaf(world, (const uint8_t *)name, strlen(name));
@@ -38,17 +40,25 @@ static bool load(const char *name, trade_world *world) {
     return status == TRADE_LOADED;
 }
 
-/* Gives all leaves turns until one of them says a line. False if none can take a turn any more. */
-static bool answer(trade_world *world, uint32_t of, uint8_t line[64], size_t *written) {
-    for (bool moved = true; moved;) {
-        moved = false;
-        for (uint32_t leaf = 0; leaf < trade_leaves(world); leaf++) {
-            uint32_t taken, event = trade_turns(world, leaf, TURNS, &taken, line, 64, written);
-            if (event == TRADE_LINE && leaf == of) return true;
-            moved = moved || taken > 0;
-        }
-    }
+/* Whether a tick takes no more steps than there is time for, whatever the order of the turns. Prints why not. */
+static bool is_in_time(trade_world *world, uint32_t controller) {
+    trade_reaction tick;
+    if (!trade_read_reaction(world, controller, TICK, &tick)) return fprintf(stderr, "the controller takes no ticks\n"), false;
+    if (tick.all <= MOST_STEPS) return true;
+    fprintf(stderr, "a tick may take %" PRIu64 " steps, and there is time for %d\n", tick.all, MOST_STEPS);
     return false;
+}
+
+/* Gives all leaves turns until none can take one any more. Prints each power that the heater says. */
+static void run_to_rest(trade_world *world, uint32_t heater) {
+    uint32_t leaf = 0, taken;
+    do {
+        uint8_t line[64];
+        size_t written;
+        uint32_t event = trade_run(world, TURNS, &leaf, &taken, line, sizeof line, &written);
+        if (event == TRADE_LINE && leaf == heater) printf("heater %.*s\n", (int)written, (const char *)line);
+    } while (taken > 0);
+    fflush(stdout);
 }
 
 /* Reads a line without its line feed: its length, of which no more than `room` bytes are kept. False at the end of the input. */
@@ -75,7 +85,9 @@ int main(int argc, char **argv) {
     trade_world world = TRADE_EMPTY;
     if (argc != 2) return fprintf(stderr, "usage: thermostat SCENARIO\n"), 2;
     if (!load(argv[1], &world)) return 1;
-    uint32_t sensor = leaf_named(&world, "sensor_drv"), heater = leaf_named(&world, "heater_drv");
+    uint32_t sensor = leaf_named(&world, "sensor_drv"), heater = leaf_named(&world, "heater_drv"), controller = leaf_named(&world, "controller");
+    if (!is_in_time(&world, controller)) return trade_drop(&world), 1;
+    run_to_rest(&world, heater);
     char read[16];
     size_t length;
     for (unsigned number = 1; read_line(read, sizeof read, &length); number++) {
@@ -85,14 +97,8 @@ int main(int argc, char **argv) {
         } else if (trade_set_input(&world, sensor, 0, tenths) != TRADE_SET) {
             fprintf(stderr, "line %u: the sensor can't measure %" PRIu32 "\n", number, tenths);
         } else {
-            uint8_t line[64];
-            size_t written;
-            if (!answer(&world, heater, line, &written)) {
-                fprintf(stderr, "line %u: the controller has ended\n", number);
-                break;
-            }
-            printf("heater %.*s\n", (int)written, (const char *)line);
-            fflush(stdout);
+            trade_signal(&world, controller, TICK);
+            run_to_rest(&world, heater);
         }
     }
     trade_drop(&world);

@@ -10,7 +10,7 @@ for (const name of ["read.js", "state.js", "timeline.js", "marks.js", "ways.js",
 }
 const NAMES = [
   "readTree", "readTrace", "Malformed", "STAGES", "NOBODY", "stateAt", "accountAt", "accountLine", "accountChanges", "sessionChanges", "nextOf", "linesUpTo",
-  "lineText", "inputsAt", "inputsTold", "bytes", "sentence", "changeWords", "sessionWords", "layout", "layoutIn", "wholeWindow", "windowAround", "columnEvents", "bandOf", "laneOf",
-  "marksOf", "peakOf", "eventIn", "fragmentOf", "coloursOf", "colourValue", "shortened", "firstOf", "labelsOf",
+  "lineText", "inputsAt", "signalsAt", "inputsTold", "SECTIONS", "bytes", "sentence", "changeWords", "sessionWords", "layout", "layoutIn", "wholeWindow",
+  "windowAround", "columnEvents", "bandOf", "laneOf", "marksOf", "peakOf", "eventIn", "fragmentOf", "coloursOf", "colourValue", "shortened", "firstOf", "labelsOf",
 ];
 export const page = runInThisContext(`({ ${NAMES} })`);

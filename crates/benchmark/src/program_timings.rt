@@ -122,7 +122,7 @@ fn verified_from(
     let start = Instant::now(rt)?;
     let mut given = 0;
     for _ in 0..times {
-        match verify(program, None, interfaces, &[]) {
+        match verify(program, None, interfaces, &[], 0) {
             Ok(verified) => given = verified.own(),
             Err(fault) => return Err(MeasureFault::Refused(fault)),
         }

@@ -15,11 +15,12 @@ one_more made made' rest rest' all x x' m same r e =
 pub none_left : {A : Type 0} (made rest all : List A) → rest ≡ [] → made ++ rest ≡ all → made ≡ all
 none_left made rest all r e = sym (append-nil made) ∙ (ap (λ l. made ++ l) (sym r) ∙ e)
 
-pub asks_none : (leaves xs : List Counted) (ys : List (Vec Bool Global)) → (xs ≡ []) ⊎ (ys ≡ []) → all_asks leaves xs (map (λ v. v.items) ys) ≡ []
-asks_none leaves [] ys h = refl
-asks_none leaves (x ∷ xs) [] h = refl
-asks_none leaves (x ∷ xs) (y ∷ ys) (inl e) = cc
-asks_none leaves (x ∷ xs) (y ∷ ys) (inr e) = cc
+pub asks_none : (leaves : List Counted) (n : ℕ) (xs : List Counted) (ys : List (Vec Bool Global)) → (xs ≡ []) ⊎ (ys ≡ [])
+    → all_asks leaves n xs (map (λ v. v.items) ys) ≡ []
+asks_none leaves n [] ys h = refl
+asks_none leaves n (x ∷ xs) [] h = refl
+asks_none leaves n (x ∷ xs) (y ∷ ys) (inl e) = cc
+asks_none leaves n (x ∷ xs) (y ∷ ys) (inr e) = cc
 
 pub budgets_none : (xs : List Counted) (ys : List (List ℕ)) → (xs ≡ []) ⊎ (ys ≡ []) → budgets_by xs ys ≡ []
 budgets_none [] ys h = refl

@@ -6,10 +6,11 @@ use Rattle.gq_verify.specs.Requested.{Requested, is_asked}
 use Rattle.gq_budget.specs.Leaf_routes.{BudgetLeaf}
 use Rattle.gq_budget.specs.internal.Counted.{AreRequests, costs_of}
 
--- the sections of a leaf's program, the service that it provides, and of each section the requests and the steps
+-- the sections of a leaf's program, the service that it provides, the number of its signals, and of each section the requests and the steps
 pub record Counted : Type 0 where
   pub sections : List Section
   pub provides : Option (List ℕ)
+  pub signals : ℕ
   pub requests : List (List Requested)
   pub costs : List ℕ
 
@@ -17,6 +18,7 @@ pub record Counted : Type 0 where
 pub record IsCountOf (n : Counted) (leaf : BudgetLeaf) : Type 0 where
   pub sections : n.sections ≡ map (λ p. p.0) leaf.subject.program.sections
   pub provides : n.provides ≡ leaf.provides
+  pub signals : n.signals ≡ leaf.subject.signals
   pub requests : AreRequests leaf.subject leaf.subject.program.sections n.requests
   pub costs : n.costs ≡ costs_of leaf.subject.program.sections
 

@@ -2,8 +2,10 @@
 ghost use Rattle.std.specs.Prelude.{◌≡◌, ◌∷◌, [], IfOk, map};
 ghost use Rattle.gq_model.specs.machine.Sections.{same_section};
 ghost use Rattle.gq_verify.specs.Saturated_numbers.{saturated};
+ghost use Rattle.gq_budget.specs.Causes.{cause_of};
 ghost use Rattle.gq_budget.specs.internal.Run_rounds.{runs, asked_sum, often, leaf_round, askers_by, askers_for, all_asks};
 
+use crate::cause::Cause;
 use crate::counted_leaves::CountedLeaf;
 use crate::number_sums::Numbers;
 use gq_program::Section;
@@ -12,9 +14,10 @@ use smallvec::SmallVec;
 use std::alloc::{AllocError, Global};
 use std::marker::Model;
 
-/// The sections of a leaf, and who asks for them.
+/// A leaf's number and its sections, and who asks for them.
 #[derive(Drop)]
 pub(crate) struct LeafAsks<'a> {
+    number: usize,
     sections: &'a [Section],
     askers: Vec<Asker>,
 }
@@ -24,7 +27,7 @@ impl<'a> Model for LeafAsks<'a> {
 
     ghost Value = { Asks };
 
-    ghost view = { λ a. record { sections = a.sections.now; askers = a.askers.items } };
+    ghost view = { λ a. record { number = a.number; sections = a.sections.now; askers = a.askers.items } };
 }
 
 // How often the section that asks runs, where the sections of the leaves run so often.
@@ -57,13 +60,13 @@ fn asked(section: Section, askers: &[Asker], table: &[Numbers]) -> u64
     sum
 }
 
-// How often a section runs, which these ask for; 2^64 - 1 where it is more often.
-fn often(section: Section, askers: &[Asker], table: &[Numbers]) -> u64
-    ensures { result ≡ often section askers.now table.now }
+// How often a section of the leaf of a number runs for one cause, which these ask for; 2^64 - 1 where it is more often.
+fn often(cause: Cause, leaf: usize, section: Section, askers: &[Asker], table: &[Numbers]) -> u64
+    ensures { result ≡ often (cause_of cause) leaf section askers.now table.now }
 {
     match section {
-        Section::Main => 1,
-        Section::Reacting(_) => 0,
+        Section::Main => cause.main_runs(),
+        Section::Reacting(signal) => u64::from(cause.is_signal(leaf, signal)),
         _ => asked(section, askers, table),
     }
 }
@@ -76,13 +79,19 @@ impl<'a> LeafAsks<'a> {
         self.askers.as_slice()
     }
 
-    /// How often each section of the leaf runs, where the sections of the leaves run so often.
-    pub fn round(&self, alloc: Global, table: &[Numbers]) -> Result<Numbers, AllocError>
-        ensures { IfOk result (λ n. n ≡ leaf_round self.now.sections self.now.askers table.now) }
+    /// How often each section of the leaf runs for one cause, where the sections of the leaves run so often.
+    pub fn round(
+        &self,
+        alloc: Global,
+        cause: Cause,
+        table: &[Numbers],
+    ) -> Result<Numbers, AllocError>
+        ensures { IfOk result (λ n. n ≡ leaf_round (cause_of cause) self.now.number self.now.sections self.now.askers table.now) }
     {
         let mut numbers = SmallVec::new(alloc);
         for section in self.sections {
-            numbers.push(often(*section, self.askers.as_slice(), table))?;
+            let askers = self.askers.as_slice();
+            numbers.push(often(cause, self.number, *section, askers, table))?;
         }
         Ok(Numbers::new(numbers))
     }
@@ -129,12 +138,14 @@ pub(crate) fn all_asks<'a>(
     leaves: &'a [CountedLeaf],
     leads: &[Vec<bool>],
 ) -> Result<Vec<LeafAsks<'a>>, AllocError>
-    ensures { IfOk result (λ a. a.items ≡ all_asks leaves.now leaves.now (map (λ v. v.items) leads.now)) }
+    ensures { IfOk result (λ a. a.items ≡ all_asks leaves.now 0 leaves.now (map (λ v. v.items) leads.now)) }
 {
     let mut asks = Vec::new(alloc);
     for (leaf, leads) in leaves.iter().zip(leads) {
         let askers = askers_for(alloc, leaves, leads, leaf)?;
+        let number = asks.len();
         asks.push(LeafAsks {
+            number,
             sections: leaf.sections(),
             askers,
         })?;

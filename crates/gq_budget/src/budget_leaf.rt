@@ -59,6 +59,14 @@ impl<'a> BudgetLeaf<'a> {
         self.provides
     }
 
+    /// The number of its signals.
+    pub(crate) fn signals(&self) -> u8
+        ensures { result ≡ self.now.subject.signals }
+    {
+        let verified = self.verified;
+        verified.subject().signals()
+    }
+
     /// The sections of its program, in their order.
     pub(crate) fn sections(&self) -> &[(Section, Body)]
         ensures sections { result.now ≡ self.now.subject.program.sections }

@@ -12,12 +12,13 @@ use gq_verify::{Asker, RequestCounts, Service};
 use std::alloc::{AllocError, Global};
 use std::marker::Model;
 
-/// What is kept of a leaf once its sections are gone through. It is which sections there are, the service that it provides, how often each section asks for the
-/// sections of services, and the greatest number of steps of each. The program is not needed any more.
+/// What is kept of a leaf once its sections are gone through. It is which sections there are, the service that it provides, the number of its signals, how
+/// often each section asks for the sections of services, and the greatest number of steps of each. The program is not needed any more.
 #[derive(Drop)]
 pub struct CountedLeaf {
     sections: Vec<Section>,
     provides: Option<Name>,
+    signals: u8,
     requests: Vec<RequestCounts>,
     costs: Numbers,
 }
@@ -27,7 +28,13 @@ impl Model for CountedLeaf {
 
     ghost Value = { Counted };
 
-    ghost view = { λ l. record { sections = l.sections.items; provides = l.provides; requests = l.requests.items; costs = l.costs } };
+    ghost view = { λ l. record {
+      sections = l.sections.items;
+      provides = l.provides;
+      signals = l.signals;
+      requests = l.requests.items;
+      costs = l.costs;
+    } };
 }
 
 // The same name, or none.
@@ -51,6 +58,7 @@ impl CountedLeaf {
         Ok(CountedLeaf {
             sections,
             provides: copied(leaf.provides()),
+            signals: leaf.signals(),
             requests,
             costs,
         })
@@ -61,6 +69,13 @@ impl CountedLeaf {
         ensures { option_copied result ≡ self.now.provides }
     {
         self.provides.as_ref()
+    }
+
+    /// The number of its signals.
+    pub(crate) fn signals(&self) -> u8
+        ensures { result ≡ self.now.signals }
+    {
+        self.signals
     }
 
     /// Whether one of its sections asks for a section of a service.

@@ -2,6 +2,7 @@
 ghost use Rattle.std.specs.Prelude.{◌≡◌, ◌<◌, ◌^◌, length, map, Some, IfOk, slice_get};
 ghost use Rattle.gq_model.specs.machine.Scenario as model;
 ghost use Rattle.gq_model.specs.machine.Scenario.{system};
+ghost use Rattle.gq_budget.specs.Causes.{cause_of};
 ghost use Rattle.gq_budget.specs.Step_budgets.{budgets_of};
 ghost use Rattle.gq_budget.specs.Leaf_section_counts.{AreCountsOf};
 ghost use Rattle.gq_budget.specs.Times.{time_at, times_table};
@@ -10,8 +11,10 @@ ghost use Rattle.gq_budget.specs.Leaf_routes.{leaves_of};
 ghost use Rattle.gq_budget.specs.internal.Route_leads.{AreReported, leads_to, leads_row, leads_rows};
 
 use crate::budgets::{counted_budgets, counted_times};
+use crate::cause::Cause;
 use crate::counted_leaves::CountedLeaf;
 use crate::number_sums::Numbers;
+use crate::step_budget::StepBudget;
 use gq_model::program::Name;
 use gq_resolve::component::Component;
 use gq_resolve::routes::{Routes, server_of};
@@ -159,7 +162,7 @@ fn leads_rows(
     Ok(rows)
 }
 
-/// How often each section of each leaf runs at most.
+/// How often each section of each leaf runs at most for one cause.
 #[derive(Drop)]
 pub struct Times {
     often: Vec<Numbers>,
@@ -185,9 +188,10 @@ impl Times {
     }
 }
 
-/// How often each section of each leaf of a scenario runs at most, by who may ask for it. Refused only if the host refuses memory.
+/// How often each section of each leaf of a scenario runs at most for one cause, by who may ask for it. Refused only if the host refuses memory.
 pub fn times_of(
     alloc: Global,
+    cause: Cause,
     scenario: &Scenario,
     components: &[Component<'_>],
     routes: &Routes,
@@ -196,25 +200,25 @@ pub fn times_of(
     requires components { components.now ≡ model.components scenario.now }
     requires routes { AreServers scenario.now routes.now }
     requires counted { AreCountsOf counted.now (leaves_of (system scenario.now)) }
-    ensures { IfOk result (λ t. t ≡ times_table (system scenario.now)) }
+    ensures { IfOk result (λ t. t ≡ times_table (cause_of cause) (system scenario.now)) }
 {
     scenario.bounds();
     let rows = leads_rows(alloc, components, routes, counted)?;
-    let often = counted_times(alloc, counted, rows.as_slice())?;
+    let often = counted_times(alloc, cause, counted, rows.as_slice())?;
     Ok(Times { often })
 }
 
 /// The step budgets of a scenario's leaves, in their order. The leaves are counted and have these routes.
 ///
-/// A budget has the steps of a leaf's `main`, and those of its sections as often as its clients may ask for them. It is 2^64 - 1 where they are more.
-/// Refused only if the host refuses memory.
+/// A budget has the steps of a leaf for the start: those of its `main`, and those of its sections as often as its clients may ask for them. It has the same for
+/// each signal of each leaf, whose section is done once, and no `main`. A number is 2^64 - 1 where the steps are more. Refused only if the host refuses memory.
 pub fn steps_of(
     alloc: Global,
     scenario: &Scenario,
     components: &[Component<'_>],
     routes: &Routes,
     counted: &[CountedLeaf],
-) -> Result<Vec<u64>, AllocError>
+) -> Result<Vec<StepBudget>, AllocError>
     requires components { components.now ≡ model.components scenario.now }
     requires routes { AreServers scenario.now routes.now }
     requires counted { AreCountsOf counted.now (leaves_of (system scenario.now)) }

@@ -1,5 +1,6 @@
 // Lists of numbers, and sums of products.
-ghost use Rattle.std.specs.Prelude.{◌≡◌, true, get_or};
+ghost use Rattle.std.specs.Prelude.{◌≡◌, true, get_or, nat_le};
+ghost use Rattle.gq_model.specs.machine.Lists.{all_of};
 ghost use Rattle.gq_verify.specs.Saturated_numbers.{saturated};
 ghost use Rattle.gq_budget.specs.internal.Product_sums.{products};
 
@@ -32,6 +33,13 @@ impl Numbers {
         Numbers { numbers }
     }
 
+    /// The numbers.
+    pub fn numbers(&self) -> &[u64]
+        ensures { result.now ≡ self.now }
+    {
+        self.numbers.as_slice()
+    }
+
     /// The sum of the products of the numbers at the same places of both lists; 2^64 - 1 where it is greater.
     pub fn products(&self, often: &Numbers) -> u64
         ensures { result ≡ saturated (products self.now often.now) }
@@ -49,12 +57,31 @@ impl Numbers {
         }
     }
 
+    /// Whether none of them is greater than this one.
+    pub fn are_at_most(&self, greatest: u64) -> bool
+        ensures { result ≡ all_of (λ n. nat_le n greatest) self.now }
+    {
+        are_at_most(self.numbers.as_slice(), greatest)
+    }
+
     /// Whether both are the same numbers.
     pub fn is_same(&self, other: &Numbers) -> bool
         ensures { result ≡ true → self.now ≡ other.now }
     {
         self.numbers.as_slice() == other.numbers.as_slice()
     }
+}
+
+// Whether none of these numbers is greater than this one.
+fn are_at_most(numbers: &[u64], greatest: u64) -> bool
+    ensures { result ≡ all_of (λ n. nat_le n greatest) numbers.now }
+{
+    for number in numbers {
+        if *number > greatest {
+            return false;
+        }
+    }
+    true
 }
 
 // The sum of the products of the numbers at the same places of both lists; 2^64 - 1 where it is greater.

@@ -1,9 +1,11 @@
 // An order of use: for each leaf a level above those of all leaves that ask for its sections.
-ghost use Rattle.std.specs.Prelude.{◌≡◌, true, IfOk, IfSome, [], suc, get_or};
+ghost use Rattle.std.specs.Prelude.{◌≡◌, ℕ, true, IfOk, IfSome, [], suc, get_or};
+ghost use Rattle.gq_budget.specs.Causes.{cause_of};
 ghost use Rattle.gq_budget.specs.internal.Asking_order.{IsOrder, IsPlaced};
 ghost use Rattle.gq_budget.specs.internal.Run_rounds.{rounds};
 
 use crate::asks::LeafAsks;
+use crate::cause::Cause;
 use crate::number_sums::Numbers;
 use crate::rounds::{are_same, round};
 use smallvec::SmallVec;
@@ -102,9 +104,27 @@ fn is_order(asks: &[LeafAsks<'_>], levels: &[usize], uses: usize) -> bool
     true
 }
 
+/// An order of use: for each leaf a level above those of the leaves that ask for its sections, none greater than there are uses. `None` where none was found,
+/// as there may be none.
+pub(crate) fn order_of(
+    alloc: Global,
+    asks: &[LeafAsks<'_>],
+    uses: usize,
+) -> Result<Option<Vec<usize>>, AllocError>
+    ensures { IfOk result (λ found. IfSome found (λ levels. IsOrder asks.now levels.items uses)) }
+{
+    let levels = levels(alloc, asks)?;
+    if is_order(asks, &levels, uses) {
+        Ok(Some(levels))
+    } else {
+        Ok(None)
+    }
+}
+
 // Puts the numbers of the leaves of a level into the table.
 fn fill(
     alloc: Global,
+    cause: Cause,
     asks: &[LeafAsks<'_>],
     levels: &[usize],
     level: usize,
@@ -112,7 +132,7 @@ fn fill(
 ) -> Result<(), AllocError> {
     for (leaf, asks) in asks.iter().enumerate() {
         if levels.get(leaf) == Some(&level) && leaf < table.len() {
-            table[leaf] = asks.round(alloc, table)?;
+            table[leaf] = asks.round(alloc, cause, table)?;
         }
     }
     Ok(())
@@ -127,34 +147,33 @@ fn empty(alloc: Global, count: usize) -> Result<Vec<Numbers>, AllocError> {
     Ok(table)
 }
 
-// How often each section of each leaf runs, the leaves of a level after those of all lower ones.
+// How often each section of each leaf runs for one cause, the leaves of a level after those of all lower ones.
 fn filled(
     alloc: Global,
+    cause: Cause,
     asks: &[LeafAsks<'_>],
     levels: &[usize],
 ) -> Result<Vec<Numbers>, AllocError> {
     let mut table = empty(alloc, asks.len())?;
     for level in 0..asks.len() {
-        fill(alloc, asks, levels, level, &mut table)?;
+        fill(alloc, cause, asks, levels, level, &mut table)?;
     }
     Ok(table)
 }
 
-/// How often each section of each leaf runs by chains of at most so many uses; 2^64 - 1 where it is more often. The numbers of each leaf are made once, after
-/// those of the leaves that ask for its sections. `None` where no order of use was found, as there may be none.
+/// How often each section of each leaf runs for one cause, where the leaves have these levels in an order of use; 2^64 - 1 where it is more often. The numbers
+/// of each leaf are made once, after those of the leaves that ask for its sections. `None` where another round would change them.
 pub(crate) fn in_order(
     alloc: Global,
+    cause: Cause,
     asks: &[LeafAsks<'_>],
-    uses: usize,
+    levels: &[usize],
 ) -> Result<Option<Vec<Numbers>>, AllocError>
-    ensures { IfOk result (λ found. IfSome found (λ often. often.items ≡ rounds (suc uses) asks.now [])) }
+    ensures { (uses : ℕ) → IsOrder asks.now levels.now uses →
+        IfOk result (λ found. IfSome found (λ often. often.items ≡ rounds (cause_of cause) (suc uses) asks.now [])) }
 {
-    let levels = levels(alloc, asks)?;
-    if !is_order(asks, &levels, uses) {
-        return Ok(None);
-    }
-    let table = filled(alloc, asks, &levels)?;
-    let next = round(alloc, asks, &table)?;
+    let table = filled(alloc, cause, asks, levels)?;
+    let next = round(alloc, cause, asks, &table)?;
     if are_same(&next, &table) {
         Ok(Some(table))
     } else {

@@ -3,7 +3,7 @@ use Rattle.std.proofs.Common.{◌≡◌, ◌≢◌, ◌∙◌, List, ℕ, Option
 use Rattle.std.specs.Prelude.{string_bytes}
 use Rattle.gq_model.specs.declared.fault.TurnFault.{TurnFault}
 use Rattle.gq_model.specs.machine.Scenario.{Scenario}
-use Rattle.gq_model.specs.texts.Turns.{turned}
+use Rattle.gq_model.specs.texts.Turns.{listed}
 use Rattle.gq_output.specs.declared.counted.Counted.{Counted}
 use Rattle.gq_output.specs.Writer_failures.{written_to}
 use Rattle.gq_reports.specs.Command_outcomes.{GivesOf, IsBefore, IsCutShort, IsFaultOf, WritesAs, run_fault_text}
@@ -105,7 +105,7 @@ refusal_silent f scenario Read gives reported = tt {0}
 refusal_silent f scenario Write gives reported = gives_before f scenario gives reported
 
 pub reported_turns : (s : Scenario) (old new : Option (List ℕ)) (fault : TurnFault) (k : ℕ) (r : CommandFault) → IsReportedAs (faults.Turns fault k) r
-    → ReadsText old new (λ text. turned s text ≡ Err (fault, k)) → ReadsTurns s old new (Err r)
+    → ReadsText old new (λ text. listed s text ≡ Err (fault, k)) → ReadsTurns s old new (Err r)
 reported_turns s old new fault k (Refused line) reported h = reads_by old new (λ text e. turns_refused s text (string_bytes line) fault k e reported.2) h
 reported_turns s old new fault k Memory reported h = tt {0}
 reported_turns s old new fault k Read reported h = tt {0}

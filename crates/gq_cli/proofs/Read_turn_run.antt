@@ -5,9 +5,9 @@ use Rattle.std.specs.Io.KnownBytes.{IsAtEnd}
 use Rattle.std.proofs.KnownBytes.{Consumes-nil, Consumes-trans}
 use Rattle.gq_command.specs.Input.{GivesAtMost}
 use Rattle.std.specs.Prelude.{OnOk}
-use Rattle.gq_model.specs.machine.Scenario.{Scenario}
+use Rattle.gq_model.specs.machine.Scenario.{Scenario, system}
 use Rattle.gq_model.specs.rules.Accept.{IsAccepted}
-use Rattle.gq_model.specs.texts.Turns.{turned}
+use Rattle.gq_model.specs.texts.Turns.{acts_of, listed, turned}
 use Rattle.gq_init.specs.TurnReading.{Reading, answer}
 use Rattle.gq_load.specs.Load.{loaded}
 use Rattle.gq_world.specs.Headline.{Upholding, WritesPromised}
@@ -28,11 +28,11 @@ use Rattle.gq_cli.specs.internal.Running.{EndsAs, HasCome, ReadsTurns}
 -- what was read to its end
 pub read_to_end : (cs : Scenario) (old new : Option (List ℕ)) (first last : Reading)
     → ReadsText old new (λ text. (rest : List ℕ) → answer cs last rest ≡ answer cs first (text ++ rest))
-    → ((rest : List ℕ) → answer cs first rest ≡ turned cs rest) → ReadsText old new (λ text. answer cs last [] ≡ turned cs text)
+    → ((rest : List ℕ) → answer cs first rest ≡ listed cs rest) → ReadsText old new (λ text. answer cs last [] ≡ listed cs text)
 read_to_end cs old new first last h starts = record {
   text = h.text;
   read = h.read;
-  so = h.so [] ∙ (starts (h.text ++ []) ∙ ap (turned cs) (append-nil h.text));
+  so = h.so [] ∙ (starts (h.text ++ []) ∙ ap (listed cs) (append-nil h.text));
 }
 
 pub reads_by : {P Q : List ℕ → Type 0} (old new : Option (List ℕ)) → ((text : List ℕ) → P text → Q text) → ReadsText old new P → ReadsText old new Q
@@ -89,9 +89,9 @@ refused_by faults.Memory scenario text line gives not e = absurd (not refl)
 refused_by faults.Write scenario text line gives not e = absurd gives
 
 -- turns that are refused
-pub turns_refused : (s : Scenario) (text line : List ℕ) (fault : TurnFault) (k : ℕ) → turned s text ≡ Err (fault, k)
+pub turns_refused : (s : Scenario) (text line : List ℕ) (fault : TurnFault) (k : ℕ) → listed s text ≡ Err (fault, k)
     → line ≡ refused_with (turn_fault_text fault k) → turns_written s text ≡ Err line
-turns_refused s text line fault k e is = ap (written_turns s) e ∙ ap Err (sym is)
+turns_refused s text line fault k e is = ap (λ l. written_turns s (acts_of (system s) l)) e ∙ ap Err (sym is)
 
 module _ (scenario : List ℕ) (s : Scenario) (load : loaded scenario ≡ Ok s) where
   runs : (text : List ℕ) → run_written scenario text ≡ turns_written s text

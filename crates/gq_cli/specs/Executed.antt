@@ -17,7 +17,7 @@ use Rattle.gq_traces.specs.Rest_runs.{WritesToRest}
 use Rattle.gq_traces.specs.Traces_written.{peaks_written, state_written, trace_written, turns_written}
 use Rattle.gq_outcomes.specs.Laws.{WritesTurnsTo}
 use Rattle.gq_outcomes.specs.Written.{outcomes_asked}
-use Rattle.gq_races.specs.Races.{IsOrderFree, IsRaceFree}
+use Rattle.gq_races.specs.Races.{IsInputFree, IsOrderFree, IsRaceFree, IsSignalFree}
 use Rattle.gq_races.specs.Races_written.{MeansWithout, WroteNothing, races_written}
 use Rattle.gq_sizes.specs.Judged_scenario.{judged_without}
 use Rattle.gq_sizes.specs.Size_written.{size_written}
@@ -90,7 +90,7 @@ abbrev pub scenario_written : ScenarioCommand → List ℕ → Written
 scenario_written Check scenario = check_written scenario
 scenario_written Tree scenario = tree_written scenario
 scenario_written Graph scenario = graph_written scenario
-scenario_written (Turns seed) scenario = turns_written seed scenario
+scenario_written (Turns seed rounds) scenario = turns_written seed rounds scenario
 scenario_written Races scenario = races_written scenario
 scenario_written (Outcomes number) scenario = outcomes_asked number scenario
 scenario_written Size scenario = size_written scenario
@@ -198,13 +198,16 @@ IsRefusedBy (Of_faults path scenario turns) line = faults_written scenario (opti
 IsRefusedBy (Of_nothing written) line = written ≡ Err line
 
 -- What a command promises beside its text. A run upholds every promise. Turns lead to rest, unless they were cut. Where `races` wrote no line `race`, there is
--- no race; where it wrote no line `order`, there is no order. Within the limits of a list, the turns of an outcome lead to it.
+-- no race; where it wrote no line `input`, `signal` or `order`, there is no input, signal or order. Within the limits of a list, the turns of an outcome lead
+-- to it.
 abbrev pub IsUpheldBy : Asked → (before after : Option (List ℕ)) → Type 0
 IsUpheldBy (Of_both Run scenario turns) before after = WritesPromised scenario turns before after
-IsUpheldBy (Of_scenario (Turns seed) scenario) before after = WritesToRest seed scenario before after
+IsUpheldBy (Of_scenario (Turns seed rounds) scenario) before after = WritesToRest seed rounds scenario before after
 IsUpheldBy (Of_scenario Races scenario) before after =
-    (WroteNothing before after → IsOkAnd (loaded scenario) IsRaceFree) × (WroteNothing before after → IsOkAnd (loaded scenario) IsOrderFree)
-    × MeansWithout (codes "race ") IsRaceFree scenario before after × MeansWithout (codes "order ") IsOrderFree scenario before after
+    MeansWithout (codes "race ") IsRaceFree scenario before after × MeansWithout (codes "input ") IsInputFree scenario before after
+    × MeansWithout (codes "signal ") IsSignalFree scenario before after × MeansWithout (codes "order ") IsOrderFree scenario before after
+    × (WroteNothing before after → IsOkAnd (loaded scenario) IsRaceFree) × (WroteNothing before after → IsOkAnd (loaded scenario) IsInputFree)
+    × (WroteNothing before after → IsOkAnd (loaded scenario) IsSignalFree) × (WroteNothing before after → IsOkAnd (loaded scenario) IsOrderFree)
 IsUpheldBy (Of_scenario (Outcomes (Some n)) scenario) before after = WritesTurnsTo n scenario before after
 IsUpheldBy _ before after = Unit {0}
 

@@ -483,7 +483,7 @@ fn write_scenario<W: Write>(
         ScenarioCommand::Check => check(alloc, scenario, out),
         ScenarioCommand::Tree => tree(alloc, scenario, out),
         ScenarioCommand::Graph => graph(alloc, scenario, out),
-        ScenarioCommand::Turns(seed) => turns(alloc, scenario, seed, out),
+        ScenarioCommand::Turns(seed, rounds) => turns(alloc, scenario, seed, rounds, out),
         ScenarioCommand::Races => races(alloc, scenario, out),
         ScenarioCommand::Outcomes(None) => outcomes(alloc, scenario, out),
         ScenarioCommand::Outcomes(Some(number)) => outcome_turns(alloc, scenario, number, out),

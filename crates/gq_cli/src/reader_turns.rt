@@ -31,6 +31,7 @@ pub(crate) fn run_loaded<T: Read, W: Write>(
 ) -> Result<(), CommandFault>
     requires start { world.old.world ≡ start (system world.old.scenario) }
     requires running { world.old.stopped ≡ false }
+    requires signals { world.old.signals ≡ 0 }
     ensures ended { IsKnown result → ReadsText (T.remaining turns.old) (T.remaining turns.new) (λ text.
         EndsAs world.old.scenario text result (written_to W.contents out.old) (written_to W.contents out.new)) }
     ensures leaves { LeavesWriter out.old out.new result }

@@ -37,6 +37,10 @@ switch_rule name = record (new_rule name) { long = Some name; action = Some SetT
 abbrev pub number_rule : Text → Rule
 number_rule name = record (new_rule name) { long = Some name; value_names = 1; parser = Some (Unsigned 0 4294967295) }
 
+-- an option with a number of rounds, as `--signals 5`
+abbrev pub rounds_rule : Text → Rule
+rounds_rule name = record (new_rule name) { long = Some name; value_names = 1; parser = Some (Unsigned 1 100000) }
+
 -- a command of this name with a word: `NAME SCENARIO`
 abbrev pub of_scenario : Text → App
 of_scenario name = with_rule (new_app name) (word_rule (codes "SCENARIO"))
@@ -68,7 +72,7 @@ commands =
     ∷ of_scenario (codes "size")
     ∷ with_rule (of_scenario (codes "fit")) (switch_rule (codes "donations"))
     ∷ of_leaf (codes "why")
-    ∷ with_rule (of_scenario (codes "turns")) (number_rule (codes "seed"))
+    ∷ with_rule (with_rule (of_scenario (codes "turns")) (number_rule (codes "seed"))) (rounds_rule (codes "signals"))
     ∷ of_scenario (codes "races")
     ∷ with_rule (of_scenario (codes "outcomes")) (number_rule (codes "turns"))
     ∷ with_rule (of_turns (codes "trace")) (switch_rule (codes "all"))
@@ -116,11 +120,16 @@ abbrev pub number_given : Option Text → Option (Option ℕ)
 number_given None = Some None
 number_given (Some text) = option_map Some (number_of text)
 
+-- turns with a seed, if there is one, and with so many rounds of signals
+abbrev pub turns_by : Option (Option ℕ) → Option (Option ℕ) → Option ScenarioCommand
+turns_by (Some seed) rounds = option_map (Turns seed) rounds
+turns_by None rounds = None
+
 abbrev pub scenario_command : Text → List Row → Option ScenarioCommand
 scenario_command name rows =
     if bytes_eq name (codes "check") then Some Check
     else if bytes_eq name (codes "tree") then Some (if is_given (codes "dot") rows then Graph else Tree)
-    else if bytes_eq name (codes "turns") then option_map Turns (number_given (first_of (codes "seed") rows))
+    else if bytes_eq name (codes "turns") then turns_by (number_given (first_of (codes "seed") rows)) (number_given (first_of (codes "signals") rows))
     else if bytes_eq name (codes "races") then Some Races
     else if bytes_eq name (codes "outcomes") then option_map Outcomes (number_given (first_of (codes "turns") rows))
     else if bytes_eq name (codes "size") then Some Size

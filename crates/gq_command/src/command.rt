@@ -16,8 +16,9 @@ pub enum ScenarioCommand {
     Tree,
     /// To write its nodes as a graph for Graphviz.
     Graph,
-    /// To write a list of turns that brings all work to rest: in rounds, or by chance from this seed.
-    Turns(Option<u32>),
+    /// To write a list of turns that brings all work to rest: in rounds, or by chance from this seed. Then to submit all signals so many times, from 1 to
+    /// 100,000, and bring all work to rest after each time.
+    Turns(Option<u32>, Option<u32>),
     /// To write the statements by which the outcome could depend on the turns.
     Races,
     /// To write all outcomes, or the turns that lead to the one of this number.

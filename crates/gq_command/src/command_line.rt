@@ -115,7 +115,10 @@ fn scenario_command(name: &str, found: &ArgMatches<'_>) -> Option<ScenarioComman
         "check" => Some(ScenarioCommand::Check),
         "tree" if is_given(found, "dot") => Some(ScenarioCommand::Graph),
         "tree" => Some(ScenarioCommand::Tree),
-        "turns" => Some(ScenarioCommand::Turns(number_given(found, "seed")?)),
+        "turns" => {
+            let seed = number_given(found, "seed")?;
+            Some(ScenarioCommand::Turns(seed, number_given(found, "signals")?))
+        }
         "races" => Some(ScenarioCommand::Races),
         "outcomes" => Some(ScenarioCommand::Outcomes(number_given(found, "turns")?)),
         "size" => Some(ScenarioCommand::Size),

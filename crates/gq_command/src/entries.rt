@@ -16,6 +16,7 @@ pub(crate) struct CommandEntry<'a> {
     name: &'a str,
     takes: Takes,
     flag: Option<Flag<'a>>,
+    also: Option<Flag<'a>>,
     about: &'a str,
     usage: &'a str,
 }
@@ -50,12 +51,15 @@ pub(crate) enum FlagKind {
     Switch,
     // A number from 0 to 4294967295.
     Number,
+    // A number from 1 to 100000.
+    Rounds,
 }
 
 const CHECK: CommandEntry<'static> = CommandEntry {
     name: "check",
     takes: Takes::Scenario,
     flag: None,
+    also: None,
     about: "Print what each leaf of the scenario in the file SCENARIO uses at most, whatever the turns",
     usage: "trade check <SCENARIO>",
 };
@@ -64,6 +68,7 @@ const RUN: CommandEntry<'static> = CommandEntry {
     name: "run",
     takes: Takes::Turns,
     flag: None,
+    also: None,
     about: "Run the scenario in the file SCENARIO over the turns in the file TURNS",
     usage: "trade run <SCENARIO> <TURNS>",
 };
@@ -72,6 +77,7 @@ const ASM: CommandEntry<'static> = CommandEntry {
     name: "asm",
     takes: Takes::Leaf,
     flag: None,
+    also: None,
     about: "Print the code of the leaf LEAF of the scenario in the file SCENARIO, in hexadecimal",
     usage: "trade asm <SCENARIO> <LEAF>",
 };
@@ -84,6 +90,7 @@ const LIST: CommandEntry<'static> = CommandEntry {
         kind: FlagKind::Switch,
         help: "Print the number of each statement before it",
     }),
+    also: None,
     about: "Print the program of the leaf LEAF of the scenario in the file SCENARIO, as text",
     usage: "trade list [--numbers] <SCENARIO> <LEAF>",
 };
@@ -96,6 +103,7 @@ const TREE: CommandEntry<'static> = CommandEntry {
         kind: FlagKind::Switch,
         help: "Print a graph for Graphviz in its place",
     }),
+    also: None,
     about: "Print the components of the scenario in the file SCENARIO as a tree",
     usage: "trade tree [--dot] <SCENARIO>",
 };
@@ -108,14 +116,20 @@ const TURNS: CommandEntry<'static> = CommandEntry {
         kind: FlagKind::Number,
         help: "Choose the components by chance: the same N gives the same turns",
     }),
+    also: Some(Flag {
+        name: "signals",
+        kind: FlagKind::Rounds,
+        help: "Then submit each signal N times, and bring all work to rest after each",
+    }),
     about: "Print turns that bring all work of the scenario in the file SCENARIO to rest",
-    usage: "trade turns [--seed <N>] <SCENARIO>",
+    usage: "trade turns [--seed <N>] [--signals <N>] <SCENARIO>",
 };
 
 const RACES: CommandEntry<'static> = CommandEntry {
     name: "races",
     takes: Takes::Scenario,
     flag: None,
+    also: None,
     about: "Print the statements by which the outcome of the file SCENARIO could depend on the turns",
     usage: "trade races <SCENARIO>",
 };
@@ -128,6 +142,7 @@ const OUTCOMES: CommandEntry<'static> = CommandEntry {
         kind: FlagKind::Number,
         help: "Print the turns that lead to outcome N in their place",
     }),
+    also: None,
     about: "Print all ways in which a run of the scenario in the file SCENARIO can end",
     usage: "trade outcomes [--turns <N>] <SCENARIO>",
 };
@@ -140,6 +155,7 @@ const TRACE: CommandEntry<'static> = CommandEntry {
         kind: FlagKind::Switch,
         help: "Print steps on registers and bytes, too",
     }),
+    also: None,
     about: "Print what each turn of a run did: lines, accounts and sessions that changed",
     usage: "trade trace [--all] <SCENARIO> <TURNS>",
 };
@@ -152,6 +168,7 @@ const STATE: CommandEntry<'static> = CommandEntry {
         kind: FlagKind::Number,
         help: "Print it after the first N turns",
     }),
+    also: None,
     about: "Print what each account is made of after the last turn of a run",
     usage: "trade state [--at <N>] <SCENARIO> <TURNS>",
 };
@@ -160,6 +177,7 @@ const PEAKS: CommandEntry<'static> = CommandEntry {
     name: "peaks",
     takes: Takes::Turns,
     flag: None,
+    also: None,
     about: "Print the greatest use of each account over a run, and after which turn it is first so",
     usage: "trade peaks <SCENARIO> <TURNS>",
 };
@@ -168,6 +186,7 @@ const SIZE: CommandEntry<'static> = CommandEntry {
     name: "size",
     takes: Takes::Scenario,
     flag: None,
+    also: None,
     about: "Print the least quantities under which the scenario in the file SCENARIO is accepted",
     usage: "trade size <SCENARIO>",
 };
@@ -180,6 +199,7 @@ const FIT: CommandEntry<'static> = CommandEntry {
         kind: FlagKind::Switch,
         help: "Fit what programs give for sessions, too",
     }),
+    also: None,
     about: "Print the file SCENARIO with its least quantities in place of its own",
     usage: "trade fit [--donations] <SCENARIO>",
 };
@@ -188,6 +208,7 @@ const WHY: CommandEntry<'static> = CommandEntry {
     name: "why",
     takes: Takes::Leaf,
     flag: None,
+    also: None,
     about: "Print what the numbers of the leaf LEAF of the scenario in the file SCENARIO are made of",
     usage: "trade why <SCENARIO> <LEAF>",
 };
@@ -196,6 +217,7 @@ const FAULTS: CommandEntry<'static> = CommandEntry {
     name: "faults",
     takes: Takes::MaybeTurns,
     flag: None,
+    also: None,
     about: "Print all that is wrong with the scenario in the file SCENARIO, or with the turns in the file TURNS, each with its place",
     usage: "trade faults <SCENARIO> [TURNS]",
 };
@@ -204,6 +226,7 @@ const RULE: CommandEntry<'static> = CommandEntry {
     name: "rule",
     takes: Takes::Code,
     flag: None,
+    also: None,
     about: "Print what the code of a fault means, as V12, and what to do; or a line for each code",
     usage: "trade rule [CODE]",
 };
@@ -300,7 +323,20 @@ fn command_of<'a>(alloc: Global, entry: &CommandEntry<'a>) -> Result<Command<'a>
 {
     let command = with_words(alloc, entry.name, entry.takes)?;
     let command = command.about(entry.about).override_usage(entry.usage);
-    match entry.flag {
+    let command = with_option(alloc, command, entry.flag)?;
+    with_option(alloc, command, entry.also)
+}
+
+// A command with an option, where it has one.
+fn with_option<'a>(
+    alloc: Global,
+    command: Command<'a>,
+    flag: Option<Flag<'a>>,
+) -> Result<Command<'a>, AllocError>
+    requires { (out-Command command).has_globals ≡ false }
+    ensures { IfOk result (λ new. IsParserOf (optional flag.entry (app_of command.entry)) new) }
+{
+    match flag {
         Some(flag) => command.arg(option(alloc, flag)),
         None => Ok(command),
     }
@@ -367,5 +403,8 @@ fn option(alloc: Global, flag: Flag<'_>) -> Arg<'_>
         FlagKind::Number => option
             .value_name("N")
             .value_parser(ValueParser::Unsigned(0, 4294967295)),
+        FlagKind::Rounds => option
+            .value_name("N")
+            .value_parser(ValueParser::Unsigned(1, 100000)),
     }
 }

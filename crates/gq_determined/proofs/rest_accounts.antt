@@ -5,6 +5,7 @@
 pub mod Merged_thread_worlds
 pub mod Thread_step_counts
 pub mod Node_accounts_equal
+pub mod Step_budgets_same
 -- no peak is below what own slots have in use
 pub mod Own_peak_bounds
 pub mod Own_peaks_kept

@@ -1,4 +1,4 @@
--- What is the same in all runs of a scenario, whatever the turns and the inputs.
+-- What is the same in all runs of a scenario, whatever the turns, the inputs and the signals.
 use Rattle.std.specs.Prelude.{◌≡◌, ◌⊎◌, ℕ, ◌==◌, List, ◌++◌, Some, None, slice_get}
 use Rattle.gq_model.specs.machine.Scenario.{Scenario, Component, components, system}
 use Rattle.gq_model.specs.machine.Run.{Acts, run}
@@ -22,7 +22,7 @@ ProvidesNothing s x = (c : Component) × (slice_get (components s) x ≡ Some c)
 abbrev pub IsLeaf : Scenario → ℕ → Type 0
 IsLeaf s x = (c : Component) × (slice_get (components s) x ≡ Some c)
 
--- after these turns and settings all work is at rest
+-- after these turns, settings and signals all work is at rest
 abbrev pub ComesToRest : Scenario → Acts → Type 0
 ComesToRest s acts = AllRest (run (system s) acts).world
 

@@ -21,6 +21,7 @@ use Rattle.gq_model.specs.texts.Letters.{is_name}
 use Rattle.gq_scenario.specs.Document.{list_of, walk_fault}
 use Rattle.gq_scenario.specs.Table_keys.{items_of, is_list, required, optional, either, other, is_number, is_quantity, is_text, is_hex, is_name_text}
 use Rattle.gq_scenario.specs.Document_tables.{are_named_tables, is_named_tables, is_named_names, is_total, is_declared, is_inputs, greatest_caps}
+use Rattle.gq_scenario.specs.Document_tables.{greatest_signals}
 use Rattle.gq_reader.specs.internal.Walk.{own_fault}
 use Rattle.gq_reader.proofs.Table_rules_kept.{kept, fits_or_none}
 use Rattle.gq_reader.proofs.Faultless_table_facts.{absent}
@@ -131,62 +132,70 @@ leaf_rest three services =
     optional (codes "provides") (is_declared services) ∷ optional (codes "after") is_name_text
     ∷ cond three (optional (codes "inputs") is_inputs ∷ []) []
 
-abbrev leaf_keys_by : Bool → Bool → List (List ℕ) → List KeyRule
-leaf_keys_by two three services =
-    node_keys_by two (leaf_rest three services)
+abbrev leaf_keys_by : Bool → Bool → Bool → List (List ℕ) → List KeyRule
+leaf_keys_by two three four services =
+    node_keys_by two (leaf_rest three services) ++ cond four (optional (codes "signals") (is_number 0 greatest_signals) ∷ []) []
     ++ either (codes "program") (codes "code" ∷ []) is_text ∷ other (codes "code") (codes "program" ∷ []) is_hex ∷ []
 
-abbrev keys_by : Bool → Bool → Bool → List (List ℕ) → List KeyRule
-keys_by inner two three services = cond inner (node_keys_by two (init_rest three)) (leaf_keys_by two three services)
+abbrev keys_by : Bool → Bool → Bool → Bool → List (List ℕ) → List KeyRule
+keys_by inner two three four services = cond inner (node_keys_by two (init_rest three)) (leaf_keys_by two three four services)
 
 -- a leaf has no nodes, and no routes for some
-no_nodes : (two three : Bool) (services : List (List ℕ)) (entries : Members) → unknown_key (leaf_keys_by two three services) entries ≡ None
+no_nodes : (two three four : Bool) (services : List (List ℕ)) (entries : Members) → unknown_key (leaf_keys_by two three four services) entries ≡ None
     → (get_member (codes "start") entries ≡ None) × (get_member (codes "default-route") entries ≡ None)
-no_nodes true true services entries e =
-    let keys = leaf_keys_by true true services in (absent keys entries (codes "start") e refl, absent keys entries (codes "default-route") e refl)
-no_nodes true false services entries e =
-    let keys = leaf_keys_by true false services in (absent keys entries (codes "start") e refl, absent keys entries (codes "default-route") e refl)
-no_nodes false true services entries e =
-    let keys = leaf_keys_by false true services in (absent keys entries (codes "start") e refl, absent keys entries (codes "default-route") e refl)
-no_nodes false false services entries e =
-    let keys = leaf_keys_by false false services in (absent keys entries (codes "start") e refl, absent keys entries (codes "default-route") e refl)
+no_nodes true true true services entries e =
+    let keys = leaf_keys_by true true true services in (absent keys entries (codes "start") e refl, absent keys entries (codes "default-route") e refl)
+no_nodes true true false services entries e =
+    let keys = leaf_keys_by true true false services in (absent keys entries (codes "start") e refl, absent keys entries (codes "default-route") e refl)
+no_nodes true false true services entries e =
+    let keys = leaf_keys_by true false true services in (absent keys entries (codes "start") e refl, absent keys entries (codes "default-route") e refl)
+no_nodes true false false services entries e =
+    let keys = leaf_keys_by true false false services in (absent keys entries (codes "start") e refl, absent keys entries (codes "default-route") e refl)
+no_nodes false true true services entries e =
+    let keys = leaf_keys_by false true true services in (absent keys entries (codes "start") e refl, absent keys entries (codes "default-route") e refl)
+no_nodes false true false services entries e =
+    let keys = leaf_keys_by false true false services in (absent keys entries (codes "start") e refl, absent keys entries (codes "default-route") e refl)
+no_nodes false false true services entries e =
+    let keys = leaf_keys_by false false true services in (absent keys entries (codes "start") e refl, absent keys entries (codes "default-route") e refl)
+no_nodes false false false services entries e =
+    let keys = leaf_keys_by false false false services in (absent keys entries (codes "start") e refl, absent keys entries (codes "default-route") e refl)
 
-leaf_lists : (two three : Bool) (services : List (List ℕ)) (entries : Members) → HasTables entries (codes "route")
-    → unknown_key (leaf_keys_by two three services) entries ≡ None → HasLists entries
-leaf_lists two three services entries routes e =
-    let none = no_nodes two three services entries e in
+leaf_lists : (two three four : Bool) (services : List (List ℕ)) (entries : Members) → HasTables entries (codes "route")
+    → unknown_key (leaf_keys_by two three four services) entries ≡ None → HasLists entries
+leaf_lists two three four services entries routes e =
+    let none = no_nodes two three four services entries e in
     record {
       routes = routes;
       start = tables_none entries (codes "start") none.0;
       default_routes = tables_none entries (codes "default-route") none.1;
     }
 
-lists_by : (inner two three : Bool) (services : List (List ℕ)) (entries : Members) → table_fault (keys_by inner two three services) entries ≡ None
-    → HasLists entries
-lists_by true true three services entries e =
+lists_by : (inner two three four : Bool) (services : List (List ℕ)) (entries : Members)
+    → table_fault (keys_by inner two three four services) entries ≡ None → HasLists entries
+lists_by true true three four services entries e =
     let (known, k) = kept (node_keys_by true (init_rest three)) entries e in
     record {
       routes = tables_at entries (codes "route") k.1.1.1.0.fits;
       start = tables_at entries (codes "start") k.1.1.1.1.0.fits;
       default_routes = tables_at entries (codes "default-route") k.1.1.1.1.1.0.fits;
     }
-lists_by true false three services entries e =
+lists_by true false three four services entries e =
     let (known, k) = kept (node_keys_by false (init_rest three)) entries e in
     record {
       routes = tables_at entries (codes "route") k.1.1.0.fits;
       start = tables_at entries (codes "start") k.1.1.1.0.fits;
       default_routes = tables_at entries (codes "default-route") k.1.1.1.1.0.fits;
     }
-lists_by false true three services entries e =
-    let (known, k) = kept (leaf_keys_by true three services) entries e in
-    leaf_lists true three services entries (tables_at entries (codes "route") k.1.1.1.0.fits) known
-lists_by false false three services entries e =
-    let (known, k) = kept (leaf_keys_by false three services) entries e in
-    leaf_lists false three services entries (tables_at entries (codes "route") k.1.1.0.fits) known
+lists_by false true three four services entries e =
+    let (known, k) = kept (leaf_keys_by true three four services) entries e in
+    leaf_lists true three four services entries (tables_at entries (codes "route") k.1.1.1.0.fits) known
+lists_by false false three four services entries e =
+    let (known, k) = kept (leaf_keys_by false three four services) entries e in
+    leaf_lists false three four services entries (tables_at entries (codes "route") k.1.1.0.fits) known
 
 pub lists_of : (version : ℕ) (services : List (List ℕ)) (entries : Members) → table_fault (keys_of_node version services entries) entries ≡ None
     → HasLists entries
-lists_of version services entries e = lists_by (is_init entries) (counts_caps version) (nat_le 3 version) services entries e
+lists_of version services entries e = lists_by (is_init entries) (counts_caps version) (nat_le 3 version) (nat_le 4 version) services entries e
 
 module _ (version : ℕ) (services : List (List ℕ)) where
   own_first : (entries : Members) → first (own_faults version services entries) ≡ own_fault version services entries
@@ -242,7 +251,7 @@ pub record HasParts (top : Members) : Type 0 where
 
 abbrev top_by : Bool → List KeyRule
 top_by two =
-    required (codes "version") (is_number 1 3) ∷ required (codes "ram") is_total
+    required (codes "version") (is_number 1 4) ∷ required (codes "ram") is_total
     ∷ cond two (required (codes "caps") (is_number 1 greatest_caps) ∷ []) []
     ++ optional (codes "default-route") (is_list is_table) ∷ optional (codes "interface") is_named_tables ∷ required (codes "start") (is_list is_table) ∷ []
 

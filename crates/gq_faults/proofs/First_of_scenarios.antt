@@ -7,12 +7,12 @@ use Rattle.gq_model.specs.machine.Lists.{or_first}
 use Rattle.gq_model.specs.machine.Routes.{route}
 use Rattle.gq_model.specs.machine.Scenario.{Scenario, Interfaces, Offers, Nodes, End, Leaf_node, Init_node, Component, System, components, system}
 use Rattle.gq_model.specs.rules.Accept.{Refusal, Over_own, Over_steps, Budget, bad_program, budgets, program_refusal, not_resolved, own_refusal, steps_refusal}
-use Rattle.gq_model.specs.rules.Accept.{refusal, Not_resolved}
+use Rattle.gq_model.specs.rules.Accept.{are_small, refusal, Not_resolved}
 use Rattle.gq_model.specs.rules.Resolve.{Unresolved, Bad_offer, Bad_after, Cycle, exceeds, first_exceeding, quanta_fault, is_offer, offers_fault}
 use Rattle.gq_model.specs.rules.Resolve.{first_bad_offer, offer_fault, is_bad_after, with_name, after_fault, unrouted, services_fault, routes_fault}
 use Rattle.gq_model.specs.rules.Resolve.{cycle_fault, unresolved}
 use Rattle.gq_model.specs.rules.Use.{services, reaches, subject}
-use Rattle.gq_model.specs.rules.Verdict.{program_fault, greatest_cost}
+use Rattle.gq_model.specs.rules.Verdict.{program_fault}
 use Rattle.gq_resolve.specs.Served.{once}
 use Rattle.gq_resolve.proofs.Each_once.{fault_once}
 use Rattle.gq_load.specs.Load.{Refused_for, source_fault, sources_fault, refused, scenario_fault}
@@ -136,8 +136,8 @@ first_of_steps : (cs : List Component) (bs : List Budget) → first (over_steps 
 first_of_steps [] bs = refl
 first_of_steps (c ∷ rest) [] = refl
 first_of_steps (c ∷ rest) (b ∷ others) =
-    first_when (not (nat_le b.steps greatest_cost)) (Over_steps c.node.name) (over_steps rest others) (steps_refusal rest others) (first_of_steps rest others)
-    ∙ flipped (nat_le b.steps greatest_cost) (Over_steps c.node.name) (steps_refusal rest others)
+    first_when (not (are_small b.steps)) (Over_steps c.node.name) (over_steps rest others) (steps_refusal rest others) (first_of_steps rest others)
+    ∙ flipped (are_small b.steps) (Over_steps c.node.name) (steps_refusal rest others)
 
 first_of_budgets : (cs : List Component) (bs : List Budget)
     → first (over_budgets cs bs) ≡ or_first (own_refusal Ram cs bs) (or_first (steps_refusal cs bs) (own_refusal Caps cs bs))

@@ -5,11 +5,9 @@ use Rattle.std.specs.Prelude.{nat_le, not}
 use Rattle.std.proofs.lemmas.List.{drop_more, drop_all}
 use Rattle.gq_model.specs.machine.Amounts.{Resource, Ram, Caps, part}
 use Rattle.gq_model.specs.machine.Scenario.{Component, Scenario, System, components, system}
-use Rattle.gq_model.specs.rules.Accept.{Refusal, Over_own, Over_steps, Budget, budget, budgets, budgets_from}
+use Rattle.gq_model.specs.rules.Accept.{Refusal, Over_own, Over_steps, Budget, are_small, budget, budgets, budgets_from}
 use Rattle.gq_model.specs.rules.Use.{step_budget}
-use Rattle.gq_model.specs.rules.Verdict.{greatest_cost}
 use Rattle.gq_model.specs.texts.Fault_texts.{refusal_text}
-use Rattle.gq_verify.specs.Saturated_numbers.{saturated}
 use Rattle.gq_load.specs.Load_faults.{Prints, load_fault_text}
 use Rattle.gq_load.specs.Load.{refused}
 use Rattle.gq_load.specs.Over_limits.{over_refusal}
@@ -39,7 +37,7 @@ module _ {C : Type 0} (t : Refusal → C) (cs : List Component) (bs : List Budge
       → map t (over_steps (drop i cs) (drop i bs)) ≡ map t (over_steps (c ∷ []) (b ∷ [])) ++ map t (over_steps (drop (i + 1) cs) (drop (i + 1) bs))
   steps_next c b h k at_c at_b =
       rw (drop_more cs i c h, ← at_c, drop_more bs i b k, ← at_b)
-      (map-append t (when (not (nat_le b.steps greatest_cost)) (Over_steps c.node.name)) (over_steps (drop (i + 1) cs) (drop (i + 1) bs))
+      (map-append t (when (not (are_small b.steps)) (Over_steps c.node.name)) (over_steps (drop (i + 1) cs) (drop (i + 1) bs))
       ∙ ap (λ l. map t l ++ map t (over_steps (drop (i + 1) cs) (drop (i + 1) bs))) (sym (append-nil _)))
 
   steps_end : length cs ≤ i → map t (over_steps (drop i cs) (drop i bs)) ≡ []
@@ -71,13 +69,13 @@ test_failed false x f h = ap (λ l. l ∷ []) (sym h)
 module _ (c : Component) (b : Budget) where
   pub none_over : (l : Limit) → over_refusal l (c ∷ []) (b ∷ []) ≡ None → map refusal_text (over_limit l (c ∷ []) (b ∷ [])) ≡ []
   none_over limits.Ram e = test_passed (nat_le (part Ram b.own) (part Ram c.node.quantum)) _ e
-  none_over limits.Steps e = test_passed (nat_le b.steps greatest_cost) _ e
+  none_over limits.Steps e = test_passed (are_small b.steps) _ e
   none_over limits.Caps e = test_passed (nat_le (part Caps b.own) (part Caps c.node.quantum)) _ e
 
   pub one_over : (l : Limit) (f : LoadFault) → Prints f (refused (over_refusal l (c ∷ []) (b ∷ [])))
       → map refusal_text (over_limit l (c ∷ []) (b ∷ [])) ≡ load_fault_text f ∷ []
   one_over limits.Ram f h = test_failed (nat_le (part Ram b.own) (part Ram c.node.quantum)) _ f h
-  one_over limits.Steps f h = test_failed (nat_le b.steps greatest_cost) _ f h
+  one_over limits.Steps f h = test_failed (are_small b.steps) _ f h
   one_over limits.Caps f h = test_failed (nat_le (part Caps b.own) (part Caps c.node.quantum)) _ f h
 
 -- BUDGETS AS FAR AS THEY ARE KEPT
@@ -97,17 +95,14 @@ same_test false false y e = refl
 same_test true false y e = absurd cc
 same_test false true y e = absurd cc
 
-one_same : (version : ℕ) (system : System) (x : ℕ) (c d : Component)
-    → nat_le (saturated (step_budget system x d)) greatest_cost ≡ nat_le (step_budget system x d) greatest_cost
-one_same version system x c d = same_test _ _ (Over_steps c.node.name) (steps_kept version system x (c ∷ []) (d ∷ []))
-
 steps_same : (version : ℕ) (system : System) (x : ℕ) (cs all : List Component)
     → over_steps cs (kept_from version system x all) ≡ over_steps cs (budgets_from version system x all)
 steps_same version system x [] all = refl
 steps_same version system x (c ∷ cs) [] = refl
 steps_same version system x (c ∷ cs) (d ∷ all) =
-    ap (λ b. when (not b) (Over_steps c.node.name) ++ over_steps cs (kept_from version system (suc x) all)) (one_same version system x c d)
-    ∙ ap (λ l. when (not (nat_le (step_budget system x d) greatest_cost)) (Over_steps c.node.name) ++ l) (steps_same version system (suc x) cs all)
+    ap (λ b. when (not b) (Over_steps c.node.name) ++ over_steps cs (kept_from version system (suc x) all))
+    (same_test _ _ (Over_steps c.node.name) (steps_kept version system x (c ∷ []) (d ∷ [])))
+    ∙ ap (λ l. when (not (are_small (step_budget system x d))) (Over_steps c.node.name) ++ l) (steps_same version system (suc x) cs all)
 
 kept_over : (version : ℕ) (system : System) (cs : List Component)
     → over_budgets cs (kept_from version system 0 cs) ≡ over_budgets cs (budgets_from version system 0 cs)

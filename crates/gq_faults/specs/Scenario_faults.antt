@@ -3,10 +3,10 @@ use Rattle.std.specs.Prelude.{ℕ, suc, nat_le, not, List, [], ◌∷◌, ◌++�
 use Rattle.gq_model.specs.machine.Amounts.{Resource, Ram, Caps, part}
 use Rattle.gq_model.specs.machine.Routes.{route}
 use Rattle.gq_model.specs.machine.Scenario.{Scenario, Interfaces, Offers, Nodes, End, Leaf_node, Init_node, Component, System, components, system}
-use Rattle.gq_model.specs.rules.Accept.{Refusal, Not_resolved, Over_own, Over_steps, Budget, bad_program, budgets}
+use Rattle.gq_model.specs.rules.Accept.{Refusal, Not_resolved, Over_own, Over_steps, Budget, are_small, bad_program, budgets}
 use Rattle.gq_model.specs.rules.Resolve.{Unresolved, Bad_offer, Bad_after, Cycle, exceeds, is_offer, is_bad_after, with_name, unrouted}
 use Rattle.gq_model.specs.rules.Use.{services, reaches, subject}
-use Rattle.gq_model.specs.rules.Verdict.{program_fault, greatest_cost}
+use Rattle.gq_model.specs.rules.Verdict.{program_fault}
 use Rattle.gq_resolve.specs.Served.{once}
 use Rattle.gq_load.specs.Load.{LoadRefusal, Refused_for, source_fault}
 use Rattle.gq_faults.specs.Found_lists.{listed_if, when, all_found, or_else}
@@ -80,9 +80,9 @@ over_own r (c ∷ rest) (b ∷ others) =
 over_own r [] others = []
 over_own r (c ∷ rest) [] = []
 
--- each leaf with a greater budget of steps than there is
+-- each leaf with a greater budget of steps than there is, for the start or for a signal
 abbrev pub over_steps : List Component → List Budget → List Refusal
-over_steps (c ∷ rest) (b ∷ others) = when (not (nat_le b.steps greatest_cost)) (Over_steps c.node.name) ++ over_steps rest others
+over_steps (c ∷ rest) (b ∷ others) = when (not (are_small b.steps)) (Over_steps c.node.name) ++ over_steps rest others
 over_steps [] others = []
 over_steps (c ∷ rest) [] = []
 

@@ -1,13 +1,14 @@
--- All faults of a text of turns and settings that are reported at once, and why a scenario and turns are refused.
+-- All faults of a text of turns, settings and signals that are reported at once, and why a scenario and turns are refused.
 use Rattle.std.specs.Prelude.{◌≡◌, ℕ, suc, ◌+◌, ◌^◌, nat_le, ◌==◌, if◌then◌else◌, Bool, true, false, List, [], ◌∷◌, ◌++◌, length, map}
 use Rattle.std.specs.Prelude.{Option, Some, None, option_map, Result, Ok, Err, codes, decimal}
-use Rattle.gq_model.specs.declared.act.Act.{Act}
+use Rattle.gq_model.specs.declared.act.TurnLine.{TurnLine}
 use Rattle.gq_model.specs.machine.Scenario.{Scenario}
 use Rattle.gq_model.specs.texts.Fault_texts.{turn_fault_word}
 use Rattle.gq_model.specs.texts.Letters.{pieces, lines}
-use Rattle.gq_model.specs.texts.Turns.{Given, Turned, says_nothing, turns_given, greatest_turns, turned}
+use Rattle.gq_model.specs.texts.Turns.{Given, line_turns, says_nothing, turned}
+use Rattle.gq_model.specs.machine.Rest.{greatest_turns}
 use Rattle.gq_model.specs.declared.fault.TurnFault.{TurnFault}
-use Rattle.gq_model.specs.declared.fault.TurnFault.TheVariants.{BadLine, NoSuchComponent, TooMany, NoInput, InputTooLarge}
+use Rattle.gq_model.specs.declared.fault.TurnFault.TheVariants.{BadLine, NoSuchComponent, TooMany, NoInput, InputTooLarge, NoSignal}
 use Rattle.gq_scenario.specs.Text_pieces.{lines_left}
 use Rattle.gq_init.specs.TurnLines.{given_in}
 use Rattle.gq_load.specs.Load.{LoadRefusal, fault_text, loaded}
@@ -32,7 +33,7 @@ too_many_at k before after = []
 abbrev pub past_line : Bool → Given → ℕ → Option ℕ → (Option ℕ → List (TurnFault × ℕ)) → List (TurnFault × ℕ)
 past_line true turn k before go = go before
 past_line false (Err fault) k before go = (fault, k) ∷ go before
-past_line false (Ok turn) k before go = let after = with_turns (turns_given turn.1) before in too_many_at k before after ++ go after
+past_line false (Ok turn) k before go = let after = with_turns (line_turns turn) before in too_many_at k before after ++ go after
 
 -- the faults of these lines, of which the first is the k-th, after so many turns
 abbrev pub line_faults : Scenario → ℕ → Option ℕ → List (List ℕ) → List (TurnFault × ℕ)
@@ -40,8 +41,8 @@ line_faults s k before [] = []
 line_faults s k before (line ∷ rest) =
     past_line (says_nothing line) (given_in s (pieces (λ c. c == 32) line)) k before (λ after. line_faults s (suc k) after rest)
 
--- each line of another form, each name that is no leaf's, each input that a leaf has not, each value that is too large, and the line at which there are too
--- many turns, each with its line; a text above 16 MiB has one fault
+-- each line of another form, each name that is no leaf's, each input or signal that a leaf has not, each value that is too large, and the line at which there
+-- are too many turns, each with its line; a text above 16 MiB has one fault
 abbrev pub turn_faults : Scenario → List ℕ → List (TurnFault × ℕ)
 turn_faults s text = if nat_le (length text) (2 ^ 24) then line_faults s 1 (Some 0) (lines text) else (TooMany, 0) ∷ []
 
@@ -50,7 +51,7 @@ abbrev pub turn_fault_line : TurnFault × ℕ → List ℕ
 turn_fault_line fault = turn_fault_word fault.0 ++ codes " line " ++ decimal fault.1
 
 -- the fault for which turns are refused
-abbrev pub fault_of_turns : Turned → Option (TurnFault × ℕ)
+abbrev pub fault_of_turns : {A : Type 0} → Result A (TurnFault × ℕ) → Option (TurnFault × ℕ)
 fault_of_turns (Ok turns) = None
 fault_of_turns (Err fault) = Some fault
 
@@ -89,23 +90,25 @@ Answers answer (Ok s) turns = AnswersTurns answer (fault_of_turns (turned s turn
 -- WALKS
 
 -- the fault that is reported of a line that says this after so many turns
-abbrev pub reported_fault : Result (Option (ℕ × Act)) TurnFault → Option ℕ → Option TurnFault
+abbrev pub reported_fault : Result (Option TurnLine) TurnFault → Option ℕ → Option TurnFault
 reported_fault (Ok turn) before = None
 reported_fault (Err TooMany) before = option_map (λ n. TooMany) before
 reported_fault (Err BadLine) before = Some BadLine
 reported_fault (Err NoSuchComponent) before = Some NoSuchComponent
 reported_fault (Err NoInput) before = Some NoInput
 reported_fault (Err InputTooLarge) before = Some InputTooLarge
+reported_fault (Err NoSignal) before = Some NoSignal
 
 -- how many turns there are after it
-abbrev pub turns_after : Result (Option (ℕ × Act)) TurnFault → Option ℕ → Option ℕ
+abbrev pub turns_after : Result (Option TurnLine) TurnFault → Option ℕ → Option ℕ
 turns_after (Ok None) before = before
-turns_after (Ok (Some turn)) before = option_map (λ n. n + turns_given turn.1) before
+turns_after (Ok (Some turn)) before = option_map (λ n. n + line_turns turn) before
 turns_after (Err TooMany) before = None
 turns_after (Err BadLine) before = before
 turns_after (Err NoSuchComponent) before = before
 turns_after (Err NoInput) before = before
 turns_after (Err InputTooLarge) before = before
+turns_after (Err NoSignal) before = before
 
 -- the faults of what is left after the k-th line
 abbrev pub faults_left : Scenario → ℕ → Option ℕ → Option (List ℕ) → List (TurnFault × ℕ)

@@ -17,6 +17,7 @@ use gq_load::budget::Budget;
 use gq_load::load_fault::LoadFault;
 use gq_load::over::{Limit, over_fault};
 use gq_load::surveys::Surveys;
+use gq_model::limits::GREATEST_STEPS;
 use gq_resolve::component::Component;
 use gq_resolve::resolve_fault::ResolveError;
 use gq_resolve::resolve_opened;
@@ -26,8 +27,26 @@ use gq_scenario::scenario::Scenario;
 use gq_toml_places::Step;
 use std::alloc::{AllocError, Global};
 
+// The first number of steps of a leaf that is too great: that for the start, or that for a signal of one of these leaves.
+fn too_many_steps(all: &[Component<'_>], budget: &Budget) -> Detail<'static> {
+    let steps = budget.steps();
+    if steps.from_start() > GREATEST_STEPS {
+        return Detail::Steps(steps.from_start());
+    }
+    for (place, component) in all.iter().enumerate() {
+        let leaf = component.leaf();
+        for signal in 0..leaf.signals() {
+            let number = steps.for_signal(place, signal);
+            if number > GREATEST_STEPS {
+                return Detail::SignalSteps(leaf.name().copied(), signal, number);
+            }
+        }
+    }
+    Detail::Steps(steps.from_start())
+}
+
 // The key at which a leaf that uses too much is wrong, and what was compared.
-fn compared(fault: &LoadFault, budget: &Budget) -> (Key, Detail<'static>) {
+fn compared(fault: &LoadFault, all: &[Component<'_>], budget: &Budget) -> (Key, Detail<'static>) {
     match fault {
         LoadFault::OverQuantum { own, quantum, .. } => {
             let (own, quantum) = (*own, *quantum);
@@ -37,7 +56,7 @@ fn compared(fault: &LoadFault, budget: &Budget) -> (Key, Detail<'static>) {
             let (own, caps) = (*own, *caps);
             (Key::Caps, Detail::OwnCaps { own, caps })
         }
-        _ => (Key::Name, Detail::Steps(budget.steps())),
+        _ => (Key::Name, too_many_steps(all, budget)),
     }
 }
 
@@ -46,6 +65,7 @@ fn push_over(
     alloc: Global,
     found: &mut Vec<FoundFault<'_>>,
     limit: Limit,
+    all: &[Component<'_>],
     component: &Component<'_>,
     budget: &Budget,
     leaves: &[Vec<Step<'static>>],
@@ -57,7 +77,7 @@ fn push_over(
     let Some(fault) = over_fault(limit, component, budget) else {
         return Ok(());
     };
-    let (key, detail) = compared(&fault, budget);
+    let (key, detail) = compared(&fault, all, budget);
     let way = way_to(alloc, leaves, place, key)?;
     push_fault(alloc, found, &fault, way, FaultPart::Key, detail)
 }
@@ -77,7 +97,9 @@ fn push_all_over(
 {
     for (place, component) in components.iter().enumerate() {
         let budget = &budgets[place];
-        push_over(alloc, found, limit, component, budget, leaves, place)?;
+        push_over(
+            alloc, found, limit, components, component, budget, leaves, place,
+        )?;
     }
     Ok(())
 }

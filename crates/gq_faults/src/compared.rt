@@ -37,7 +37,10 @@ pub fn compared(
     fault: &BrokenRule,
 ) -> Result<Compared, AllocError> {
     match fault.rule {
-        Rule::MissingSection => Ok(Compared::Section(fault.section, !subject.has(fault.section))),
+        Rule::MissingSection => {
+            let is_missing = !subject.has(fault.section);
+            Ok(Compared::Section(fault.section, is_missing, subject.signals()))
+        }
         Rule::BudgetTooLarge => Ok(cost_of(subject, fault.section)),
         _ => in_section(alloc, subject, fault),
     }

@@ -41,6 +41,9 @@ pub fn push_detail(reported: &mut Details, detail: &Detail<'_>) -> Result<(), Al
         Detail::Own { own, quantum } => uses(reported, *own, "quantum", *quantum),
         Detail::OwnCaps { own, caps } => uses(reported, *own, "caps", *caps),
         Detail::Steps(steps) => too_many_steps(reported, *steps),
+        Detail::SignalSteps(leaf, signal, steps) => {
+            too_many_for_signal(reported, leaf, *signal, *steps)
+        }
     }
 }
 
@@ -77,13 +80,33 @@ fn at_most(reported: &mut Details, most: u64) -> Result<(), AllocError> {
     reported.end()
 }
 
-// How many steps there are, of which the greatest number that is reported stands for itself and for more.
-fn too_many_steps(reported: &mut Details, steps: u64) -> Result<(), AllocError> {
+// So many steps, of which the greatest number that is reported stands for itself and for more.
+fn push_steps(reported: &mut Details, steps: u64) -> Result<(), AllocError> {
     if steps == u64::MAX {
-        reported.text("2^64 - 1 steps or more")?;
+        reported.text("2^64 - 1 steps or more")
     } else {
-        reported.count(steps, "step", "steps")?;
+        reported.count(steps, "step", "steps")
     }
+}
+
+// How many steps there are.
+fn too_many_steps(reported: &mut Details, steps: u64) -> Result<(), AllocError> {
+    push_steps(reported, steps)?;
+    at_most(reported, GREATEST_STEPS)
+}
+
+// How many steps there are for a signal of a leaf.
+fn too_many_for_signal(
+    reported: &mut Details,
+    leaf: &Name,
+    signal: u8,
+    steps: u64,
+) -> Result<(), AllocError> {
+    push_steps(reported, steps)?;
+    reported.text(" for signal ")?;
+    reported.number(u64::from(signal))?;
+    reported.text(" of ")?;
+    reported.name(leaf)?;
     at_most(reported, GREATEST_STEPS)
 }
 
@@ -210,7 +233,9 @@ fn push_compared(reported: &mut Details, compared: &Compared) -> Result<(), Allo
             given_for(reported, service, *level, *given, *needed)
         }
         Compared::Session(cost) => session(reported, cost),
-        Compared::Section(section, is_missing) => sections(reported, *section, *is_missing),
+        Compared::Section(section, is_missing, signals) => {
+            sections(reported, *section, *is_missing, *signals)
+        }
         Compared::Cost(cost) => too_many_steps(reported, *cost),
         Compared::Input(input, inputs) => other_input(reported, *input, inputs.as_slice()),
     }
@@ -276,6 +301,11 @@ fn slot(
     held(reported, place, kind)?;
     reported.text(", and needed is ")?;
     reported.text(needed_word(needed))?;
+    if let Needed::There(section) = needed {
+        reported.text(": ")?;
+        push_section(reported, section)?;
+        reported.text(" has no session")?;
+    }
     reported.end()
 }
 
@@ -431,15 +461,42 @@ fn item(reported: &mut Details, slot: u8, kind: &Kind, price: u64) -> Result<(),
     reported.end()
 }
 
-// A section that is missing, or one too many.
-fn sections(reported: &mut Details, section: Section, is_missing: bool) -> Result<(), AllocError> {
+// A section by its heading.
+fn push_section(reported: &mut Details, section: Section) -> Result<(), AllocError> {
     let section = format!(in reported.alloc(); "{section}")?;
-    reported.text(section.as_str())?;
+    reported.text(section.as_str())
+}
+
+/// How many signals a leaf has.
+pub(crate) fn push_signals(reported: &mut Details, signals: u8) -> Result<(), AllocError> {
+    if signals == 0 {
+        return reported.text("the leaf has no signals");
+    }
+    reported.text("the leaf has ")?;
+    reported.count(u64::from(signals), "signal", "signals")
+}
+
+// A section that is missing, or one too many. Those for signals depend on how many signals the leaf has, and those of sessions on what it provides.
+fn sections(
+    reported: &mut Details,
+    section: Section,
+    is_missing: bool,
+    signals: u8,
+) -> Result<(), AllocError> {
+    push_section(reported, section)?;
     reported.text(if is_missing {
         " is missing"
     } else {
-        " is one too many: what the leaf provides has no such section"
+        " is one too many"
     })?;
+    match (section, is_missing) {
+        (Section::Reacting(_), _) => {
+            reported.text(": ")?;
+            push_signals(reported, signals)?;
+        }
+        (_, false) => reported.text(": what the leaf provides has no such section")?,
+        _ => (),
+    }
     reported.end()
 }
 
@@ -448,6 +505,7 @@ fn after(reported: &mut Details, cause: &BadAfter) -> Result<(), AllocError> {
     match cause {
         BadAfter::NoLeaf(name, near) => no_leaf(reported, name, near.as_slice()),
         BadAfter::Provides(name) => provides(reported, name),
+        BadAfter::Signals(name, signals) => never_ends(reported, name, *signals),
         BadAfter::Taken { earlier, named } => taken(reported, earlier, named),
         BadAfter::Quantum { own, named } => exceeds(reported, "quantum", *own, *named),
         BadAfter::Caps { own, named } => exceeds(
@@ -473,6 +531,14 @@ fn provides(reported: &mut Details, name: &Name) -> Result<(), AllocError> {
     reported.name(name)?;
     reported.text(" provides a service")?;
     reported.end()
+}
+
+// A leaf that handles signals, and so never ends.
+fn never_ends(reported: &mut Details, name: &Name, signals: u8) -> Result<(), AllocError> {
+    reported.name(name)?;
+    reported.text(" has ")?;
+    reported.count(u64::from(signals), "signal", "signals")?;
+    reported.line(", so it never ends")
 }
 
 // A leaf that starts after the same one.

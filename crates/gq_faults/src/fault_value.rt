@@ -110,8 +110,10 @@ pub enum Detail<'d> {
         own: u64,
         caps: u64,
     },
-    /// How many steps a leaf may take.
+    /// How many steps a leaf may take for the start.
     Steps(u64),
+    /// How many it may take for a signal of this number of the leaf of this name.
+    SignalSteps(Name, u8, u64),
 }
 
 /// What is wrong on a line of a program's text.
@@ -125,6 +127,8 @@ pub enum Mistake {
         is_inside: bool,
         /// Whether a line that stands not there, but outside or in a section, may begin with it.
         is_elsewhere: bool,
+        /// Whether the leaf has signals, so that sections for them may stand there.
+        has_signals: bool,
         /// The words like it with which a line may begin there.
         near: Vec<Name>,
     },
@@ -188,8 +192,8 @@ pub enum Compared {
     Donation(Name, u8, u32, u32),
     /// What the current session costs, with its parts, and what is given for it.
     Session(SessionCost),
-    /// A section that is missing, or one too many.
-    Section(Section, bool),
+    /// A section that is missing, or one too many, of a leaf with so many signals.
+    Section(Section, bool, u8),
     /// How many steps a section takes.
     Cost(u64),
     /// An input of this number, which the leaf has not, and the greatest values of those that it has.
@@ -199,9 +203,11 @@ pub enum Compared {
 /// What a statement needs in a slot.
 #[derive(Clone, Copy, Debug, PartialEq, Eq)]
 pub enum Needed {
-    /// A slot that is there.
-    There,
+    /// A slot that is there in this section.
+    There(Section),
     Empty,
+    /// The same at the end of a leaf that serves nobody and has no signals.
+    EmptyAtEnd,
     /// What can be freed.
     Memory,
     /// What has bytes.
@@ -251,6 +257,8 @@ pub enum BadAfter {
     NoLeaf(Name, Vec<Name>),
     /// This leaf provides a service.
     Provides(Name),
+    /// This leaf has so many signals.
+    Signals(Name, u8),
     /// An earlier leaf starts after the same one.
     Taken { earlier: Name, named: Name },
     /// The named leaf has fewer bytes.

@@ -12,7 +12,9 @@ ghost use Rattle.gq_faults.specs.Scenario_faults.{sources_faults};
 ghost use Rattle.gq_faults.specs.Found_lines.{lines_found};
 
 use crate::compared::compared;
-use crate::fault_value::{Compared, Detail, FaultPart, FoundFault, Mistake, Pusher, push_fault};
+use crate::fault_value::{
+    Compared, Detail, FaultPart, FoundFault, Mistake, Needed, Pusher, push_fault,
+};
 use crate::leaf_tables::way_to;
 use crate::meant::near_interfaces;
 use crate::program_lines::{line_at, line_of, nth_word};
@@ -24,7 +26,7 @@ use gq_program::{Interfaces, Program, Section};
 use gq_resolve::component::Component;
 use gq_rules::Subject;
 use gq_scenario::key::Key;
-use gq_scenario::scenario::Leaf;
+use gq_scenario::scenario::{Leaf, Version};
 use gq_scenario::source::Source;
 use gq_toml_places::Step;
 use gq_verify::{BrokenRule, verify};
@@ -47,7 +49,7 @@ fn text_fault(
     match (leaf.source(), fault) {
         (Source::Text(text), LoadFault::Text { fault, line, .. }) => {
             let line = *line as usize;
-            let (at, mistake) = mistake_on(alloc, leaf.inputs(), text.as_slice(), *fault, line)?;
+            let (at, mistake) = mistake_on(alloc, leaf, text.as_slice(), *fault, line)?;
             Ok((FaultPart::Word(line, at), Detail::Text(mistake)))
         }
         _ => Ok((FaultPart::Key, Detail::Text(Mistake::Nothing))),
@@ -181,18 +183,27 @@ fn with_lines(
     Ok(placed)
 }
 
-// What a rule compared, with what the text of the program and the interfaces have to it; none where they have nothing.
+// Whether a leaf ends with a link, where one with signals would keep it.
+fn is_kept_by_signals(version: Version, fault: &BrokenRule) -> bool {
+    version.number() >= 4 && fault.rule == Rule::LinkLeftOpen
+}
+
+// What a rule compared, with what the text of the program, the version and the interfaces have to it; none where they have nothing.
 fn completed(
     alloc: Global,
+    version: Version,
     leaf: &Leaf,
     interfaces: &Interfaces,
-    section: Section,
+    fault: &BrokenRule,
     found: &Compared,
 ) -> Result<Option<Compared>, AllocError> {
     match found {
         Compared::Left(pushers) => {
-            let placed = with_lines(alloc, leaf, section, pushers.as_slice())?;
+            let placed = with_lines(alloc, leaf, fault.section, pushers.as_slice())?;
             Ok(Some(Compared::Left(placed)))
+        }
+        Compared::Slot(place, kind, _) if is_kept_by_signals(version, fault) => {
+            Ok(Some(Compared::Slot(*place, *kind, Needed::EmptyAtEnd)))
         }
         Compared::Unknown(service, _) => {
             let near = near_interfaces(alloc, interfaces, service.as_bytes())?;
@@ -205,6 +216,7 @@ fn completed(
 // What a rule compared.
 fn detail_of(
     alloc: Global,
+    version: Version,
     leaf: &Leaf,
     program: &Program,
     interfaces: &Interfaces,
@@ -214,9 +226,9 @@ fn detail_of(
         Some(service) => interfaces.named(service.as_bytes()),
         None => None,
     };
-    let subject = Subject::new(program, provided, interfaces, leaf.inputs());
+    let subject = Subject::new(program, provided, interfaces, leaf.inputs(), leaf.signals());
     let found = compared(alloc, &subject, fault)?;
-    match completed(alloc, leaf, interfaces, fault.section, &found)? {
+    match completed(alloc, version, leaf, interfaces, fault, &found)? {
         Some(more) => Ok(more),
         None => Ok(found),
     }
@@ -247,7 +259,13 @@ fn broken(
     ensures { option_map known_fault result ≡ program_fault (judged_by interfaces.now component.now) }
 {
     let leaf = component.leaf();
-    match verify(program, leaf.provides(), interfaces, leaf.inputs()) {
+    match verify(
+        program,
+        leaf.provides(),
+        interfaces,
+        leaf.inputs(),
+        leaf.signals(),
+    ) {
         Ok(_) => None,
         Err(fault) => Some(fault),
     }
@@ -257,6 +275,7 @@ fn broken(
 fn push_judged(
     alloc: Global,
     found: &mut Vec<FoundFault<'_>>,
+    version: Version,
     component: &Component<'_>,
     program: &Program,
     interfaces: &Interfaces,
@@ -269,7 +288,7 @@ fn push_judged(
     let leaf = component.leaf();
     match broken(component, program, interfaces) {
         Some(fault) => {
-            let detail = detail_of(alloc, leaf, program, interfaces, &fault)?;
+            let detail = detail_of(alloc, version, leaf, program, interfaces, &fault)?;
             let part = rule_part(leaf, &fault);
             let fault = LoadFault::Rule {
                 leaf: leaf.name().copied(),
@@ -287,6 +306,7 @@ fn push_judged(
 fn push_rule(
     alloc: Global,
     found: &mut Vec<FoundFault<'_>>,
+    version: Version,
     component: &Component<'_>,
     interfaces: &Interfaces,
     leaves: &[Vec<Step<'static>>],
@@ -299,13 +319,14 @@ fn push_rule(
     let leaf = component.leaf();
     let way = way_to(alloc, leaves, place, source_key(leaf))?;
     let program = read(alloc, leaf)?;
-    push_judged(alloc, found, component, &program, interfaces, way)
+    push_judged(alloc, found, version, component, &program, interfaces, way)
 }
 
 /// The rule that each program breaks first, where all texts and codes are programs.
 pub(crate) fn push_rules(
     alloc: Global,
     found: &mut Vec<FoundFault<'_>>,
+    version: Version,
     components: &[Component<'_>],
     interfaces: &Interfaces,
     leaves: &[Vec<Step<'static>>],
@@ -315,7 +336,7 @@ pub(crate) fn push_rules(
         ≡ lines_found found.old.items ++ map refusal_text (all_found (λ c. listed_if (leaf_refusal interfaces.now c)) components.now)) }
 {
     for (place, component) in components.iter().enumerate() {
-        push_rule(alloc, found, component, interfaces, leaves, place)?;
+        push_rule(alloc, found, version, component, interfaces, leaves, place)?;
     }
     Ok(())
 }

@@ -112,7 +112,14 @@ fn push_all<'s>(
     if !found.is_empty() {
         return Ok(());
     }
-    push_rules(alloc, found, components, scenario.interfaces(), leaves)?;
+    push_rules(
+        alloc,
+        found,
+        scenario.version(),
+        components,
+        scenario.interfaces(),
+        leaves,
+    )?;
     if !found.is_empty() {
         return Ok(());
     }

@@ -110,6 +110,9 @@ fn unfit(before: &Leaf, leaf: &Leaf) -> Option<BadAfter> {
     if before.provides().is_some() {
         return Some(BadAfter::Provides(before.name().copied()));
     }
+    if before.signals() > 0 {
+        return Some(BadAfter::Signals(before.name().copied(), before.signals()));
+    }
     None
 }
 

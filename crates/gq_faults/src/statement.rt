@@ -65,7 +65,8 @@ fn of_slot(
 ) -> Compared {
     match slot_of(instruction) {
         Some((place, Needed::Empty)) if rule == Rule::WrongKind => {
-            Compared::Slot(place, context.kind_at(state, place), Needed::There)
+            let needed = Needed::There(context.section());
+            Compared::Slot(place, context.kind_at(state, place), needed)
         }
         Some((place, needed)) => Compared::Slot(place, context.kind_at(state, place), needed),
         None => Compared::Nothing,

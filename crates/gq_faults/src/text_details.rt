@@ -14,6 +14,7 @@ pub(crate) fn push_mistake(reported: &mut Details, mistake: &Mistake) -> Result<
             word,
             is_inside,
             is_elsewhere,
+            has_signals,
             near,
         } => {
             unknown(
@@ -23,7 +24,7 @@ pub(crate) fn push_mistake(reported: &mut Details, mistake: &Mistake) -> Result<
                 *is_elsewhere,
                 near.as_slice(),
             )?;
-            begins(reported, *is_inside)?;
+            begins(reported, *is_inside, *has_signals)?;
             push_comment(reported, word.as_bytes())
         }
         Mistake::Surplus {
@@ -70,12 +71,16 @@ fn unknown(
     reported.end()
 }
 
-// With what a line begins.
-fn begins(reported: &mut Details, is_inside: bool) -> Result<(), AllocError> {
-    reported.line(if is_inside {
-        "a line in a section begins with a statement, if, loop, else or end"
-    } else {
-        "a line outside of sections begins with main, open, up, call, close or local"
+// With what a line begins, in the program of a leaf that has signals or none.
+fn begins(reported: &mut Details, is_inside: bool, has_signals: bool) -> Result<(), AllocError> {
+    reported.line(match (is_inside, has_signals) {
+        (true, _) => "a line in a section begins with a statement, if, loop, else or end",
+        (false, true) => {
+            "a line outside of sections begins with main, open, up, call, close, on or local"
+        }
+        (false, false) => {
+            "a line outside of sections begins with main, open, up, call, close or local"
+        }
     })
 }
 

@@ -9,6 +9,7 @@ use gq_model::program::{Name, WithNumber};
 use gq_model::section::SectionKind;
 use gq_program::shapes::SHAPES;
 use gq_program::{Shape, shape_of_word};
+use gq_scenario::scenario::Leaf;
 use gq_tariff::price::GREATEST_PLACE;
 use std::alloc::{AllocError, Global};
 
@@ -102,19 +103,19 @@ fn reported(alloc: Global, word: &[u8]) -> Result<String, AllocError> {
     String::from_str(alloc, str::from_utf8(word).unwrap_or("?"))
 }
 
-// Whether a statement may be meant in the program of a leaf with these inputs. One that reads an input is not, where there are none.
-fn is_meant(shape: Shape, inputs: &[u32]) -> bool {
+// Whether a statement may be meant in the program of a leaf. One that reads an input is not, where the leaf has none.
+fn is_meant(shape: Shape, leaf: &Leaf) -> bool {
     match shape {
-        Shape::Number(WithNumber::Input) => !inputs.is_empty(),
+        Shape::Number(WithNumber::Input) => !leaf.inputs().is_empty(),
         _ => true,
     }
 }
 
 // The words like one with which a line in a section may begin.
-fn near_statements(alloc: Global, inputs: &[u32], word: &[u8]) -> Result<Vec<Name>, AllocError> {
+fn near_statements(alloc: Global, leaf: &Leaf, word: &[u8]) -> Result<Vec<Name>, AllocError> {
     let mut nearest = Nearest::new(alloc);
     for shape in &SHAPES {
-        if is_meant(*shape, inputs) {
+        if is_meant(*shape, leaf) {
             nearest.compare(word, shape.word())?;
         }
     }
@@ -124,11 +125,21 @@ fn near_statements(alloc: Global, inputs: &[u32], word: &[u8]) -> Result<Vec<Nam
     Ok(nearest.names())
 }
 
+// Whether a heading may be meant in the program of a leaf. One of a section for a signal is not, where the leaf has no signals.
+fn is_heading_meant(kind: SectionKind, leaf: &Leaf) -> bool {
+    match kind {
+        SectionKind::Reacting => leaf.signals() > 0,
+        _ => true,
+    }
+}
+
 // The words like one with which a line outside of sections may begin.
-fn near_headings(alloc: Global, word: &[u8]) -> Result<Vec<Name>, AllocError> {
+fn near_headings(alloc: Global, leaf: &Leaf, word: &[u8]) -> Result<Vec<Name>, AllocError> {
     let mut nearest = Nearest::new(alloc);
     for kind in SectionKind::ALL {
-        nearest.compare(word, kind.word().as_bytes())?;
+        if is_heading_meant(kind, leaf) {
+            nearest.compare(word, kind.word().as_bytes())?;
+        }
     }
     nearest.compare(word, b"local")?;
     Ok(nearest.names())
@@ -137,22 +148,22 @@ fn near_headings(alloc: Global, word: &[u8]) -> Result<Vec<Name>, AllocError> {
 // The words like one with which a line may begin there; none for one with which a line elsewhere may.
 fn near_words(
     alloc: Global,
-    inputs: &[u32],
+    leaf: &Leaf,
     word: &[u8],
     is_inside: bool,
     is_elsewhere: bool,
 ) -> Result<Vec<Name>, AllocError> {
     match (is_elsewhere, is_inside) {
         (true, _) => Ok(Vec::new(alloc)),
-        (false, true) => near_statements(alloc, inputs, word),
-        (false, false) => near_headings(alloc, word),
+        (false, true) => near_statements(alloc, leaf, word),
+        (false, false) => near_headings(alloc, leaf, word),
     }
 }
 
 // A word with which no line begins there.
 fn unknown(
     alloc: Global,
-    inputs: &[u32],
+    leaf: &Leaf,
     word: &[u8],
     is_inside: bool,
 ) -> Result<Mistake, AllocError> {
@@ -161,7 +172,8 @@ fn unknown(
         word: reported(alloc, word)?,
         is_inside,
         is_elsewhere,
-        near: near_words(alloc, inputs, word, is_inside, is_elsewhere)?,
+        has_signals: leaf.signals() > 0,
+        near: near_words(alloc, leaf, word, is_inside, is_elsewhere)?,
     })
 }
 
@@ -257,7 +269,7 @@ fn first_bad(
 // What is wrong on a line with this first word.
 fn mistake_in(
     alloc: Global,
-    inputs: &[u32],
+    leaf: &Leaf,
     line: &[u8],
     is_inside: bool,
     first: LineWord<'_>,
@@ -265,7 +277,7 @@ fn mistake_in(
 ) -> Result<(usize, Mistake), AllocError> {
     match (operands_of(is_inside, first.text), fault) {
         (None, TextFault::UnknownWord) => {
-            Ok((first.at, unknown(alloc, inputs, first.text, is_inside)?))
+            Ok((first.at, unknown(alloc, leaf, first.text, is_inside)?))
         }
         (Some(operands), TextFault::UnknownWord) => surplus(alloc, line, first, &operands),
         (Some(operands), _) => first_bad(alloc, line, first, &operands, fault),
@@ -273,11 +285,11 @@ fn mistake_in(
     }
 }
 
-/// Returns what is wrong on a line of a program's text that has a fault, and the byte, from 0, with which the wrong word begins. Where a word is missing, that
-/// is the first one of the line. The leaf has inputs with these greatest values.
+/// Returns what is wrong on a line of the text of a leaf's program that has a fault, and the byte, from 0, with which the wrong word begins. Where a word is
+/// missing, that is the first one of the line.
 pub(crate) fn mistake_on(
     alloc: Global,
-    inputs: &[u32],
+    leaf: &Leaf,
     text: &[u8],
     fault: TextFault,
     number: usize,
@@ -286,7 +298,7 @@ pub(crate) fn mistake_on(
         return Ok((0, Mistake::Nothing));
     };
     match nth_word(line, 0) {
-        Some(first) => mistake_in(alloc, inputs, line, is_inside, first, fault),
+        Some(first) => mistake_in(alloc, leaf, line, is_inside, first, fault),
         None => Ok((0, Mistake::Nothing)),
     }
 }

@@ -1,6 +1,6 @@
-// The details of a line of turns or of a setting, and which of its words is wrong.
+// The details of a line of turns, of a setting or of a signal, and which of its words is wrong.
 // No contract: its results are places and details alone. Tests show them.
-use crate::details::push_inputs;
+use crate::details::{push_inputs, push_signals};
 use crate::fault_lines::push_line;
 use crate::meant::{Nearest, compare_leaves};
 use crate::program_lines::nth_word;
@@ -21,9 +21,12 @@ fn name_in(line: &[u8]) -> &[u8] {
     }
 }
 
-// The name of the leaf of a line: what stands before the first blank or dot.
+// The name of the leaf of a line: what stands before the first blank, dot or exclamation mark.
 fn leaf_in(line: &[u8]) -> &[u8] {
-    match line.iter().position(|byte| *byte == b' ' || *byte == b'.') {
+    match line
+        .iter()
+        .position(|byte| matches!(*byte, b' ' | b'.' | b'!'))
+    {
         Some(end) => line.get(..end).unwrap_or(line),
         None => line,
     }
@@ -61,6 +64,31 @@ fn is_meant_as_setting(line: &[u8]) -> bool {
     }
 }
 
+// Whether an exclamation mark stands behind the name of a line, so that it is meant as a signal.
+fn is_meant_as_signal(line: &[u8]) -> bool {
+    matches!(line.get(leaf_in(line).len()), Some(b'!'))
+}
+
+// Whether a line is meant to bring all work to rest.
+fn is_meant_as_rest(line: &[u8]) -> bool {
+    match nth_word(line, 0) {
+        Some(word) => word.text == b"rest".as_slice(),
+        None => false,
+    }
+}
+
+// The byte with which that begins what is wrong on a line that is meant as a signal: a name, the number of a signal, or what follows it.
+fn signal_at(line: &[u8]) -> usize {
+    let name = leaf_in(line);
+    if !is_name(name) {
+        return 0;
+    }
+    match line.get(name.len()..) {
+        Some([b'!', b'0'..=b'2', ..]) => name.len().saturating_add(2),
+        _ => name.len().saturating_add(1),
+    }
+}
+
 // The byte with which that begins what is wrong on a line that is meant as a setting: a name, the number of an input, a value, or what follows it.
 fn setting_at(line: &[u8]) -> usize {
     let name = leaf_in(line);
@@ -92,6 +120,9 @@ fn form_at(line: &[u8]) -> usize {
     if is_meant_as_setting(line) {
         return setting_at(line);
     }
+    if is_meant_as_signal(line) {
+        return signal_at(line);
+    }
     let name = name_in(line);
     let behind = name.len().saturating_add(1);
     if !is_name(name) || behind > line.len() {
@@ -111,9 +142,26 @@ pub(crate) fn wrong_at(wrong: &WrongLine<'_>) -> usize {
     match wrong.fault {
         TurnFault::BadLine => form_at(wrong.text),
         TurnFault::NoSuchComponent => 0,
-        TurnFault::NoInput => leaf_in(wrong.text).len().saturating_add(1),
+        TurnFault::NoInput | TurnFault::NoSignal => leaf_in(wrong.text).len().saturating_add(1),
         TurnFault::InputTooLarge => name_in(wrong.text).len().saturating_add(3),
         TurnFault::TooMany => name_in(wrong.text).len().saturating_add(1),
+    }
+}
+
+// The form of a line that is a signal, and of one that brings all work to rest.
+fn push_signal_form(
+    reported: &mut Details,
+    table: &NodeTable,
+    line: &[u8],
+) -> Result<(), AllocError> {
+    if table.scenario().version().number() >= 4 {
+        reported.line("a signal is NAME!I: I is 0 to 2; a line rest brings all work to rest")
+    } else if is_meant_as_signal(line) || is_meant_as_rest(line) {
+        reported.line(
+            "only a scenario of version 4 has signals, and lines that bring all work to rest",
+        )
+    } else {
+        Ok(())
     }
 }
 
@@ -127,8 +175,9 @@ fn push_form(reported: &mut Details, table: &NodeTable, line: &[u8]) -> Result<(
             "a setting is NAME.I = N: I is 0 to 7, N has one to ten digits and is at most 4294967295",
         )?;
     } else if is_meant_as_setting(line) {
-        reported.line("only a scenario of version 3 has inputs that can be set")?;
+        reported.line("only a scenario of version 3 or 4 has inputs that can be set")?;
     }
+    push_signal_form(reported, table, line)?;
     match line.get(form_at(line)..) {
         Some(word) => push_comment(reported, word),
         None => Ok(()),
@@ -174,7 +223,23 @@ fn push_bad_input(
     reported.end()
 }
 
-/// The details of a line of turns or of a setting that is wrong.
+// A signal that a leaf has not, and how many it has.
+fn push_bad_signal(
+    reported: &mut Details,
+    table: &NodeTable,
+    wrong: &WrongLine<'_>,
+) -> Result<(), AllocError> {
+    reported.text("signal ")?;
+    reported.raw(wrong.text.get(wrong_at(wrong)..).unwrap_or(wrong.text))?;
+    reported.text(", and ")?;
+    match table.leaf_named(leaf_in(wrong.text)) {
+        Some(leaf) => push_signals(reported, table.signals(leaf))?,
+        None => reported.text("there is no such leaf")?,
+    }
+    reported.end()
+}
+
+/// The details of a line of turns, of a setting or of a signal that is wrong.
 pub(crate) fn turn_details(
     alloc: Global,
     table: &NodeTable,
@@ -191,6 +256,7 @@ pub(crate) fn turn_details(
             table,
             wrong,
         )?,
+        TurnFault::NoSignal => push_bad_signal(&mut details, table, wrong)?,
         TurnFault::TooMany => {
             details.more_than(wrong.total, "turns", u64::from(GREATEST_TURNS))?
         }

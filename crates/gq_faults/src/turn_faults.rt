@@ -1,7 +1,8 @@
 // All lines of a text of turns that are wrong.
 ghost use Rattle.std.specs.Prelude.{◌≡◌, ◌+◌, ◌^◌, ◌<◌, ◌≤◌, ◌∷◌, ◌++◌, [], length, map, option_map, unwrap_or, IfOk, IfSome, Some};
 ghost use Rattle.gq_model.specs.texts.Letters.{lines};
-ghost use Rattle.gq_model.specs.texts.Turns.{greatest_turns, turns_given};
+ghost use Rattle.gq_model.specs.texts.Turns.{line_turns};
+ghost use Rattle.gq_model.specs.machine.Rest.{greatest_turns};
 ghost use Rattle.gq_scenario.specs.Text_pieces.{length_left};
 ghost use Rattle.gq_load.specs.Load.{loaded};
 ghost use Rattle.gq_faults.specs.Found_lists.{first, listed_if};
@@ -14,17 +15,16 @@ use crate::faults::{File, faults};
 use crate::report_error::ReportError;
 use crate::turn_details::{turn_details, wrong_at};
 use crate::value_words::Details;
+use gq_init::line_turns;
 use gq_init::name_index::NameIndex;
 use gq_init::turns::next_turn;
-use gq_init::turns_given;
 use gq_load::accepted::Accepted;
 use gq_load::load_fault::{LoadError, LoadFault};
-use gq_model::act::Act;
+use gq_model::act::TurnLine;
 use gq_model::fault::TurnFault;
 use gq_model::limits::GREATEST_TURNS_TEXT;
 use gq_output::counted::Counted;
 use gq_resolve::NodeTable;
-use gq_scenario::scenario::LeafNo;
 use gq_scenario::text_pieces::next_line;
 use gq_toml_places::Position;
 use std::alloc::Global;
@@ -42,7 +42,7 @@ pub(crate) struct WrongLine<'t> {
 
 // The fault that is reported of a line that says this after so many turns: that there are too many is reported once.
 fn reported_fault(
-    said: &Result<Option<(LeafNo, Act)>, TurnFault>,
+    said: &Result<Option<TurnLine>, TurnFault>,
     before: Option<u32>,
 ) -> Option<TurnFault>
     ensures { result ≡ reported_fault said.now before }
@@ -55,16 +55,16 @@ fn reported_fault(
 }
 
 // How many turns there are after a line that says this; `None` once there were too many.
-fn turns_after(said: &Result<Option<(LeafNo, Act)>, TurnFault>, before: Option<u32>) -> Option<u32>
+fn turns_after(said: &Result<Option<TurnLine>, TurnFault>, before: Option<u32>) -> Option<u32>
     requires few { unwrap_or before 0 ≤ greatest_turns }
-    requires fits { IfOk said.now (λ turn. IfSome turn (λ t. unwrap_or before 0 + turns_given t.1 ≤ greatest_turns)) }
+    requires fits { IfOk said.now (λ turn. IfSome turn (λ t. unwrap_or before 0 + line_turns t ≤ greatest_turns)) }
     ensures turns { result ≡ turns_after said.now before }
     ensures few { unwrap_or result 0 ≤ greatest_turns }
 {
     match said {
         Ok(None) => before,
-        Ok(Some((_, act))) => match before {
-            Some(total) => Some(total + turns_given(*act)),
+        Ok(Some(turn)) => match before {
+            Some(total) => Some(total + line_turns(*turn)),
             None => None,
         },
         Err(TurnFault::TooMany) => None,
@@ -243,7 +243,7 @@ fn report_turns<W: Write>(
 ///
 /// - The text is too long.
 /// - A line has another form, or a name that is no leaf's.
-/// - A setting is of an input that the leaf has not, or has a value above the greatest.
+/// - A setting is of an input that the leaf has not, or has a value above the greatest; a signal is one that the leaf has not.
 /// - There are too many turns; this is reported at the first line at which there are.
 ///
 /// The first of these is the one that `run` prints (`laws`). Returns why `run` refuses both, if it does. Ends early if the host refuses memory or a write

@@ -326,8 +326,10 @@ pub(crate) fn crowd_word(crowd: Crowd) -> &'static str {
 /// What a statement needs in a slot.
 pub(crate) fn needed_word(needed: Needed) -> &'static str {
     match needed {
-        Needed::There => "an own slot: main has no session",
+        // Of which section is said behind it.
+        Needed::There(_) => "an own slot",
         Needed::Empty => "an empty slot",
+        Needed::EmptyAtEnd => "an empty slot: the leaf provides no service and has no signals",
         Needed::Memory => "a block, a slice, a space or a pool",
         Needed::Bytes => "a block, a slice, a space, the object or a link with a buffer",
         Needed::Pool => "a pool",

@@ -20,6 +20,7 @@ fn same_leaf(a: &Leaf, b: &Leaf) -> bool
         && same_names(a.provides(), b.provides())
         && same_names(a.after(), b.after())
         && same_numbers(a.inputs(), b.inputs())
+        && a.signals() == b.signals()
         && same_routes(a.routes(), b.routes())
 }
 

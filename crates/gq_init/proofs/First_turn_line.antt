@@ -8,6 +8,7 @@ use Rattle.gq_model.specs.machine.Lists.{all_of, between}
 use Rattle.gq_model.specs.machine.Program.{text_eq}
 use Rattle.gq_model.specs.machine.Routes.{numbered}
 use Rattle.gq_model.specs.declared.act.Act.TheVariants.{Turns}
+use Rattle.gq_model.specs.declared.act.TurnLine.TheVariants.{Gives}
 use Rattle.gq_model.specs.machine.Scenario.{Scenario, components}
 use Rattle.gq_model.specs.texts.Letters.{is_digit, is_name, is_name_byte, lines, onto_first, pieces, spelled_on, without_return, without_returns}
 use Rattle.gq_model.specs.declared.fault.TurnFault.TheVariants.{BadLine}
@@ -100,13 +101,13 @@ shorter_behind (d ∷ prefix) c rest = omega (arith, shorter_behind prefix c res
 
 -- a line of a name and a number
 given_named : (s : Scenario) (name digits : List ℕ) (x n : ℕ) → is_name name ≡ true → numbered 0 name (components s) ≡ Some x → turn_count digits ≡ Some n
-    → given_in s (name ∷ digits ∷ []) ≡ Ok (x, Turns n)
+    → given_in s (name ∷ digits ∷ []) ≡ Ok (Gives x (Turns n))
 given_named s name digits x n named number spells =
     ap (λ b. cond b (turn_of (numbered 0 name (components s)) (turn_count digits)) (Err BadLine)) named
     ∙ (ap (λ o. turn_of o (turn_count digits)) number ∙ ap (turn_of (Some x)) spells)
 
 reported : (s : Scenario) (name digits rest : List ℕ) (x n : ℕ) → is_name name ≡ true → numbered 0 name (components s) ≡ Some x → all_of is_digit digits ≡ true
-    → turn_count digits ≡ Some n → IsTurnAhead s (name ++ (32 ∷ (digits ++ (10 ∷ rest)))) (x, Turns n) rest
+    → turn_count digits ≡ Some n → IsTurnAhead s (name ++ (32 ∷ (digits ++ (10 ∷ rest)))) (Gives x (Turns n)) rest
 reported s name digits rest x n named number are spells =
     let letters = name_above name (and_second (between 1 16 (length name)) (all_of is_name_byte name) named) in
     let figures = digits_above digits are in
@@ -126,9 +127,9 @@ reported s name digits rest x n named number are spells =
     }
 
 pub turn_reported : (s : Scenario) (text : List ℕ) (x : ℕ) (behind : List ℕ) (n : ℕ) (rest : List ℕ) → IsLeafAhead (components s) text x behind
-    → IsCountAhead behind n rest → IsTurnAhead s text (x, Turns n) rest
+    → IsCountAhead behind n rest → IsTurnAhead s text (Gives x (Turns n)) rest
 turn_reported s text x behind n rest leaf count =
-    subst (λ t. IsTurnAhead s t (x, Turns n) rest) (sym (leaf.is ∙ ap (λ t. leaf.name ++ (32 ∷ t)) count.is))
+    subst (λ t. IsTurnAhead s t (Gives x (Turns n)) rest) (sym (leaf.is ∙ ap (λ t. leaf.name ++ (32 ∷ t)) count.is))
     (reported s leaf.name count.digits rest x n leaf.named leaf.number count.are count.spells)
 
 -- COMMENTS

@@ -8,11 +8,11 @@ use Rattle.std.specs.Prelude.{Vec}
 use Rattle.std.specs.declared.alloc.Global.{Global}
 use Rattle.gq_model.specs.declared.fault.TurnFault.{TurnFault}
 use Rattle.gq_model.specs.declared.fault.TurnFault.TheVariants.{TooMany}
-use Rattle.gq_model.specs.declared.act.Act.{Act}
-use Rattle.gq_model.specs.machine.Run.{Acts}
-use Rattle.gq_model.specs.machine.Scenario.{Scenario, components}
+use Rattle.gq_model.specs.declared.act.TurnLine.{TurnLine}
+use Rattle.gq_model.specs.machine.Scenario.{Scenario}
 use Rattle.gq_model.specs.texts.Letters.{lines, onto_first, pieces, without_return, without_returns}
-use Rattle.gq_model.specs.texts.Turns.{Turned, turned, turns_given, greatest_turns}
+use Rattle.gq_model.specs.texts.Turns.{Listed, listed, line_turns}
+use Rattle.gq_model.specs.machine.Rest.{greatest_turns}
 use Rattle.gq_scenario.specs.Text_pieces.{lines_left}
 use Rattle.gq_scenario.proofs.Text_line_pieces.{without_returns-pieces}
 use Rattle.gq_init.specs.TurnLines.{IsTurned, given_in, limited, line_turn, turn_on}
@@ -109,10 +109,10 @@ reads_none false line (Some rest) h = cc
 
 -- READING
 
-module _ (s : Scenario) (items : Acts) (total line : ℕ) (is_last : Bool) (text : List ℕ) (said : Result (Option (ℕ × Act)) TurnFault)
+module _ (s : Scenario) (items : List TurnLine) (total line : ℕ) (is_last : Bool) (text : List ℕ) (said : Result (Option TurnLine) TurnFault)
     (after : Option (Bor (List ℕ))) (ahead : IsLineAhead s total text said (option_map (λ rest. rest.now) after)) where
   -- what is reported by these lines of the text
-  abbrev before : List (List ℕ) → List (List ℕ) → Turned
+  abbrev before : List (List ℕ) → List (List ℕ) → Listed
   before ls more = reported s items total line None (ls ++ more)
 
   first_is : (is_none after && not is_last) ≡ false → lines_read is_last (lines text) ≡ ahead.line ∷ lines_read is_last (behind after)
@@ -124,8 +124,8 @@ module _ (s : Scenario) (items : Acts) (total line : ℕ) (is_last : Bool) (text
       ap (prepended items) (sym (turned_none s (line + 1) total ahead.line (lines_read is_last (behind after) ++ more) (sym ahead.said_is ∙ e)))
       ∙ ap (λ ls. before ls more) (sym (first_is h))
 
-  pub read_some : (is_none after && not is_last) ≡ false → (turn : ℕ × Act) → said ≡ Ok (Some turn) → (more : List (List ℕ))
-      → reported s (items ++ turn ∷ []) (total + turns_given turn.1) (line + 1) None (lines_read is_last (behind after) ++ more)
+  pub read_some : (is_none after && not is_last) ≡ false → (turn : TurnLine) → said ≡ Ok (Some turn) → (more : List (List ℕ))
+      → reported s (items ++ turn ∷ []) (total + line_turns turn) (line + 1) None (lines_read is_last (behind after) ++ more)
       ≡ before (lines_read is_last (lines text)) more
   read_some h turn e more =
       sym (turned_some s (line + 1) total ahead.line (lines_read is_last (behind after) ++ more) items turn (sym ahead.said_is ∙ e))
@@ -149,24 +149,24 @@ reads_ended true line rest = refl
 reads_ended false line rest = last_later line (lines rest) (some_lines (pieces (λ c. c == 10) rest) (some_pieces rest))
 
 -- a line that is a turn
-pub read_turn_ahead : (s : Scenario) (items : Acts) (total line : ℕ) (text rest : List ℕ) (turn : ℕ × Act) → IsTurnAhead s text turn rest
-    → total + turns_given turn.1 ≤ greatest_turns → (is_last : Bool) (more : List (List ℕ))
-    → reported s (items ++ turn ∷ []) (total + turns_given turn.1) (line + 1) None (lines_read is_last (lines rest) ++ more)
+pub read_turn_ahead : (s : Scenario) (items : List TurnLine) (total line : ℕ) (text rest : List ℕ) (turn : TurnLine) → IsTurnAhead s text turn rest
+    → total + line_turns turn ≤ greatest_turns → (is_last : Bool) (more : List (List ℕ))
+    → reported s (items ++ turn ∷ []) (total + line_turns turn) (line + 1) None (lines_read is_last (lines rest) ++ more)
     ≡ reported s items total line None (lines_read is_last (lines text) ++ more)
 read_turn_ahead s items total line text rest turn h few is_last more =
     let said : line_turn s total h.line ≡ Ok (Some turn) =
     ap (λ b. turn_on b total (given_in s (pieces (λ c. c == 32) h.line))) h.says
-    ∙ (ap (limited total) h.turn_is ∙ ap (λ b. cond b (Ok (Some turn)) (Err TooMany)) (within (total + turns_given turn.1) few)) in
+    ∙ (ap (limited total) h.turn_is ∙ ap (λ b. cond b (Ok (Some turn)) (Err TooMany)) (within (total + line_turns turn) few)) in
     sym (turned_some s (line + 1) total h.line (lines_read is_last (lines rest) ++ more) items turn said)
     ∙ ap (λ ls. reported s items total line None (ls ++ more)) (sym (ap (lines_read is_last) h.is ∙ reads_ended is_last h.line rest))
 
-pub reported_end : (s : Scenario) (items : Acts) (total line : ℕ) → reported s items total line None [] ≡ Ok items
+pub reported_end : (s : Scenario) (items : List TurnLine) (total line : ℕ) → reported s items total line None [] ≡ Ok items
 reported_end s items total line = ap Ok (append-nil items)
 
 -- PIECES
 
 pub answer_start : (s : Scenario) (rest : List ℕ)
-    → answer s (record { items = []; total = 0; line = 0; fault = None; size = 0; last = [] }) rest ≡ turned s rest
+    → answer s (record { items = []; total = 0; line = 0; fault = None; size = 0; last = [] }) rest ≡ listed s rest
 answer_start s rest =
     ap (λ n. cond (nat_le n (2 ^ 24)) (prepended [] (said_from s 1 0 (lines rest))) (Err (TooMany, 0))) (omega arith)
     ∙ ap (λ t. cond (nat_le (length rest) (2 ^ 24)) t (Err (TooMany, 0))) (prepended-empty (said_from s 1 0 (lines rest)))
@@ -193,8 +193,8 @@ answer_read s old new ended last size same rest =
 -- END
 
 -- what was read at last is the answer
-pub answer_finished : (s : Scenario) (r : Reading) (items : Acts) (total line : ℕ) (fault : Option (TurnFault × ℕ))
-    (result : Result (Vec (ℕ × Act) Global) TurnsError) → nat_le r.size (2 ^ 24) ≡ true
+pub answer_finished : (s : Scenario) (r : Reading) (items : List TurnLine) (total line : ℕ) (fault : Option (TurnFault × ℕ))
+    (result : Result (Vec TurnLine Global) TurnsError) → nat_le r.size (2 ^ 24) ≡ true
     → ((more : List (List ℕ)) → reported s items total line fault more ≡ reported s r.items r.total r.line r.fault (lines r.last ++ more))
     → IsTurned result (reported s items total line fault []) → IsTurned result (answer s r [])
 answer_finished s r items total line fault result small same is =
@@ -204,16 +204,16 @@ answer_finished s r items total line fault result small same is =
     ∙ ap (λ b. cond b (reported s r.items r.total r.line r.fault (lines (r.last ++ []))) (Err (TooMany, 0))) small)) is
 
 -- a text in one piece
-pub text_finished : (s : Scenario) (text : List ℕ) (items : Acts) (total line : ℕ) (fault : Option (TurnFault × ℕ))
-    (result : Result (Vec (ℕ × Act) Global) TurnsError) → nat_le (length text) (2 ^ 24) ≡ true
+pub text_finished : (s : Scenario) (text : List ℕ) (items : List TurnLine) (total line : ℕ) (fault : Option (TurnFault × ℕ))
+    (result : Result (Vec TurnLine Global) TurnsError) → nat_le (length text) (2 ^ 24) ≡ true
     → ((more : List (List ℕ)) → reported s items total line fault more ≡ reported s [] 0 0 None (lines text ++ more))
-    → IsTurned result (reported s items total line fault []) → IsTurned result (turned s text)
+    → IsTurned result (reported s items total line fault []) → IsTurned result (listed s text)
 text_finished s text items total line fault result small same is =
     subst (IsTurned result) (same [] ∙ ap (reported s [] 0 0 None) (append-nil (lines text)) ∙ prepended-empty (said_from s 1 0 (lines text))
     ∙ sym (ap (λ b. cond b (said_from s 1 0 (lines text)) (Err (TooMany, 0))) small)) is
 
 -- of which nothing was read before
-pub reported_start : (s : Scenario) (items : Acts) (total line : ℕ) (fault : Option (TurnFault × ℕ)) (more : List (List ℕ)) → items ≡ [] → total ≡ 0
+pub reported_start : (s : Scenario) (items : List TurnLine) (total line : ℕ) (fault : Option (TurnFault × ℕ)) (more : List (List ℕ)) → items ≡ [] → total ≡ 0
     → line ≡ 0 → fault ≡ None → reported s items total line fault more ≡ reported s [] 0 0 None more
 reported_start s items total line fault more a b d e = rw (a, b, d, e) refl
 

@@ -1,5 +1,5 @@
 -- Lines of settings.
-use Rattle.std.proofs.Common.{◌≡◌, ◌==◌, ℕ, Bool, true, false, ◌&&◌, cond, List, [], ◌∷◌, Option, Some, None, Err, inl, inr, refl, ap, sym, ◌∙◌, codes}
+use Rattle.std.proofs.Common.{◌≡◌, ◌==◌, ℕ, Bool, true, false, ◌&&◌, cond, List, ◌∷◌, Option, Some, None, Err, inl, inr, refl, ap, sym, ◌∙◌, codes}
 use Rattle.gq_model.specs.declared.fault.TurnFault.TheVariants.{BadLine}
 use Rattle.gq_model.specs.machine.Program.{text_eq}
 use Rattle.gq_model.specs.machine.Routes.{numbered}

@@ -5,11 +5,11 @@ ghost use Rattle.gq_model.specs.machine.Program.{text_eq};
 ghost use Rattle.gq_model.specs.machine.Scenario.{components};
 ghost use Rattle.gq_model.specs.texts.Letters.{is_digit, number_in, pieces, spelled_on};
 ghost use Rattle.gq_model.specs.texts.Turns.{has_inputs, input_in, setting_at};
-ghost use Rattle.gq_init.specs.Turn_items.{IsKept};
+ghost use Rattle.gq_init.specs.Turn_items.{IsHeld, IsOf};
 ghost use Rattle.gq_init.specs.TurnLines.{given_in};
 
 use crate::name_index::NameIndex;
-use gq_model::act::Act;
+use gq_model::act::{Act, TurnLine};
 use gq_model::fault::TurnFault;
 use gq_model::letters::{is_digit, is_name};
 use gq_model::spelling::same_text;
@@ -33,7 +33,7 @@ fn spelled(text: &[u8]) -> Option<u64>
 }
 
 // The number that one to so many digits spell, if it is at most the greatest.
-fn number_up_to(text: &[u8], digits: usize, greatest: u32) -> Option<u32>
+pub(crate) fn number_up_to(text: &[u8], digits: usize, greatest: u32) -> Option<u32>
     requires { digits ≤ 10 }
     ensures number { result ≡ number_in digits 0 greatest text.now }
     ensures small { IfSome result (λ n. n ≤ greatest) }
@@ -69,23 +69,18 @@ fn is_setting(sign: &[u8], table: &NodeTable) -> bool
 }
 
 // This value of an input of a leaf, if the leaf has the input and may be given the value.
-fn setting_at(
-    table: &NodeTable,
-    leaf: LeafNo,
-    input: u8,
-    value: u32,
-) -> Result<(LeafNo, Act), TurnFault>
+fn setting_at(table: &NodeTable, leaf: LeafNo, input: u8, value: u32) -> Result<TurnLine, TurnFault>
     requires there { leaf < length (components table.now) }
     requires small { input < 8 }
     ensures setting { result ≡ setting_at (components table.now) (Some leaf) input value }
-    ensures there { IfOk result (λ t. t.0 < length (components table.now)) }
-    ensures kept { IfOk result (λ t. IsKept t.1) }
+    ensures there { IfOk result (IsOf (length (components table.now))) }
+    ensures held { IfOk result IsHeld }
 {
     let inputs = table.inputs(leaf);
     match inputs.get(usize::from(input)) {
         None => Err(TurnFault::NoInput),
         Some(greatest) if value > *greatest => Err(TurnFault::InputTooLarge),
-        Some(_) => Ok((leaf, Act::Sets(input, value))),
+        Some(_) => Ok(TurnLine::Gives(leaf.number(), Act::Sets(input, value))),
     }
 }
 
@@ -96,10 +91,10 @@ pub(crate) fn read_setting(
     number: &[u8],
     table: &NodeTable,
     names: &NameIndex,
-) -> Result<(LeafNo, Act), TurnFault>
+) -> Result<TurnLine, TurnFault>
     ensures setting { result ≡ given_in table.now (input.now ∷ sign.now ∷ pieces (λ c. c == 32) number.now) }
-    ensures there { IfOk result (λ t. t.0 < length (components table.now)) }
-    ensures kept { IfOk result (λ t. IsKept t.1) }
+    ensures there { IfOk result (IsOf (length (components table.now))) }
+    ensures held { IfOk result IsHeld }
 {
     if !is_setting(sign, table) {
         return Err(TurnFault::BadLine);

@@ -1,13 +1,13 @@
-// Turns and settings that are read line by line.
+// Turns, settings and signals that are read line by line.
 ghost use Rattle.std.specs.Prelude.{◌≡◌, ℕ, List, [], ◌++◌, ◌<◌, ◌≤◌, ◌+◌, ◌^◌, ◌&&◌, Bool, not, is_none, None, length, IfOk, OnOk};
 ghost use Rattle.gq_model.specs.machine.Scenario.{Scenario};
 ghost use Rattle.gq_model.specs.texts.Letters.{lines};
-ghost use Rattle.gq_model.specs.texts.Turns.{greatest_turns};
+ghost use Rattle.gq_model.specs.machine.Rest.{greatest_turns};
 ghost use Rattle.gq_init.specs.TurnLines.{IsTurned};
 ghost use Rattle.gq_init.specs.TurnReading.{reported};
 ghost use Rattle.gq_init.specs.internal.Piecewise_lines.{lines_read};
 
-use crate::item::{TurnItem, turns_given};
+use crate::item::{TurnItem, line_turns};
 use crate::name_index::NameIndex;
 use crate::turns::{TurnsError, next_turn, turn_ahead};
 use gq_model::fault::TurnFault;
@@ -23,11 +23,11 @@ fn is_begun(after: &Option<&[u8]>, is_last: bool) -> bool
     after.is_none() && !is_last
 }
 
-/// The turns and settings of the lines that were read, up to the first that is wrong.
+/// The turns, settings and signals of the lines that were read, up to the first that is wrong.
 #[derive(Drop)]
 pub(crate) struct TurnList {
     pub(crate) items: Vec<TurnItem>,
-    // How many turns they are together; settings are none.
+    // How many turns they are together; settings and signals are none.
     pub(crate) total: u32,
     // How many lines were read.
     pub(crate) line: u64,
@@ -82,9 +82,9 @@ impl TurnList {
             self.line += 1;
             match said {
                 Ok(None) => {}
-                Ok(Some((leaf, act))) => {
-                    self.total += turns_given(act);
-                    match self.items.push(TurnItem::of(leaf, act)) {
+                Ok(Some(turn)) => {
+                    self.total += line_turns(turn);
+                    match self.items.push(TurnItem::of(turn)) {
                         Ok(()) => {}
                         Err(_) => return Err(AllocError),
                     }
@@ -138,7 +138,7 @@ impl TurnList {
         Ok(left)
     }
 
-    /// The turns and settings of all lines, or the first fault.
+    /// The turns, settings and signals of all lines, or the first fault.
     pub(crate) fn finish(self) -> Result<Vec<TurnItem>, TurnsError>
         ensures { (s : Scenario) → IsTurned result (reported s self.items.items self.total self.line self.fault []) }
     {

@@ -1,6 +1,6 @@
-//! Turns and settings of a text that comes in pieces.
+//! Turns, settings and signals of a text that comes in pieces.
 ghost use Rattle.std.specs.Prelude.{◌≡◌, ℕ, List, [], ◌++◌, ◌<◌, ◌≤◌, ◌+◌, ◌^◌, length, IfOk, OnOk};
-ghost use Rattle.gq_model.specs.texts.Turns.{turned};
+ghost use Rattle.gq_model.specs.texts.Turns.{listed};
 ghost use Rattle.gq_init.specs.TurnLines.{IsTurned};
 ghost use Rattle.gq_init.specs.TurnReading.{answer};
 ghost use Rattle.gq_init.specs.internal.Piecewise_lines.{IsEnded};
@@ -16,8 +16,8 @@ use memchr::{memchr, memrchr};
 use std::alloc::{AllocError, Global};
 use std::marker::Model;
 
-/// Turns and settings that are read from a text that comes in pieces. Of the text it keeps no more than what follows its last line feed, and of each line eight
-/// bytes at most.
+/// Turns, settings and signals that are read from a text that comes in pieces. Of the text it keeps no more than what follows its last line feed, and of each
+/// line eight bytes at most.
 #[derive(Drop)]
 pub struct TurnReader {
     names: NameIndex,
@@ -49,7 +49,7 @@ impl TurnReader {
     /// A reader of which all of the text is still to come, and the leaves of whose turns are those of the table. Fails if the host refuses memory.
     pub fn new(alloc: Global, table: &NodeTable) -> Result<TurnReader, AllocError>
         ensures size { IfOk result (λ r. r.size ≡ 0) }
-        ensures answer { IfOk result (λ r. (rest : List ℕ) → answer table.now r rest ≡ turned table.now rest) }
+        ensures answer { IfOk result (λ r. (rest : List ℕ) → answer table.now r rest ≡ listed table.now rest) }
     {
         let turns = TurnList::new(alloc, GREATEST_TURNS as usize)?;
         Ok(TurnReader {
@@ -135,7 +135,7 @@ impl TurnReader {
         self.last.extend_from_slice(piece)
     }
 
-    /// The turns and settings of the text, of which all has come, or its first fault, as `read_turns` reports them.
+    /// The turns, settings and signals of the text, of which all has come, or its first fault, as `read_turns` reports them.
     pub fn finish(mut self, table: &NodeTable) -> Result<Vec<TurnItem>, TurnsError>
         ensures { IsTurned result (answer table.now self []) }
     {

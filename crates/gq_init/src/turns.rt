@@ -1,19 +1,22 @@
-// Turns and settings, as texts say them.
+// Turns, settings and signals, as texts say them, and lines that bring all work to rest.
 ghost use Rattle.std.specs.Prelude.{◌≡◌, ℕ, ◌==◌, [], ◌∷◌, ◌<◌, ◌≤◌, ◌^◌, ◌+◌, length, option_map, slice_index, IfNone, IfOk, IfSome};
 ghost use Rattle.std.specs.Prelude.{alloc_error};
 ghost use Rattle.gq_model.specs.declared.act.Act.TheVariants.{Turns};
 ghost use Rattle.gq_model.specs.texts.Letters.{pieces};
 ghost use Rattle.gq_model.specs.machine.Scenario.{components};
-ghost use Rattle.gq_model.specs.texts.Turns.{turned, turn_count, turns_given, says_nothing, greatest_turns};
-ghost use Rattle.gq_init.specs.Turn_items.{IsKept};
+ghost use Rattle.gq_model.specs.declared.act.TurnLine.TheVariants.{Gives};
+ghost use Rattle.gq_model.specs.texts.Turns.{line_turns, listed, turn_count, says_nothing};
+ghost use Rattle.gq_model.specs.machine.Rest.{greatest_turns};
+ghost use Rattle.gq_init.specs.Turn_items.{IsHeld, IsOf};
 ghost use Rattle.gq_init.specs.internal.Ahead.{IsCommentAhead, IsCountAhead, IsLineAhead, IsTurnAhead};
 ghost use Rattle.gq_init.specs.TurnLines.{IsTurned, given_in, line_turn};
 
-use crate::item::{TurnItem, turns_given};
+use crate::item::{TurnItem, line_turns};
 use crate::name_index::NameIndex;
 use crate::settings::read_setting;
+use crate::signals::read_word;
 use crate::turn_list::TurnList;
-use gq_model::act::Act;
+use gq_model::act::{Act, TurnLine};
 use gq_model::fault::TurnFault;
 use gq_model::letters::{is_digit, is_name};
 use gq_model::limits::{GREATEST_TURNS, GREATEST_TURNS_TEXT};
@@ -88,10 +91,10 @@ fn read_plain(
     count: &[u8],
     table: &NodeTable,
     names: &NameIndex,
-) -> Result<(LeafNo, Act), TurnFault>
+) -> Result<TurnLine, TurnFault>
     ensures turn { result ≡ given_in table.now (name.now ∷ count.now ∷ []) }
-    ensures there { IfOk result (λ t. t.0 < length (components table.now)) }
-    ensures kept { IfOk result (λ t. IsKept t.1) }
+    ensures there { IfOk result (IsOf (length (components table.now))) }
+    ensures held { IfOk result IsHeld }
 {
     if !is_name(name) {
         return Err(TurnFault::BadLine);
@@ -100,20 +103,20 @@ fn read_plain(
         return Err(TurnFault::BadLine);
     };
     match names.leaf_named(name, table) {
-        Some(leaf) => Ok((leaf, Act::Turns(count))),
+        Some(leaf) => Ok(TurnLine::Gives(leaf.number(), Act::Turns(count))),
         None => Err(TurnFault::NoSuchComponent),
     }
 }
 
-// The leaf of a line that says something, and what it is given: turns, or with two spaces a setting.
-fn read_turn(line: &[u8], table: &NodeTable, names: &NameIndex) -> Result<(LeafNo, Act), TurnFault>
+// What a line gives that says something: turns, with two spaces a setting, and with none a signal or turns that bring all work to rest.
+fn read_turn(line: &[u8], table: &NodeTable, names: &NameIndex) -> Result<TurnLine, TurnFault>
     ensures turn { result ≡ given_in table.now (pieces (λ c. c == 32) line.now) }
-    ensures there { IfOk result (λ t. t.0 < length (components table.now)) }
-    ensures kept { IfOk result (λ t. IsKept t.1) }
+    ensures there { IfOk result (IsOf (length (components table.now))) }
+    ensures held { IfOk result IsHeld }
 {
     let (first, rest) = next_piece(line, b' ');
     let Some(rest) = rest else {
-        return Err(TurnFault::BadLine);
+        return read_word(first, table, names);
     };
     let (second, rest) = next_piece(rest, b' ');
     match rest {
@@ -122,19 +125,19 @@ fn read_turn(line: &[u8], table: &NodeTable, names: &NameIndex) -> Result<(LeafN
     }
 }
 
-// What a line says after so many turns: nothing, or a turn or a setting, unless there are too many turns with it.
+// What a line gives after so many turns: nothing, or what it says, unless there are too many turns with it.
 #[inline(never)]
 fn read_line(
     line: &[u8],
     turns: u32,
     table: &NodeTable,
     names: &NameIndex,
-) -> Result<Option<(LeafNo, Act)>, TurnFault>
+) -> Result<Option<TurnLine>, TurnFault>
     requires { turns ≤ greatest_turns }
     ensures answer { result ≡ line_turn table.now turns line.now }
-    ensures few { IfOk result (λ turn. IfSome turn (λ t. turns + turns_given t.1 ≤ greatest_turns)) }
-    ensures there { IfOk result (λ turn. IfSome turn (λ t. t.0 < length (components table.now))) }
-    ensures kept { IfOk result (λ turn. IfSome turn (λ t. IsKept t.1)) }
+    ensures few { IfOk result (λ turn. IfSome turn (λ t. turns + line_turns t ≤ greatest_turns)) }
+    ensures there { IfOk result (λ turn. IfSome turn (IsOf (length (components table.now)))) }
+    ensures held { IfOk result (λ turn. IfSome turn IsHeld) }
 {
     if says_nothing(line) {
         return Ok(None);
@@ -143,7 +146,7 @@ fn read_line(
         Ok(turn) => turn,
         Err(fault) => return Err(fault),
     };
-    if turns_given(turn.1) > GREATEST_TURNS - turns {
+    if line_turns(turn) > GREATEST_TURNS - turns {
         return Err(TurnFault::TooMany);
     }
     Ok(Some(turn))
@@ -179,7 +182,7 @@ pub(crate) fn turn_ahead<'a>(
     table: &NodeTable,
     names: &NameIndex,
 ) -> Option<((LeafNo, u32), &'a [u8])>
-    ensures turn { IfSome result (λ r. IsTurnAhead table.now text.now (r.0.0, Turns r.0.1) r.1.now) }
+    ensures turn { IfSome result (λ r. IsTurnAhead table.now text.now (Gives r.0.0 (Turns r.0.1)) r.1.now) }
     ensures there { IfSome result (λ r. r.0.0 < length (components table.now)) }
 {
     let Some((leaf, rest)) = names.leaf_ahead(text, table) else {
@@ -221,12 +224,12 @@ pub fn next_turn<'a>(
     turns: u32,
     table: &NodeTable,
     names: &NameIndex,
-) -> (Result<Option<(LeafNo, Act)>, TurnFault>, Option<&'a [u8]>)
+) -> (Result<Option<TurnLine>, TurnFault>, Option<&'a [u8]>)
     requires { turns ≤ greatest_turns }
     ensures line { IsLineAhead table.now turns text.now result.0 (option_map (λ rest. rest.now) result.1) }
-    ensures few { IfOk result.0 (λ turn. IfSome turn (λ t. turns + turns_given t.1 ≤ greatest_turns)) }
-    ensures there { IfOk result.0 (λ turn. IfSome turn (λ t. t.0 < length (components table.now))) }
-    ensures kept { IfOk result.0 (λ turn. IfSome turn (λ t. IsKept t.1)) }
+    ensures few { IfOk result.0 (λ turn. IfSome turn (λ t. turns + line_turns t ≤ greatest_turns)) }
+    ensures there { IfOk result.0 (λ turn. IfSome turn (IsOf (length (components table.now)))) }
+    ensures held { IfOk result.0 (λ turn. IfSome turn IsHeld) }
     ensures shorter { IfSome result.1 (λ rest. length rest.now < length text.now) }
 {
     if !text.is_empty() && text[0] == b'#' {
@@ -236,19 +239,29 @@ pub fn next_turn<'a>(
     (read_line(line, turns, table, names), after)
 }
 
-// For how many turns and settings of a text there is room at the start. A line of either has four bytes or more, but for the last. So a list of turns alone
-// never grows, since more than 1,000,000 are too many. One with settings may grow. Of what a list does not use the host gives no page.
+// For how many lines of a text there is room at the start. A line that gives something has four bytes or more, but for the last. So a list of turns alone never
+// grows, since more than 1,000,000 are too many. One with settings, signals or `rest` may grow. Of what a list does not use the host gives no page.
 fn room_for(text: &[u8]) -> usize {
     (text.len() / 4 + 1).min(GREATEST_TURNS as usize)
 }
 
-/// The turns and settings that a text says, as `read_turns` reads them, each in eight bytes. Refused as there.
-pub fn read_items(
+/// What the lines of a text give, in their order. Each has a leaf of the table's scenario, and a number of turns from 1 to 9,999,999, a value of one of its
+/// inputs, or one of its signals; or it brings all work to rest.
+///
+/// Refused if memory runs out, and by the first fault of the text:
+///
+/// - a line of another form (in versions 1 and 2 a setting is one, and in versions 1 to 3 a signal and `rest`),
+/// - a name that is no leaf's,
+/// - an input that the leaf has not, or a value above its greatest,
+/// - a signal that the leaf has not,
+/// - more than 1,000,000 turns, of which those of `rest` are none,
+/// - a text of more than 16 MiB, which is at line 0.
+pub fn read_turns(
     alloc: Global,
     text: &[u8],
     table: &NodeTable,
 ) -> Result<Vec<TurnItem>, TurnsError>
-    ensures { IsTurned result (turned table.now text.now) }
+    ensures { IsTurned result (listed table.now text.now) }
 {
     if text.len() > GREATEST_TURNS_TEXT {
         return Err(TurnsError::Fault {
@@ -260,39 +273,4 @@ pub fn read_items(
     let mut turns = TurnList::new(alloc, room_for(text))?;
     turns.read_lines(text, true, table, &names)?;
     turns.finish()
-}
-
-// The leaf of each of these items, and what it is given.
-fn unpacked(alloc: Global, items: &[TurnItem]) -> Result<Vec<(LeafNo, Act)>, AllocError>
-    ensures { IfOk result (λ turns. turns.items ≡ items.now) }
-{
-    let mut turns = Vec::with_capacity(alloc, items.len())?;
-    for item in items {
-        turns.push((item.leaf(), item.act()))?;
-    }
-    Ok(turns)
-}
-
-/// The turns and settings that a text says, in their order. Each has a leaf of the table's scenario, and a number of turns from 1 to 9,999,999, or a value of
-/// one of its inputs.
-///
-/// Refused if memory runs out, and by the first fault of the text:
-///
-/// - a line of another form (in versions 1 and 2 a setting is one),
-/// - a name that is no leaf's,
-/// - an input that the leaf has not, or a value above its greatest,
-/// - more than 1,000,000 turns,
-/// - a text of more than 16 MiB, which is at line 0.
-pub fn read_turns(
-    alloc: Global,
-    text: &[u8],
-    table: &NodeTable,
-) -> Result<Vec<(LeafNo, Act)>, TurnsError>
-    ensures { IsTurned result (turned table.now text.now) }
-{
-    let items = read_items(alloc, text, table)?;
-    match unpacked(alloc, items.as_slice()) {
-        Ok(turns) => Ok(turns),
-        Err(refused) => Err(TurnsError::Memory(refused)),
-    }
 }

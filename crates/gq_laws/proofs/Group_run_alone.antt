@@ -3,7 +3,7 @@ use Rattle.std.proofs.Common.{◌≡◌, ℕ, zero, suc, Bool, true, false, cond
 use Rattle.std.specs.Prelude.{option_map, slice_get}
 use Rattle.std.proofs.lemmas.List.{append_assoc, append-nil}
 use Rattle.gq_model.specs.declared.act.Act.{Act}
-use Rattle.gq_model.specs.declared.act.Act.TheVariants.{Turns, Sets}
+use Rattle.gq_model.specs.declared.act.Act.TheVariants.{Turns, Sets, Submits}
 use Rattle.gq_model.specs.machine.Scenario.{System, Component, Scenario, system}
 use Rattle.gq_model.specs.machine.World.{World, start, start_leaves}
 use Rattle.gq_model.specs.declared.fault.Wrong.{Wrong}
@@ -11,7 +11,7 @@ use Rattle.gq_model.specs.machine.Doing.{Event, Stepped}
 use Rattle.gq_model.specs.machine.Requests.{free_place}
 use Rattle.gq_model.specs.machine.Step.{next}
 use Rattle.gq_model.specs.machine.Run.{Ran, Acts, label_at, line_of, after_step, turn_from, turns_of}
-use Rattle.gq_model.specs.machine.Run.{set_input, set_from, act_on, run_on, run}
+use Rattle.gq_model.specs.machine.Run.{set_input, set_from, submit, submit_from, act_on, run_on, run}
 use Rattle.gq_model.proofs.Small_facts.{none_some, some_none}
 use Rattle.gq_model.specs.machine.Accounts.{account_at}
 use Rattle.gq_laws.specs.Sound_scenarios.{IsSound}
@@ -29,8 +29,8 @@ use Rattle.gq_laws.specs.internal.Corresponding.{IsSame}
 use Rattle.gq_laws.proofs.Session_renaming.{updated, updated_here, same_updated}
 use Rattle.gq_laws.proofs.Renamed_session_sums.{same_account}
 use Rattle.gq_laws.proofs.Inside_step_both.{Steps, both_step}
-use Rattle.gq_laws.proofs.input_settings.Setting_keeps_invariants.{set_linked, set_paid}
-use Rattle.gq_laws.proofs.input_settings.Group_input_settings.{inside_same, outside_kept}
+use Rattle.gq_laws.proofs.input_settings.Setting_keeps_invariants.{set_linked, set_paid, submit_linked, submit_paid}
+use Rattle.gq_laws.proofs.input_settings.Group_input_settings.{inside_same, outside_kept, outside_submitted, inside_submitted}
 
 -- a step of a leaf outside is not seen
 unseen : (group : ℕ → Bool) (f : ℕ → ℕ) (w new v : World) → IsUntouched group w new → SameRequests group w new → IsSame group f w v → IsSame group f new v
@@ -90,9 +90,14 @@ module _ (s : Scenario) (differ : NamesDiffer s) (group : ℕ → Bool) (apart :
   set_wrong x i n ran None = refl
   set_wrong x i n ran (Some p) = refl
 
+  submit_wrong : (x i : ℕ) (ran : Ran) (o : Option (ℕ × Wrong)) → (submit_from x i ran o).wrong ≡ ran.wrong
+  submit_wrong x i ran None = refl
+  submit_wrong x i ran (Some p) = refl
+
   right_act_before : (ran : Ran) (x : ℕ) (a : Act) → (act_on real x a ran).wrong ≡ None → ran.wrong ≡ None
   right_act_before ran x (Turns n) ok = right_before ran x n ok
   right_act_before ran x (Sets i n) ok = sym (set_wrong x i n ran ran.wrong) ∙ ok
+  right_act_before ran x (Submits i) ok = sym (submit_wrong x i ran ran.wrong) ∙ ok
 
   right_all_before : (ran : Ran) (turns : Acts) → (run_on real turns ran).wrong ≡ None → ran.wrong ≡ None
   right_all_before ran [] ok = ok
@@ -134,12 +139,20 @@ module _ (s : Scenario) (differ : NamesDiffer s) (group : ℕ → Bool) (apart :
   set_alike x i n ran other None w e = (ap (λ v. set_input real v x i n) w, e)
   set_alike x i n ran other (Some p) w e = (w, e)
 
+  submit_alike : (x i : ℕ) (ran other : Ran) (o : Option (ℕ × Wrong)) → ran.world ≡ other.world → ran.wrong ≡ other.wrong
+      → ((submit_from x i ran o).world ≡ (submit_from x i other o).world) × ((submit_from x i ran o).wrong ≡ (submit_from x i other o).wrong)
+  submit_alike x i ran other None w e = (ap (λ v. submit v x i) w, e)
+  submit_alike x i ran other (Some p) w e = (w, e)
+
   act_same : (x : ℕ) (a : Act) (ran other : Ran) → ran.world ≡ other.world → ran.wrong ≡ other.wrong
       → ((act_on real x a ran).world ≡ (act_on real x a other).world) × ((act_on real x a ran).wrong ≡ (act_on real x a other).wrong)
   act_same x (Turns n) ran other w e = turns_same x n ran other w e
   act_same x (Sets i n) ran other w e =
       let same = set_alike x i n ran other ran.wrong w e in
       (same.0 ∙ ap (λ o. (set_from real x i n other o).world) e, same.1 ∙ ap (λ o. (set_from real x i n other o).wrong) e)
+  act_same x (Submits i) ran other w e =
+      let same = submit_alike x i ran other ran.wrong w e in
+      (same.0 ∙ ap (λ o. (submit_from x i other o).world) e, same.1 ∙ ap (λ o. (submit_from x i other o).wrong) e)
 
   same_wrong : (turns : Acts) (ran other : Ran) → ran.world ≡ other.world → ran.wrong ≡ other.wrong → (run_on real turns ran).wrong ≡ None
       → (run_on real turns other).wrong ≡ None
@@ -223,10 +236,34 @@ module _ (s : Scenario) (differ : NamesDiffer s) (group : ℕ → Bool) (apart :
         };
       }))
 
+  -- SIGNALS OF LEAVES INSIDE
+
+  submit_both : (ran alone : Ran) (x i : ℕ) → group x ≡ true → AreAlike ran alone
+      → GoesOn ran alone (submit_from x i ran ran.wrong) (submit_from x i alone alone.wrong)
+  submit_both ran alone x i inside h =
+      subst (λ o. GoesOn ran alone (submit_from x i ran o) (submit_from x i alone alone.wrong)) (sym h.right)
+      (subst (λ o. GoesOn ran alone (submit_from x i ran None) (submit_from x i alone o)) (sym h.right_alone)
+      (record {
+        lines = [];
+        shown = sym (append-nil ran.text);
+        shown_alone = sym (append-nil alone.text);
+        alike = record {
+          f = h.f;
+          same = inside_submitted group h.f ran.world alone.world h.same x inside i;
+          linked = submit_linked real ran.world x i h.linked;
+          linked_alone = submit_linked real alone.world x i h.linked_alone;
+          pays = submit_paid real ran.world x i h.pays;
+          pays_alone = submit_paid real alone.world x i h.pays_alone;
+          right = h.right;
+          right_alone = h.right_alone;
+        };
+      }))
+
   act_both : (ran alone : Ran) (x : ℕ) (a : Act) → group x ≡ true → (act_on real x a ran).wrong ≡ None → AreAlike ran alone
       → GoesOn ran alone (act_on real x a ran) (act_on real x a alone)
   act_both ran alone x (Turns n) inside ok h = turns_both ran alone x n inside ok h
   act_both ran alone x (Sets i n) inside ok h = set_both ran alone x i n inside h
+  act_both ran alone x (Submits i) inside ok h = submit_both ran alone x i inside h
 
   -- TURNS OF LEAVES OUTSIDE
 
@@ -269,10 +306,25 @@ module _ (s : Scenario) (differ : NamesDiffer s) (group : ℕ → Bool) (apart :
         right_alone = h.right_alone;
       })
 
+  submit_unseen : (ran alone : Ran) (x i : ℕ) → group x ≡ false → AreAlike ran alone → AreAlike (submit_from x i ran ran.wrong) alone
+  submit_unseen ran alone x i out h =
+      let u = outside_submitted group ran.world x i out in
+      subst (λ o. AreAlike (submit_from x i ran o) alone) (sym h.right) (record {
+        f = h.f;
+        same = unseen group h.f ran.world (submit ran.world x i) alone.world u.0 u.1 h.same;
+        linked = submit_linked real ran.world x i h.linked;
+        linked_alone = h.linked_alone;
+        pays = submit_paid real ran.world x i h.pays;
+        pays_alone = h.pays_alone;
+        right = h.right;
+        right_alone = h.right_alone;
+      })
+
   act_unseen : (ran alone : Ran) (x : ℕ) (a : Act) → group x ≡ false → (act_on real x a ran).wrong ≡ None → AreAlike ran alone
       → AreAlike (act_on real x a ran) alone
   act_unseen ran alone x (Turns n) out ok h = turns_unseen ran alone x n out ok h
   act_unseen ran alone x (Sets i n) out ok h = set_unseen ran alone x i n out h
+  act_unseen ran alone x (Submits i) out ok h = submit_unseen ran alone x i out h
 
   -- RUNS
 

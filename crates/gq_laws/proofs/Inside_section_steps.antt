@@ -1,5 +1,5 @@
 -- A step of a leaf inside in both worlds: requests that are accepted, replies, the end of `main`, and the step as a whole.
-use Rattle.std.proofs.Common.{◌≡◌, ◌≢◌, ℕ, suc, ◌==◌, ◌||◌, ◌&&◌, Bool, true, false, cond, List, [], ◌∷◌, map, Option, Some, None, Ok, refl, ap, sym, ◌∙◌}
+use Rattle.std.proofs.Common.{◌≡◌, ◌≢◌, ℕ, suc, ◌==◌, ◌||◌, ◌&&◌, Bool, true, false, cond, List, [], ◌∷◌, map, Option, Some, None, Ok, refl, ap, sym, ◌∙◌, zero}
 use Rattle.std.proofs.Common.{subst}
 use Rattle.std.proofs.lemmas.Option.{slice_get-map}
 use Rattle.std.specs.Prelude.{option_map, nat_lt, slice_get}
@@ -11,14 +11,15 @@ use Rattle.gq_model.specs.declared.phase.Phase.TheVariants.{Pending, Running, Bl
 use Rattle.gq_model.specs.declared.fault.Wrong.TheVariants.{WrongKind, ExceededQuota, MissingSection}
 use Rattle.gq_model.specs.machine.Program.{Statements, Done, Do, If, Loop, section_in, body_of, ◌then◌}
 use Rattle.gq_model.specs.machine.Scenario.{System, Component}
-use Rattle.gq_model.specs.machine.World.{Slot, Empty, Bytes, Pool, Waiting, Link, Session, Ask, Ask_open, Ask_upgrade, Ask_close, Ask_call, Request}
+use Rattle.gq_model.specs.machine.World.{Slot, Empty, Bytes, Pool, Waiting, Link, Session, Ask, Ask_open, Ask_upgrade, Ask_close, Ask_call, Request, Signal}
 use Rattle.gq_model.specs.machine.World.{Current, Round, Leaf, World}
 use Rattle.gq_model.specs.machine.World.{session_at, with_session, with_slot}
 use Rattle.gq_model.specs.machine.Sums.{paid}
 use Rattle.gq_model.specs.machine.Doing.{Doing, Quiet, Finished, Idle, Stepped, need, when, standing}
 use Rattle.gq_model.specs.machine.Memory.{buffer_of}
 use Rattle.gq_model.specs.machine.Requests.{free_place}
-use Rattle.gq_model.specs.machine.Step.{oldest, section_for, first_operands, accepted_as, beginning, accept, is_empty, all_empty, is_space_of, serving}
+use Rattle.gq_model.specs.machine.Step.{oldest, section_for, first_operands, accepted_as, beginning, accept, is_empty, all_empty, is_space_of, serving, serve}
+use Rattle.gq_model.specs.machine.Step.{first_signal, reacting_to}
 use Rattle.gq_model.specs.machine.Step.{replied, reply, no_link, exited, exit_of, main_ended, section_ended, body_ended, chosen, perform}
 use Rattle.gq_model.specs.machine.Step.{accept_oldest, step_in, step_of, next}
 use Rattle.gq_laws.specs.Session_links.{outline, outline_in, AreLinked, IsLinkedWorld, links}
@@ -210,25 +211,27 @@ module _ (group : ℕ → Bool) (f : ℕ → ℕ) (d : Doing) (v : World) (t : T
 
   -- THE END OF A SECTION
 
-  both_main : (provides : Option (List ℕ)) → Both K (main_ended d provides) (main_ended e provides)
-  both_main (Some service) = both_give K _ _ Quiet (stand (serving d.leaf))
-  both_main None = both_when K (no_link d.leaf.slots) (no_link e.leaf.slots) WrongKind WrongKind (Ok (exit_of d, Finished)) (Ok (exit_of e, Finished))
+  both_main : (provides : Option (List ℕ)) (signals : ℕ) → Both K (main_ended d provides signals) (main_ended e provides signals)
+  both_main (Some service) signals = both_give K _ _ Quiet (stand (serving d.leaf))
+  both_main None (suc n) = both_give K _ _ Quiet (stand (serving d.leaf))
+  both_main None zero = both_when K (no_link d.leaf.slots) (no_link e.leaf.slots) WrongKind WrongKind (Ok (exit_of d, Finished)) (Ok (exit_of e, Finished))
       (λ i. links_same d.leaf.slots ∙ i) (both_give K (exit_of d) (exit_of e) Finished
       (same_released group f (standing d (exited d.leaf)) (standing e (exited e.leaf)) d.component.node.name d.system.components (stand (exited d.leaf))))
 
-  both_section : (current : Option Current) → d.leaf.current ≡ current
-      → Both K (section_ended d current) (section_ended e (option_map (renamed_current f) current))
-  both_section None at = both_main d.component.node.provides
-  both_section (Some g) at =
+  both_section : (current : Option Current) (reacting : Option ℕ) → d.leaf.current ≡ current
+      → Both K (section_ended d current reacting) (section_ended e (option_map (renamed_current f) current) reacting)
+  both_section None None at = both_main d.component.node.provides d.component.node.signals
+  both_section None (Some i) at = both_give K _ _ Quiet (stand (serving d.leaf))
+  both_section (Some g) reacting at =
       let o = current_own group f d v t linked linked_v apart inside pays h g at in
-      subst (λ p. Both K (need p WrongKind (reply d g.session g.section)) (section_ended e (Some (renamed_current f g))))
+      subst (λ p. Both K (need p WrongKind (reply d g.session g.section)) (section_ended e (Some (renamed_current f g)) reacting))
       (sym (own_there group (session_at d.world g.session) o.0 o.1))
       (subst (λ p. Both K (reply d g.session g.section o.0) (need p WrongKind (reply e (f g.session) g.section)))
       (sym (own_there group (session_at v (f g.session)) (renamed_session f o.0) (h.sessions.there g.session o.0 o.1)))
       (both_reply g at o.0 o.1 g.section))
 
   both_body : (loops : List Round) → Both K (body_ended d loops) (body_ended e loops)
-  both_body [] = both_section d.leaf.current refl
+  both_body [] = both_section d.leaf.current d.leaf.reacting refl
   both_body (r ∷ loops) = by (nat_lt (suc r.round) r.count)
     where
       by : (b : Bool)
@@ -251,7 +254,8 @@ module _ (group : ℕ → Bool) (f : ℕ → ℕ) (d : Doing) (v : World) (t : T
     both_perform : (todo : Statements) → Both K (perform d todo) (perform e todo)
     both_perform Done = both_body d.leaf.loops
     both_perform (Do i rest) = both_instruct group f (record d { leaf = record d.leaf { todo = rest } }) v
-        (record { old = t.old; there = t.there; slots = t.slots; phase = t.phase; current = t.current }) linked linked_v apart inside pays h fresh i
+        (record { old = t.old; there = t.there; slots = t.slots; phase = t.phase; current = t.current; reacting = t.reacting }) linked linked_v apart inside
+        pays h fresh i
     both_perform (If arm other rest) =
         both_pop K d.leaf.operands (λ a below. Ok (standing d (record d.leaf { operands = below; todo = chosen a arm other then rest }), Quiet))
         (λ a below. Ok (standing e (record e.leaf { operands = below; todo = chosen a arm other then rest }), Quiet))
@@ -260,11 +264,21 @@ module _ (group : ℕ → Bool) (f : ℕ → ℕ) (d : Doing) (v : World) (t : T
         let entered : Round = record { round = 0; count = count; body = body; rest = rest } in
         both_give K _ _ Quiet (stand (record d.leaf { todo = body; loops = entered ∷ d.leaf.loops }))
 
+    both_serve : (found : Option (ℕ × List Signal)) → Both K (serve d found) (serve e found)
+    both_serve None = oldest_by (oldest d.world d.x d.world.requests) (oldest v d.x v.requests) refl (matched group d.x inside f d.world v h)
+    both_serve (Some p) = by (section_in (Reacting p.0) d.component.node.program.sections)
+      where
+        by : (o : Option Statements)
+            → Both K (need o MissingSection (λ body. Ok (standing d (reacting_to d.leaf p.0 p.1 body), Quiet)))
+            (need o MissingSection (λ body. Ok (standing e (reacting_to e.leaf p.0 p.1 body), Quiet)))
+        by None = one_fails K MissingSection _
+        by (Some body) = both_give K _ _ Quiet (stand (reacting_to d.leaf p.0 p.1 body))
+
     both_step : (phase : Phase) → Both K (step_in d phase) (step_in e phase)
     both_step Pending = both_give K d.world v Idle h
     both_step Running = both_perform d.leaf.todo
     both_step Blocked = both_give K d.world v Idle h
-    both_step Serving = oldest_by (oldest d.world d.x d.world.requests) (oldest v d.x v.requests) refl (matched group d.x inside f d.world v h)
+    both_step Serving = both_serve (first_signal d.leaf.signals)
     both_step Handling = both_perform d.leaf.todo
     both_step Exited = both_give K d.world v Idle h
 
@@ -275,7 +289,7 @@ module _ (system : System) (group : ℕ → Bool) (f : ℕ → ℕ) (w v : World
       → Both (IsSame group f) (step_of system w x c leaf) (step_of system v x c (option_map (renamed_leaf f) leaf))
   next_by (Some c) (Some leaf) at =
       both_step group f (record { system = system; world = w; x = x; component = c; leaf = record leaf { steps = suc leaf.steps } }) v
-      (record { old = leaf; there = at; slots = refl; phase = refl; current = refl }) linked linked_v apart inside pays h fresh leaf.phase
+      (record { old = leaf; there = at; slots = refl; phase = refl; current = refl; reacting = refl }) linked linked_v apart inside pays h fresh leaf.phase
   next_by (Some c) None at = both_give (IsSame group f) w v Idle h
   next_by None leaf at = both_give (IsSame group f) w v Idle h
 

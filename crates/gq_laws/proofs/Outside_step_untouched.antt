@@ -4,7 +4,7 @@ use Rattle.std.proofs.Common.{Some, None, Ok, refl, ap, sym, ◌∙◌, subst}
 use Rattle.std.specs.Prelude.{is_some, slice_get, slice_set}
 use Rattle.std.proofs.lemmas.Bool.Decides.{eqb_tells}
 use Rattle.std.proofs.lemmas.Bool.{true≢false}
-use Rattle.gq_model.specs.machine.Program.{Statements, Done, Do, If, Loop}
+use Rattle.gq_model.specs.machine.Program.{Statements, Done, Do, If, Loop, section_in}
 use Rattle.gq_model.specs.declared.program.OperandSlot.{OperandSlot}
 use Rattle.gq_model.specs.declared.program.OperandSlot.TheVariants.{Own, Shared, Object}
 use Rattle.gq_model.specs.declared.program.Instruction.{Instruction}
@@ -14,9 +14,10 @@ use Rattle.gq_model.specs.declared.section.Section.{Section}
 use Rattle.gq_model.specs.declared.section.Section.TheVariants.{Main, Opening, Upgrading, Calling, Closing, Reacting}
 use Rattle.gq_model.specs.declared.phase.Phase.{Phase}
 use Rattle.gq_model.specs.declared.phase.Phase.TheVariants.{Pending, Running, Blocked, Serving, Handling, Exited}
-use Rattle.gq_model.specs.declared.fault.Wrong.TheVariants.{WrongKind, ExceededQuota}
+use Rattle.gq_model.specs.declared.fault.Wrong.TheVariants.{WrongKind, ExceededQuota, MissingSection}
 use Rattle.gq_model.specs.machine.Scenario.{System, Component}
 use Rattle.gq_model.specs.machine.World.{Slot, Empty, Bytes, Pool, Link, Waiting, SlotId, In_leaf, In_session, In_object, Session, Ask, Ask_open, Ask_upgrade}
+use Rattle.gq_model.specs.machine.World.{Signal}
 use Rattle.gq_model.specs.machine.World.{Ask_close, Ask_call, Request, Current, Round, Leaf, World, joined, session_at, slot_at, with_leaf, with_slot}
 use Rattle.gq_model.specs.machine.World.{slot_id_of}
 use Rattle.gq_model.specs.machine.Sums.{paid}
@@ -24,6 +25,7 @@ use Rattle.gq_model.specs.machine.Doing.{Doing, Event, Quiet, Stepped, fill, sta
 use Rattle.gq_model.specs.machine.Memory.{behind, bytes_slot_id, bytes_in, bytes_at, pool_in, pool_at, make, free, is_memory, is_kept}
 use Rattle.gq_model.specs.machine.Requests.{free_place, new_session, asked, link_in, link_at, open_session, upgrade, call, close}
 use Rattle.gq_model.specs.machine.Step.{instruct, is_to, kept_before, oldest, accepted_as, accept, all_empty, serving, replied, reply_close, reply, is_named}
+use Rattle.gq_model.specs.machine.Step.{serve, first_signal}
 use Rattle.gq_model.specs.machine.Step.{released}
 use Rattle.gq_model.specs.machine.Step.{all_released, exited, exit_of, main_ended, section_ended, body_ended, perform, accept_oldest, step_in, step_of, next}
 use Rattle.gq_model.proofs.Small_facts.{some_same, none_some}
@@ -386,16 +388,18 @@ module _ (group : ℕ → Bool) where
             by true e = absurd (true≢false (sym inside ∙ (apart.afters y d.x c d.component placed component e ∙ out)))
             by false e = refl
 
-    main_ends : (provides : Option (List ℕ)) → Ends K (main_ended d provides)
-    main_ends (Some service) = gives _ _ (stands _)
-    main_ends None = when_ends K _ _ _ (gives _ _ exit_kept)
+    main_ends : (provides : Option (List ℕ)) (signals : ℕ) → Ends K (main_ended d provides signals)
+    main_ends (Some service) signals = gives _ _ (stands _)
+    main_ends None (suc n) = gives _ _ (stands _)
+    main_ends None zero = when_ends K _ _ _ (gives _ _ exit_kept)
 
-    section_ends : (current : Option Current) → d.leaf.current ≡ current → Ends K (section_ended d current)
-    section_ends None e = main_ends d.component.node.provides
-    section_ends (Some g) e = need_found K (session_at d.world g.session) _ _ (λ s there. reply_ends g e s there g.section)
+    section_ends : (current : Option Current) (reacting : Option ℕ) → d.leaf.current ≡ current → Ends K (section_ended d current reacting)
+    section_ends None None e = main_ends d.component.node.provides d.component.node.signals
+    section_ends None (Some i) e = gives _ _ (stands _)
+    section_ends (Some g) reacting e = need_found K (session_at d.world g.session) _ _ (λ s there. reply_ends g e s there g.section)
 
     body_ends : (loops : List Round) → Ends K (body_ended d loops)
-    body_ends [] = section_ends d.leaf.current refl
+    body_ends [] = section_ends d.leaf.current d.leaf.reacting refl
     body_ends (r ∷ loops) = gives _ _ (stands _)
 
   module _ (d : Doing) (t : TakesLeaf d) (h : AreLinked d.system (links d.world)) (apart : IsApart d.system group) (out : group d.x ≡ false)
@@ -406,7 +410,7 @@ module _ (group : ℕ → Bool) where
     perform_ends : (todo : Statements) → Ends Kept (perform d todo)
     perform_ends Done = body_ends d t h apart out component d.leaf.loops
     perform_ends (Do i rest) = instruct_ends (record d { leaf = record d.leaf { todo = rest } })
-        (record { old = t.old; there = t.there; slots = t.slots; phase = t.phase; current = t.current }) h apart out component i
+        (record { old = t.old; there = t.there; slots = t.slots; phase = t.phase; current = t.current; reacting = t.reacting }) h apart out component i
     perform_ends (If arm other rest) = pop_ends Kept _ _ (λ a below. gives _ _ (stands d t h apart out component _))
     perform_ends (Loop count body rest) = gives _ _ (stands d t h apart out component _)
 
@@ -414,11 +418,16 @@ module _ (group : ℕ → Bool) where
     oldest_ends None e = gives _ _ (kept_self group d.world)
     oldest_ends (Some p) e = accept_ends d t h apart out component p e
 
+    serve_ends : (found : Option (ℕ × List Signal)) → Ends Kept (serve d found)
+    serve_ends None = oldest_ends (oldest d.world d.x d.world.requests) refl
+    serve_ends (Some p) = need_ends Kept (section_in (Reacting p.0) d.component.node.program.sections) MissingSection _
+        (λ body. gives _ _ (stands d t h apart out component _))
+
     step_ends : (phase : Phase) → Ends Kept (step_in d phase)
     step_ends Pending = gives _ _ (kept_self group d.world)
     step_ends Running = perform_ends d.leaf.todo
     step_ends Blocked = gives _ _ (kept_self group d.world)
-    step_ends Serving = oldest_ends (oldest d.world d.x d.world.requests) refl
+    step_ends Serving = serve_ends (first_signal d.leaf.signals)
     step_ends Handling = perform_ends d.leaf.todo
     step_ends Exited = gives _ _ (kept_self group d.world)
 
@@ -426,7 +435,7 @@ module _ (group : ℕ → Bool) where
       → group x ≡ false → slice_get system.components x ≡ c → slice_get w.leaves x ≡ leaf → Ends (IsKept group w) (step_of system w x c leaf)
   next_by system w x (Some c) (Some leaf) h apart out component there =
       step_ends (record { system = system; world = w; x = x; component = c; leaf = record leaf { steps = suc leaf.steps } })
-      (record { old = leaf; there = there; slots = refl; phase = refl; current = refl }) h apart out component leaf.phase
+      (record { old = leaf; there = there; slots = refl; phase = refl; current = refl; reacting = refl }) h apart out component leaf.phase
   next_by system w x (Some c) None h apart out component there = gives _ _ (kept_self group w)
   next_by system w x None leaf h apart out component there = gives _ _ (kept_self group w)
 

@@ -159,15 +159,17 @@ module _ (group : ℕ → Bool) where
     same_active w v x g inside h =
         subst (λ o. Alike (unblocked w x g) (active_again v x g o)) (sym (h.leaves x inside)) (by (slice_get w.leaves x))
       where
-        resumes : (current : Option Current) → resumed (option_map (renamed_current f) current) ≡ resumed current
-        resumes None = refl
-        resumes (Some current) = refl
+        resumes : (current : Option Current) (reacting : Option ℕ) → resumed (option_map (renamed_current f) current) reacting ≡ resumed current reacting
+        resumes None None = refl
+        resumes None (Some i) = refl
+        resumes (Some current) reacting = refl
 
         by : (o : Option Leaf) → Alike (active_again w x g o) (active_again v x g (option_map (renamed_leaf f) o))
         by None = h
         by (Some leaf) =
             subst (λ phase. Alike (active_again w x g (Some leaf)) (with_leaf v x (record (renamed_leaf f leaf) { phase = phase; operands = g leaf.operands })))
-            (sym (resumes leaf.current)) (same_leaf w v x (record leaf { phase = resumed leaf.current; operands = g leaf.operands }) h)
+            (sym (resumes leaf.current leaf.reacting)) (same_leaf w v x
+            (record leaf { phase = resumed leaf.current leaf.reacting; operands = g leaf.operands }) h)
 
     pub same_released : (w v : World) (name : List ℕ) (cs : List Component) → Alike w v
         → Alike (record w { leaves = all_released name cs w.leaves }) (record v { leaves = all_released name cs v.leaves })

@@ -1,13 +1,13 @@
 -- Turns of leaves outside, and settings of their inputs, leave a group that is apart untouched.
 use Rattle.std.proofs.Common.{◌≡◌, ℕ, zero, suc, Bool, false, [], ◌∷◌, Option, Some, None, Ok, Err, refl, ◌∙◌}
 use Rattle.gq_model.specs.declared.act.Act.{Act}
-use Rattle.gq_model.specs.declared.act.Act.TheVariants.{Turns, Sets}
+use Rattle.gq_model.specs.declared.act.Act.TheVariants.{Turns, Sets, Submits}
 use Rattle.gq_model.specs.machine.Scenario.{System, Scenario, system}
 use Rattle.gq_model.specs.machine.World.{World}
 use Rattle.gq_model.specs.declared.fault.Wrong.{Wrong}
 use Rattle.gq_model.specs.machine.Doing.{Stepped}
 use Rattle.gq_model.specs.machine.Step.{next}
-use Rattle.gq_model.specs.machine.Run.{Ran, Acts, after_step, turn_from, turns_of, set_from, act_on, run_on, run}
+use Rattle.gq_model.specs.machine.Run.{Ran, Acts, after_step, turn_from, turns_of, set_from, submit_from, act_on, run_on, run}
 use Rattle.gq_laws.specs.Session_links.{IsLinkedWorld}
 use Rattle.gq_laws.proofs.session_links.Linked_worlds.{kept_linked}
 use Rattle.gq_laws.proofs.upheld_worlds.Any_reached_world.{reached_linked}
@@ -15,8 +15,8 @@ use Rattle.gq_laws.specs.Separation.{IsApart, IsUntouched, SameRequests, AreOuts
 use Rattle.gq_laws.proofs.Outside_changes_untouched.{kept_self}
 use Rattle.gq_laws.proofs.Outside_step_untouched.{step_untouched, step_requests}
 use Rattle.gq_laws.proofs.Group_account_sums.{same_accounts}
-use Rattle.gq_laws.proofs.input_settings.Setting_keeps_invariants.{set_linked}
-use Rattle.gq_laws.proofs.input_settings.Group_input_settings.{outside_kept}
+use Rattle.gq_laws.proofs.input_settings.Setting_keeps_invariants.{set_linked, submit_linked}
+use Rattle.gq_laws.proofs.input_settings.Group_input_settings.{outside_kept, outside_submitted}
 
 module _ (real : System) (group : ℕ → Bool) (apart : IsApart real group) (old : World) where
   -- a run has come to a linked world in which the group is as it was
@@ -54,9 +54,21 @@ module _ (real : System) (group : ℕ → Bool) (apart : IsApart real group) (ol
       }
   set_by ran x i n (Some p) out h = h
 
+  -- a signal of a leaf outside
+  submit_by : (ran : Ran) (x i : ℕ) (o : Option (ℕ × Wrong)) → group x ≡ false → IsStill ran → IsStill (submit_from x i ran o)
+  submit_by ran x i None out h =
+      let u = outside_submitted group ran.world x i out in
+      record {
+        linked = submit_linked real ran.world x i h.linked;
+        still = record { leaves = λ y inside. u.0.leaves y inside ∙ h.still.leaves y inside; sessions = λ k. u.0.sessions k ∙ h.still.sessions k };
+        requests = u.1 ∙ h.requests;
+      }
+  submit_by ran x i (Some p) out h = h
+
   by_act : (ran : Ran) (x : ℕ) (a : Act) → group x ≡ false → IsStill ran → IsStill (act_on real x a ran)
   by_act ran x (Turns n) out h = some_turns ran x n out h
   by_act ran x (Sets i n) out h = set_by ran x i n ran.wrong out h
+  by_act ran x (Submits i) out h = submit_by ran x i ran.wrong out h
 
   pub all_turns : (ran : Ran) (more : Acts) → AreOutside group more → IsStill ran → IsStill (run_on real more ran)
   all_turns ran [] out h = h

@@ -7,7 +7,9 @@ pub mod No_blocked_deadlock
 pub mod No_pending_deadlock
 pub mod No_deadlock
 -- steps are added up
+pub mod Signals_left
 pub mod Work_ends
 pub mod Run_turn_composition
+pub mod Reactions_bounded
 -- worked examples
 mod Progress_rows

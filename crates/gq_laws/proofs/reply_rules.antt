@@ -3,5 +3,6 @@
 -- A close ends the session; each other reply leaves it with its slots as they are.
 pub mod Ruled_section_end
 pub mod Ruled_section_start
+pub mod Ruled_reaction_start
 pub mod World_after_reply
 pub mod Stance_after_reply

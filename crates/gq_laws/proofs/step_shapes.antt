@@ -4,6 +4,7 @@
 pub mod Step_end_shapes
 pub mod Step_end_worlds
 pub mod Step_change_shapes
+pub mod Signal_lists
 pub mod Step_counting
 pub mod Whole_worlds
 pub mod Number_sums

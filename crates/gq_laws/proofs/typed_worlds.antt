@@ -9,6 +9,7 @@ pub mod Taken_request_typed
 pub mod Accepted_request_typed
 pub mod Start_typed
 pub mod Main_end_typed
+pub mod Taken_signal_typed
 pub mod Typed_world_step
 pub mod Accepted_run_typed
 pub mod Asked_worlds

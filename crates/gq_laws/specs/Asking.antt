@@ -60,6 +60,7 @@ pub record Awaits (promised : ℕ → Option Kind) (c : Context) (state : Abstra
   pub todo : leaf.todo ≡ d.leaf.todo
   pub loops : leaf.loops ≡ d.leaf.loops
   pub current : leaf.current ≡ d.leaf.current
+  pub reacting : leaf.reacting ≡ d.leaf.reacting
   pub phase : leaf.phase ≡ Blocked
   -- the request is the last
   pub ask : Ask

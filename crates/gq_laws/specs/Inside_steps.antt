@@ -41,6 +41,7 @@ pub record TakesLeaf (d : Doing) : Type 0 where
   pub slots : d.leaf.slots ≡ old.slots
   pub phase : d.leaf.phase ≡ old.phase
   pub current : d.leaf.current ≡ old.current
+  pub reacting : d.leaf.reacting ≡ old.reacting
 
 -- no slot that the leaf can name waits for a reply
 abbrev pub IsAwake : Doing → Type 0
@@ -66,6 +67,7 @@ pub record StandsAt (promised : ℕ → Option Kind) (c : Context) (state : Abst
   pub todo : leaf.todo ≡ d.leaf.todo
   pub loops : leaf.loops ≡ d.leaf.loops
   pub current : leaf.current ≡ d.leaf.current
+  pub reacting : leaf.reacting ≡ d.leaf.reacting
   pub phase : leaf.phase ≡ d.leaf.phase
 
 -- a leaf at the start of `main` stands where the rules start, if its program has 8 locals
@@ -89,6 +91,7 @@ pub record LeadsOn (promised : ℕ → Option Kind) (c : Context) (old end : Abs
   pub moves : Moves c old d.leaf.todo d.leaf.loops state leaf.todo leaf.loops
   pub goes_on : Continues c state leaf.todo leaf.loops end
   pub current : leaf.current ≡ d.leaf.current
+  pub reacting : leaf.reacting ≡ d.leaf.reacting
   pub phase : leaf.phase ≡ d.leaf.phase
 
 -- what comes next is a statement in range that asks nothing of a session, a choice, a loop that has a round, or the end of a body

@@ -26,6 +26,8 @@ pub mod Room
 pub mod Leaf_phases
 -- how work goes on, and ends
 pub mod Progress
+-- what follows signals from a world at rest on
+pub mod Reactions
 -- groups that are apart: no turn of the rest changes anything of them
 pub mod Separation
 -- what is seen of a group, and its turns alone

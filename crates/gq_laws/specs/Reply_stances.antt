@@ -21,7 +21,7 @@ pub record HasEnded (promised : ℕ → Option Kind) (c : Context) (state : Abst
   pub at_current : d.leaf.current ≡ Some current
   pub there : session_at d.world current.session ≡ Some s
   pub event : Event
-  pub ended : section_ended d d.leaf.current ≡ Ok (w, event)
+  pub ended : section_ended d d.leaf.current d.leaf.reacting ≡ Ok (w, event)
 
 -- WHAT THE WORLD IS
 
@@ -70,7 +70,7 @@ session_then (In_object k) slot j s = s
 
 -- a leaf that goes on, with these operands and slots
 abbrev pub resuming : Leaf → List ℕ → List Slot → Leaf
-resuming leaf operands slots = record leaf { phase = resumed leaf.current; operands = operands; slots = slots }
+resuming leaf operands slots = record leaf { phase = resumed leaf.current leaf.reacting; operands = operands; slots = slots }
 
 -- the server waits for a request, the client has the reply, and all others are as they were
 pub record Replies (promised : ℕ → Option Kind) (c : Context) (state : AbstractState) (d : Doing) (current : Current) (s : Session) (w : World) : Type 0 where

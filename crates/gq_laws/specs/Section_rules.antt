@@ -1,16 +1,17 @@
 -- Starts and ends of sections that the rules allow.
-use Rattle.std.specs.Prelude.{◌≡◌, ℕ, List, [], length, Option, Some, Ok, Err, slice_get}
+use Rattle.std.specs.Prelude.{◌≡◌, ℕ, List, [], length, Option, Some, None, Ok, Err, slice_get}
 use Rattle.gq_model.specs.declared.program.Form.TheVariants.{Slice}
 use Rattle.gq_model.specs.declared.section.Section.{Section}
+use Rattle.gq_model.specs.declared.section.Section.TheVariants.{Reacting}
 use Rattle.gq_model.specs.declared.phase.Phase.TheVariants.{Handling}
 use Rattle.gq_model.specs.machine.Program.{Statements, section_in}
 use Rattle.gq_model.specs.machine.Scenario.{interface_in, number_of}
 use Rattle.gq_model.specs.rules.Use.{subject}
-use Rattle.gq_model.specs.machine.World.{Slot, Session, Ask, Ask_open, Request, Leaf, World, session_at}
+use Rattle.gq_model.specs.machine.World.{Slot, Session, Ask, Ask_open, Request, Signal, Leaf, World, session_at}
 use Rattle.gq_model.specs.declared.fault.Wrong.{Wrong}
 use Rattle.gq_model.specs.declared.fault.Wrong.TheVariants.{ExceededQuota}
 use Rattle.gq_model.specs.machine.Doing.{Doing}
-use Rattle.gq_model.specs.machine.Step.{section_for, accept, section_ended, level_then}
+use Rattle.gq_model.specs.machine.Step.{section_for, accept, take_signal, section_ended, level_then}
 use Rattle.gq_model.specs.rules.Kinds.{Kind, Memory, AbstractState, Subject, Context}
 use Rattle.gq_model.specs.rules.Flow.{context, body, own_after, bank_before, start_of, section_end}
 use Rattle.gq_laws.specs.Typed.{IsKind, AreKinds, Meets}
@@ -23,7 +24,7 @@ use Rattle.gq_laws.specs.Asking.{IsWithin}
 abbrev pub EndsAsRuled : (ℕ → Option Kind) → Context → Doing → Type 0
 EndsAsRuled promised c d =
     (state last : AbstractState) (wrong : Wrong) → Meets promised c state d.world d.leaf → section_end c.subject c.section state ≡ Ok last
-    → section_ended d d.leaf.current ≡ Err wrong → wrong ≡ ExceededQuota
+    → section_ended d d.leaf.current d.leaf.reacting ≡ Err wrong → wrong ≡ ExceededQuota
 
 -- STARTS
 
@@ -50,6 +51,7 @@ pub record Begins (promised : ℕ → Option Kind) (v : Subject) (section : Sect
   pub todo : leaf.todo ≡ body v section
   pub loops : leaf.loops ≡ []
   pub current : leaf.current ≡ Some (record { session = r.session; section = section })
+  pub reacting : leaf.reacting ≡ d.leaf.reacting
   pub phase : leaf.phase ≡ Handling
 
 -- a request that is taken up is not wrong, but for want of quota, and the leaf stands at the start of the section that it asks for
@@ -57,3 +59,27 @@ abbrev pub BeginsAsRuled : (ℕ → Option Kind) → Doing → Type 0
 BeginsAsRuled promised d =
     (r : Request) (rest : List Request) (s : Session) → length d.component.node.program.locals ≡ 8 → IsAtRest promised (subject d.system d.component) d r s
     → IsSafe (Begins promised (subject d.system d.component) (section_for r.ask (level_then r.ask s.level)) d r) (accept d r rest)
+
+-- the leaf stands where the rules start the section for a signal, with all of its statements left
+pub record Reacts (promised : ℕ → Option Kind) (v : Subject) (i : ℕ) (taken : List Signal) (d : Doing) (w : World) : Type 0 where
+  pub leaf : Leaf
+  pub there : slice_get w.leaves d.x ≡ Some leaf
+  pub meets : Meets promised (context v (Reacting i)) (start_of v (Reacting i)) w leaf
+  pub todo : leaf.todo ≡ body v (Reacting i)
+  pub loops : leaf.loops ≡ []
+  pub current : leaf.current ≡ None
+  pub reacting : leaf.reacting ≡ Some i
+  pub phase : leaf.phase ≡ Handling
+  pub signals : leaf.signals ≡ taken
+
+-- a leaf without a current request, whose own slots are as `main` left them, takes a signal for which it has a section
+pub record IsReadyFor (promised : ℕ → Option Kind) (v : Subject) (i : ℕ) (d : Doing) : Type 0 where
+  pub own : AreKinds promised d.leaf.slots (own_after v)
+  pub current : d.leaf.current ≡ None
+  pub body : (list : Statements) × (section_in (Reacting i) v.program.sections ≡ Some list)
+
+-- a signal that is taken is never wrong, and the leaf stands at the start of the section for it
+abbrev pub ReactsAsRuled : (ℕ → Option Kind) → Doing → Type 0
+ReactsAsRuled promised d =
+    (i : ℕ) (signals : List Signal) → length d.component.node.program.locals ≡ 8 → IsReadyFor promised (subject d.system d.component) i d
+    → IsSafe (Reacts promised (subject d.system d.component) i signals d) (take_signal d i signals)

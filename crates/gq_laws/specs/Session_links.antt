@@ -138,18 +138,17 @@ IsAt (Reacting i) level = ⊥
 abbrev pub Handles : Links → ℕ → Current → Type 0
 Handles l x current = (s : Session) × (l.sessions current.session ≡ Some s) × (s.server ≡ x) × (s.accepted ≡ true) × IsAt current.section s.level
 
--- a leaf has a current request where it handles it, or waits in its midst for a reply
+-- a leaf has a current request where it handles it, or waits in its midst for a reply; one that handles a signal has none
 abbrev pub Fits : Phase → Option Current → Type 0
 Fits Pending None = Unit {0}
 Fits Running None = Unit {0}
 Fits Blocked current = Unit {0}
 Fits Serving None = Unit {0}
-Fits Handling (Some current) = Unit {0}
+Fits Handling current = Unit {0}
 Fits Exited None = Unit {0}
 Fits Pending (Some current) = ⊥
 Fits Running (Some current) = ⊥
 Fits Serving (Some current) = ⊥
-Fits Handling None = ⊥
 Fits Exited (Some current) = ⊥
 
 pub record AreLinked (system : System) (l : Links) : Type 0 where

@@ -21,10 +21,12 @@ abbrev pub IsWholeSession : ℕ → Option Session → Type 0
 IsWholeSession n None = Unit {0}
 IsWholeSession n (Some s) = (length s.slots ≡ 8) × (s.client < n) × (s.server < n)
 
--- there is a leaf for each component, with inputs that it may have; leaves and sessions are whole
+-- there is a leaf for each component, with inputs that it may have, and as many signals as it has; leaves and sessions are whole
 pub record IsWholeWorld (system : System) (w : World) : Type 0 where
   pub count : length w.leaves ≡ length system.components
   pub leaves : Each IsWholeLeaf w.leaves
   pub inputs : (x : ℕ) (c : Component) (leaf : Leaf) → slice_get system.components x ≡ Some c → slice_get w.leaves x ≡ Some leaf
       → AreInputs c.node.inputs leaf.inputs
+  pub signals : (x : ℕ) (c : Component) (leaf : Leaf) → slice_get system.components x ≡ Some c → slice_get w.leaves x ≡ Some leaf
+      → length leaf.signals ≡ c.node.signals
   pub sessions : Each (IsWholeSession (length system.components)) w.sessions

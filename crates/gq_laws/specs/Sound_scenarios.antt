@@ -15,6 +15,8 @@ pub record IsWellFormed (s : Scenario) : Type 0 where
   -- a service counts the resources that the scenario counts, and has at most 3 upgrades
   pub counted : (service : List ℕ) (i : Interface) → interface_in service s.interfaces ≡ Some i → i.counted ≡ counted_in s.version
   pub upgrades : (service : List ℕ) (i : Interface) → interface_in service s.interfaces ≡ Some i → length i.upgrades ≤ 3
+  -- a leaf has at most 3 signals
+  pub signals : (x : ℕ) (c : Component) → slice_get (components s) x ≡ Some c → c.node.signals ≤ 3
 
 -- it is accepted, too
 pub record IsSound (s : Scenario) : Type 0 where

@@ -11,7 +11,7 @@ use Rattle.gq_laws.specs.Typing.{IsTypedBy}
 use Rattle.gq_laws.specs.internal.Remaining_instructions.{AreLeft, IsGood}
 use Rattle.gq_laws.specs.internal.Uncounted.{uncounted}
 use Rattle.gq_laws.specs.internal.Verified_holdings.{IsBounded, IsHeld}
-use Rattle.gq_laws.specs.internal.Section_counts.{IsCounted}
+use Rattle.gq_laws.specs.internal.Section_counts.{since_start, IsCounted}
 use Rattle.gq_laws.specs.internal.Init_quanta.{Fit}
 
 -- an invariant of worlds, which speaks of no turns
@@ -29,6 +29,6 @@ pub record Stands (s : Scenario) (w : World) : Type 0 where
   -- leaves and sessions hold and have lent no more than was verified
   pub held : IsHeld (uncounted (system s)) w
   -- the steps that were taken and those that are left are paid by how often sections were asked for
-  pub counted : IsCounted (system s) w
+  pub counted : IsCounted (since_start (system s)) (system s) w
   -- each init has handed out no more than it has
   pub fits : (r : Resource) → Fit r s w

@@ -1,29 +1,12 @@
 -- What a turn does to the leaf that takes it, and to no other.
-use Rattle.std.specs.Prelude.{◌≡◌, ℕ, suc, Bool, true, false, List, length, map, Option, Some, None, Ok, is_some, slice_get, slice_index, slice_set}
-use Rattle.gq_model.specs.machine.Scenario.{System, Component}
-use Rattle.gq_model.specs.machine.World.{Leaf, World}
+use Rattle.std.specs.Prelude.{◌≡◌, ℕ, suc, true, false, List, length, map, Option, Some, None, Ok, slice_get, slice_index, slice_set}
+use Rattle.gq_model.specs.machine.Scenario.{System}
+use Rattle.gq_model.specs.machine.World.{Signal, Leaf, World}
 use Rattle.gq_model.specs.declared.phase.Phase.{Phase}
-use Rattle.gq_model.specs.declared.phase.Phase.TheVariants.{Pending, Running, Blocked, Serving, Handling, Exited}
+use Rattle.gq_model.specs.declared.phase.Phase.TheVariants.{Serving}
 use Rattle.gq_model.specs.machine.Doing.{Event, Idle}
-use Rattle.gq_model.specs.machine.Step.{oldest, next}
-
--- a leaf that runs or handles a request can take a step, and one that serves if a request waits for it
-abbrev pub runs : World → ℕ → Phase → Bool
-runs w x Pending = false
-runs w x Running = true
-runs w x Blocked = false
-runs w x Serving = is_some (oldest w x w.requests)
-runs w x Handling = true
-runs w x Exited = false
-
-abbrev pub runs_as : World → ℕ → Option Component → Option Leaf → Bool
-runs_as w x (Some c) (Some leaf) = runs w x leaf.phase
-runs_as w x (Some c) None = false
-runs_as w x None leaf = false
-
--- the x-th leaf is there, and can take a step
-abbrev pub can_run : System → World → ℕ → Bool
-can_run system w x = runs_as w x (slice_get system.components x) (slice_get w.leaves x)
+use Rattle.gq_model.specs.machine.Step.{first_signal, next}
+use Rattle.gq_model.specs.machine.Rest.{can_run}
 
 -- a turn of a leaf that can not run changes nothing and shows nothing
 abbrev pub StandsStill : System → World → ℕ → Type 0
@@ -36,6 +19,25 @@ KeepsLeaves system w x = (new : World) (event : Event) → next system w x ≡ O
 -- the steps that each leaf has taken
 abbrev pub steps_of : World → List ℕ
 steps_of w = map (λ leaf. leaf.steps) w.leaves
+
+-- the signals of each leaf
+abbrev pub signals_of : World → List (List Signal)
+signals_of w = map (λ leaf. leaf.signals) w.leaves
+
+abbrev pub signals_if : List Signal → Option (ℕ × List Signal) → List Signal
+signals_if signals None = signals
+signals_if signals (Some p) = p.1
+
+-- those of a leaf after a step: one that serves takes the first that is submitted
+abbrev pub signals_then : Leaf → Phase → List Signal
+signals_then leaf Serving = signals_if leaf.signals (first_signal leaf.signals)
+signals_then leaf phase = leaf.signals
+
+-- a step changes the signals of no other leaf
+abbrev pub TakesSignals : System → World → ℕ → Type 0
+TakesSignals system w x =
+    (leaf : Leaf) (new : World) (event : Event) → can_run system w x ≡ true → slice_get w.leaves x ≡ Some leaf → next system w x ≡ Ok (new, event)
+    → signals_of new ≡ slice_set (signals_of w) x (signals_then leaf leaf.phase)
 
 -- a step raises that leaf's number by one, and no other's
 abbrev pub CountsSteps : System → World → ℕ → Type 0

@@ -5,6 +5,7 @@ use Rattle.gq_model.specs.declared.section.Section.{Section}
 use Rattle.gq_model.specs.machine.Amounts.{Amount}
 use Rattle.gq_model.specs.machine.Scenario.{System, number_of}
 use Rattle.gq_model.specs.machine.World.{Slot, Empty, Waiting, Bytes, Pool, Link, SlotId, Session, Current, Round, Leaf, World, session_at, slot_at}
+use Rattle.gq_model.specs.machine.World.{own_section}
 use Rattle.gq_model.specs.machine.Memory.{room, buffer_of}
 use Rattle.gq_model.specs.rules.Kinds.{Kind, Empty_kind, Memory, Pool_kind, Link_kind, AbstractState, Context}
 use Rattle.gq_model.specs.machine.Sections.{is_own_section}
@@ -61,10 +62,10 @@ AreCounts (r ∷ loops) [] = ⊥
 
 -- SECTIONS
 
--- `main` has no current request, and every other section a session of which it is a section
-abbrev pub IsCurrent : Section → Option Current → Type 0
-IsCurrent section None = section ≡ Main
-IsCurrent section (Some current) = (current.section ≡ section) × (is_own_section section ≡ false)
+-- a section of the leaf's own has no current request, and every other section a session of which it is a section
+abbrev pub IsCurrent : Section → Option Current → Option ℕ → Type 0
+IsCurrent section None reacting = section ≡ own_section reacting
+IsCurrent section (Some current) reacting = (current.section ≡ section) × (is_own_section section ≡ false)
 
 -- the session's slots are of these kinds, and its object is a slice of so many bytes
 pub record BankMeets (promised : ℕ → Option Kind) (c : Context) (kinds : List Kind) (s : Session) : Type 0 where
@@ -79,7 +80,7 @@ CurrentMeets promised c kinds w (Some current) = (s : Session) × (session_at w 
 -- the leaf stands at the state
 pub record Meets (promised : ℕ → Option Kind) (c : Context) (state : AbstractState) (w : World) (leaf : Leaf) : Type 0 where
   pub own : AreKinds promised leaf.slots state.own
-  pub current : IsCurrent c.section leaf.current
+  pub current : IsCurrent c.section leaf.current leaf.reacting
   pub bank : CurrentMeets promised c state.bank w leaf.current
   pub operands : Under leaf.operands state.bounds
   pub locals : Under leaf.locals c.subject.program.locals

@@ -74,11 +74,11 @@ pub record IsInSection (promised : ℕ → Option Kind) (extra : Extra) (system 
 
 -- so a leaf stands by its phase; one that waits for a request has its slots as `main` left them, and one that has ended has none in use
 abbrev pub StandsBy : (ℕ → Option Kind) → Extra → System → World → ℕ → Component → Leaf → Phase → Type 0
-StandsBy promised extra system w x c leaf Pending = IsInSection promised extra system w x c leaf Pending (section_of leaf.current)
-StandsBy promised extra system w x c leaf Running = IsInSection promised extra system w x c leaf Running (section_of leaf.current)
-StandsBy promised extra system w x c leaf Blocked = IsInSection promised extra system w x c leaf Blocked (section_of leaf.current)
+StandsBy promised extra system w x c leaf Pending = IsInSection promised extra system w x c leaf Pending (section_of leaf.current leaf.reacting)
+StandsBy promised extra system w x c leaf Running = IsInSection promised extra system w x c leaf Running (section_of leaf.current leaf.reacting)
+StandsBy promised extra system w x c leaf Blocked = IsInSection promised extra system w x c leaf Blocked (section_of leaf.current leaf.reacting)
 StandsBy promised extra system w x c leaf Serving = AreKinds promised leaf.slots (own_after (subject system c))
-StandsBy promised extra system w x c leaf Handling = IsInSection promised extra system w x c leaf Handling (section_of leaf.current)
+StandsBy promised extra system w x c leaf Handling = IsInSection promised extra system w x c leaf Handling (section_of leaf.current leaf.reacting)
 StandsBy promised extra system w x c leaf Exited = leaf.slots ≡ replicate 64 Empty
 
 abbrev pub StandAll : (ℕ → Option Kind) → Extra → System → World → Type 0
@@ -105,7 +105,7 @@ pub record FitsService (promised : ℕ → Option Kind) (system : System) (w : W
 abbrev pub FitsRequest : System → World → Request → Type 0
 FitsRequest system w r =
     (s : Session) → session_at w r.session ≡ Some s → IsWithin system s.service r.ask
-    × (is_wanted (interface_in s.service system.interfaces) (section_for r.ask (level_then r.ask s.level)) ≡ true)
+    × (is_wanted (interface_in s.service system.interfaces) 0 (section_for r.ask (level_then r.ask s.level)) ≡ true)
 
 -- WORLDS
 

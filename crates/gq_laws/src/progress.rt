@@ -14,9 +14,10 @@ ghost use Rattle.gq_model.specs.machine.Run.{Acts};
 ///
 /// `runs`: a run over turns and settings of inputs ends in the world after all of them, one by one.
 ///
-/// `ends`: all work ends. Over any turns and settings from there on, at most as many are steps as are left of the leaves' budgets of steps, together.
+/// `ends`: all work ends. Over any turns, settings and signals from there on, at most as many are steps as are left of the leaves' budgets of steps, together,
+/// in the world after them.
 ///
-/// `rounds`: after as many rounds as the budgets of steps sum to, each with a turn of every leaf in any order, every leaf is at rest.
+/// `rounds`: after as many rounds without a signal as the budgets of steps sum to, each with a turn of every leaf in any order, every leaf is at rest.
 pub fn progress_laws()
     ensures goes_on { (s : Scenario) (w : World) → IsSound s → IsReached s w → GoesOn (system s) w }
     ensures runs { (s : Scenario) (acts : Acts) → IsSound s → RunsThrough (system s) acts }

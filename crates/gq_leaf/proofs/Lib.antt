@@ -13,3 +13,4 @@ pub mod Section_start_exit
 pub mod Leaf_frame_changes
 pub mod Instruction_step
 pub mod Leaves_stepping
+pub mod Signal_counts

@@ -6,7 +6,8 @@
 //! ```rust
 //! use gq_leaf::Leaf;
 //!
-//! let mut leaf = Leaf::new(alloc, &program, Phase::Running)?;
+//! // A leaf with two signals.
+//! let mut leaf = Leaf::new(alloc, &program, Phase::Running, 2)?;
 //! // Up to a thousand turns, or up to the first operation in which others have a part.
 //! let (reached, left) = leaf.run(1000);
 //! ```
@@ -30,7 +31,9 @@ pub mod memory_statements;
 pub mod on_memory;
 pub mod operations;
 mod section_ends;
+pub mod signals;
 pub mod step_laws;
 pub mod stepping;
 
 pub use leaf::{Leaf, Reached};
+pub use signals::{Signal, Signals};

@@ -2,3 +2,4 @@ mod Quiet_turn_runs
 mod Held_value_ownership
 mod Faulty_text_unloaded
 mod Loose_box_values
+pub mod Tour_turns

@@ -1,12 +1,14 @@
 -- Accounts and bounds, as C reads them.
-use Rattle.std.specs.Prelude.{◌≡◌, ℕ, Option, Some, None}
+use Rattle.std.specs.Prelude.{◌≡◌, ℕ, Option, Some, None, slice_index, sum}
 use Rattle.gq_model.specs.machine.Accounts.{LeafAccount}
-use Rattle.gq_model.specs.rules.Accept.{Budget}
+use Rattle.gq_model.specs.machine.Scenario.{Scenario}
+use Rattle.gq_model.specs.rules.Accept.{Budget, budgets, steps_of_signal}
 use Rattle.gq_model.specs.declared.phase.Phase.{Phase}
 use Rattle.gq_model.specs.declared.phase.Phase.TheVariants.{Pending, Running, Blocked, Serving, Handling, Exited}
 use Rattle.gq_output.specs.Account_values.{AccountValues}
 use Rattle.gq_library.specs.declared.account_structs.NodeAccount.{NodeAccount}
 use Rattle.gq_library.specs.declared.account_structs.LeafBounds.{LeafBounds}
+use Rattle.gq_library.specs.declared.account_structs.SignalBounds.{SignalBounds}
 
 -- the number of each phase
 abbrev pub phase_number : Phase → ℕ
@@ -46,4 +48,9 @@ pub record Reports (reported : NodeAccount) (a : AccountValues) : Type 0 where
 pub record ReportsBounds (reported : LeafBounds) (b : Budget) : Type 0 where
   pub own : reported.own ≡ b.own.ram
   pub own_caps : reported.own_caps ≡ b.own.caps
-  pub steps : reported.steps ≡ b.steps
+  pub steps : reported.steps ≡ b.steps.from_start
+
+-- what is reported of the bounds of a signal: the steps of its leaf, and those of all leaves together
+pub record ReportsReaction (reported : SignalBounds) (s : Scenario) (leaf signal : ℕ) : Type 0 where
+  pub steps : reported.steps ≡ slice_index (steps_of_signal leaf signal (budgets s)) leaf
+  pub all : reported.all ≡ sum (steps_of_signal leaf signal (budgets s))

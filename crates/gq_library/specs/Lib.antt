@@ -3,6 +3,7 @@ pub mod Held_world
 pub mod Loads
 pub mod Lookup
 pub mod C_settings
+pub mod C_signals
 pub mod Texts
 pub mod C_turns
 pub mod internal

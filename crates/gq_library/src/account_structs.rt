@@ -4,11 +4,14 @@ ghost use Rattle.gq_output.specs.Account_values.{reported_of};
 ghost use Rattle.gq_model.specs.rules.Accept.{budgets};
 ghost use Rattle.gq_resolve.specs.NodeTables.{node_rows};
 ghost use Rattle.gq_world.specs.Account_lines.{all_accounts};
-ghost use Rattle.gq_library.specs.C_accounts.{Reports, ReportsBounds, phase_number};
+ghost use Rattle.gq_model.specs.machine.Scenario.{components};
+ghost use Rattle.gq_library.specs.C_signals.{HasSignal};
+ghost use Rattle.gq_library.specs.C_accounts.{Reports, ReportsBounds, ReportsReaction, phase_number};
 
 use crate::result_codes::NONE;
 use gq_model::phase::Phase;
 use gq_scenario::node_numbers::NodeNo;
+use gq_scenario::scenario::LeafNo;
 use gq_world::world::World;
 
 /// The account of a node, in bytes, capabilities and steps: `trade_account`.
@@ -31,6 +34,14 @@ pub struct LeafBounds {
     pub own: u64,
     pub own_caps: u64,
     pub steps: u64,
+}
+
+/// The verified bounds of a signal, in steps: `trade_reaction`.
+#[repr(C)]
+#[derive(Drop)]
+pub struct SignalBounds {
+    pub steps: u64,
+    pub all: u64,
 }
 
 // The number of a phase.
@@ -94,7 +105,33 @@ pub(crate) fn read_bounds(world: &World, leaf: u32, reported: &mut LeafBounds) -
     *reported = LeafBounds {
         own: budget.own(),
         own_caps: budget.own_caps(),
-        steps: budget.steps(),
+        steps: budget.steps().from_start(),
     };
     true
+}
+
+// Reads the bounds of a signal of a leaf, if there are such a leaf and signal.
+pub(crate) fn read_reaction(
+    world: &World,
+    leaf: u32,
+    signal: u32,
+    reported: &mut SignalBounds,
+) -> bool
+    ensures reported { result ≡ true → ReportsReaction reported.new world.now.scenario leaf signal }
+    ensures there { (result ≡ true) ↔ HasSignal world.now.scenario leaf signal }
+    ensures stays { result ≡ false → reported.new ≡ reported.old }
+{
+    if world.table().leaf_count() <= leaf as usize {
+        return false;
+    }
+    match world.reaction(LeafNo::new(leaf), signal as usize) {
+        Some(reaction) => {
+            *reported = SignalBounds {
+                steps: reaction.steps,
+                all: reaction.all,
+            };
+            true
+        }
+        None => false,
+    }
 }

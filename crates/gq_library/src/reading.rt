@@ -1,16 +1,21 @@
-// What a world has: nodes and leaves, names, accounts and bounds.
-ghost use Rattle.std.specs.Prelude.{◌≡◌, ◌<◌, ◌≤◌, ◌↔◌, false, true, length, slice_get, None, IfSome};
+// What a world has: nodes and leaves, names, accounts and bounds; and whether it is at rest.
+ghost use Rattle.std.specs.Prelude.{◌≡◌, ◌<◌, ◌≤◌, ◌↔◌, false, true, not, length, slice_get, None, IfSome};
 ghost use Rattle.gq_output.specs.Account_values.{reported_of};
 ghost use Rattle.gq_model.specs.machine.Routes.{numbered};
 ghost use Rattle.gq_model.specs.machine.Scenario.{components};
 ghost use Rattle.gq_model.specs.rules.Accept.{budgets};
 ghost use Rattle.gq_resolve.specs.NodeTables.{IsNodeOf, node_rows};
 ghost use Rattle.gq_world.specs.Account_lines.{all_accounts};
-ghost use Rattle.gq_library.specs.C_accounts.{Reports, ReportsBounds};
+ghost use Rattle.gq_model.specs.machine.Rest.{some_can};
+ghost use Rattle.gq_model.specs.machine.Scenario.{system};
+ghost use Rattle.gq_library.specs.C_accounts.{Reports, ReportsBounds, ReportsReaction};
+ghost use Rattle.gq_library.specs.C_signals.{HasSignal};
 ghost use Rattle.gq_library.specs.Lookup.{number_or};
 ghost use Rattle.gq_library.specs.Texts.{IsPut};
 
-use crate::account_structs::{LeafBounds, NodeAccount, read_account, read_bounds};
+use crate::account_structs::{
+    LeafBounds, NodeAccount, SignalBounds, read_account, read_bounds, read_reaction,
+};
 use crate::held::WorldHandle;
 use crate::lookup::{leaf_named, node_of, put_label};
 use crate::result_codes::NONE;
@@ -157,6 +162,48 @@ pub extern "C" fn trade_read_budget(
             let there = read_bounds(owned.world(), leaf, budget);
             world.put(alloc, owned);
             there
+        }
+    }
+}
+
+/// Reads the bounds of a signal. If there is no such leaf or signal, the result is false and nothing is changed.
+#[unsafe(no_mangle)]
+pub extern "C" fn trade_read_reaction(
+    alloc: Global,
+    world: &mut WorldHandle,
+    leaf: u32,
+    signal: u32,
+    reaction: &mut SignalBounds,
+) -> bool
+    ensures reported { result ≡ true → IfSome world.old.world (λ w. ReportsReaction reaction.new w.scenario leaf signal) }
+    ensures there { IfSome world.old.world (λ w. (result ≡ true) ↔ HasSignal w.scenario leaf signal) }
+    ensures empty { world.old.world ≡ None → result ≡ false }
+    ensures same { world.new.world ≡ world.old.world }
+    ensures stays { result ≡ false → reaction.new ≡ reaction.old }
+{
+    match world.take(alloc) {
+        None => false,
+        Some(owned) => {
+            let there = read_reaction(owned.world(), leaf, signal, reaction);
+            world.put(alloc, owned);
+            there
+        }
+    }
+}
+
+/// Whether no leaf can take a turn. True if the handle is empty.
+#[unsafe(no_mangle)]
+pub extern "C" fn trade_at_rest(alloc: Global, world: &mut WorldHandle) -> bool
+    ensures rest { IfSome world.old.world (λ w. result ≡ not (some_can (system w.scenario) w.world 0 (components w.scenario))) }
+    ensures empty { world.old.world ≡ None → result ≡ true }
+    ensures same { world.new.world ≡ world.old.world }
+{
+    match world.take(alloc) {
+        None => true,
+        Some(owned) => {
+            let rests = owned.world().is_at_rest();
+            world.put(alloc, owned);
+            rests
         }
     }
 }

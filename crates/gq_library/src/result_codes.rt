@@ -20,3 +20,12 @@ pub const NO_INPUT: u32 = 1;
 
 /// The number is above the greatest value of the input: `TRADE_TOO_LARGE`.
 pub const TOO_LARGE: u32 = 2;
+
+/// A turn that is no step: `TRADE_IDLE`.
+pub const IDLE: u32 = 0;
+
+/// The signal was submitted: `TRADE_SUBMITTED`.
+pub const SUBMITTED: u32 = 0;
+
+/// The leaf has no such signal: `TRADE_NO_SIGNAL`.
+pub const NO_SIGNAL: u32 = 1;

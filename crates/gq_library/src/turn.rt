@@ -1,9 +1,9 @@
 // One turn of a leaf.
-ghost use Rattle.std.specs.Prelude.{◌≡◌, ◌<◌, ◌≤◌, ◌↔◌, ℕ, List, length};
+ghost use Rattle.std.specs.Prelude.{◌≡◌, ◌<◌, ◌≤◌, ◌↔◌, ℕ, List, Ok, length};
 ghost use Rattle.gq_machine.specs.Events.{event_of};
-ghost use Rattle.gq_model.specs.machine.Scenario.{components};
+ghost use Rattle.gq_model.specs.machine.Scenario.{components, system};
 ghost use Rattle.gq_library.specs.Texts.{IsPut};
-ghost use Rattle.gq_library.specs.C_turns.{IsTaken, event_number, event_text};
+ghost use Rattle.gq_library.specs.C_turns.{IsTaken, counted_next, event_number, event_text};
 
 use crate::result_codes::NONE;
 use crate::texts::put;
@@ -35,6 +35,19 @@ pub(crate) fn put_event(
     }
 }
 
+// One turn of a leaf: none, if it has taken as many steps as are counted.
+fn step(world: &mut World, leaf: LeafNo, text: &mut ArrayVec<u8, 64>) -> Event
+    requires { leaf < length (components world.old.scenario) }
+    ensures scenario { world.new.scenario ≡ world.old.scenario }
+    ensures stopped { world.new.stopped ≡ world.old.stopped }
+    ensures stepped { counted_next (system world.old.scenario) world.old.world leaf ≡ Ok (world.new.world, event_of result text.new.items) }
+{
+    match world.try_step(leaf, text) {
+        Some(event) => event,
+        None => Event::Idle,
+    }
+}
+
 // One turn of a leaf, if there is such a leaf.
 pub(crate) fn turn(world: &mut World, leaf: u32, line: &mut [u8], written: &mut usize) -> u32
     ensures taken { leaf < length (components world.old.scenario) → IsTaken world.old world.new leaf result line.old line.new written.new }
@@ -47,6 +60,6 @@ pub(crate) fn turn(world: &mut World, leaf: u32, line: &mut [u8], written: &mut 
         return NONE;
     }
     let mut text = ArrayVec::new();
-    let event = world.step(LeafNo::new(leaf), &mut text);
+    let event = step(world, LeafNo::new(leaf), &mut text);
     put_event(event, &text, line, written)
 }

@@ -2,12 +2,13 @@
 ghost use Rattle.std.specs.Prelude.{◌≡◌, ◌-◌, ◌<◌, ◌≤◌, ◌↔◌, true, length, []};
 ghost use Rattle.gq_machine.specs.Events.{event_of};
 ghost use Rattle.gq_model.specs.machine.Scenario.{components, system};
-ghost use Rattle.gq_library.specs.C_turns.{AreTaken, taken_up_to, burst};
+ghost use Rattle.gq_library.specs.C_turns.{AreTaken, burst, taken_on};
 ghost use Rattle.gq_library.specs.internal.Turns_left.{Leads, IsSilent};
 
 use crate::result_codes::NONE;
 use crate::turn::put_event;
 use arrayvec::ArrayVec;
+use gq_laws::turn_step_laws::turn_laws;
 use gq_scenario::scenario::LeafNo;
 use gq_world::event::Event;
 use gq_world::world::World;
@@ -26,7 +27,9 @@ fn go_alone(world: &mut World, leaf: LeafNo, most: u32, event: Event, left: u32)
     ensures leads { Leads (system world.old.scenario) leaf (burst (most - left) (event_of event []) world.old.world) left
         (burst (most - result.1) (event_of result.0 []) world.new.world) result.1 true }
 {
-    let rest = world.turns_alone(leaf, left);
+    turn_laws();
+    let _before = world.steps(leaf);
+    let rest = world.try_turns_alone(leaf, left);
     if rest < left {
         return (Event::Quiet, rest);
     }
@@ -55,11 +58,15 @@ fn go_on(
     ensures leads { Leads (system world.old.scenario) leaf (burst (most - left) (event_of event []) world.old.world) left
         (burst (most - result.1) (event_of result.0 text.new.items) world.new.world) result.1 result.2 }
 {
-    match world.step(leaf, text) {
-        Event::Idle => (event, left, false),
-        Event::Quiet => (Event::Quiet, left - 1, true),
-        Event::Line => (Event::Line, left - 1, false),
-        Event::Finished => (Event::Finished, left - 1, false),
+    if !world.can_run(leaf) {
+        return (event, left, false);
+    }
+    match world.try_step(leaf, text) {
+        None => (event, left, false),
+        Some(Event::Line) => (Event::Line, left - 1, false),
+        Some(Event::Finished) => (Event::Finished, left - 1, false),
+        Some(Event::Idle) => (Event::Idle, left - 1, true),
+        Some(Event::Quiet) => (Event::Quiet, left - 1, true),
     }
 }
 
@@ -92,26 +99,36 @@ fn go(
     go_on(world, leaf, most, shown, rest, text)
 }
 
-// Turns of a leaf, at most so many, as far as the definition takes them. Returns what the last one shows, and how many are left.
-fn take(world: &mut World, leaf: LeafNo, most: u32, text: &mut ArrayVec<u8, 64>) -> (Event, u32)
+/// Turns of a leaf, as many as are left of so many, after what shows no line and no end. They are taken as far as the definition takes them. Returns what the
+/// last one shows, and how many are left.
+pub(crate) fn take(
+    world: &mut World,
+    leaf: LeafNo,
+    most: u32,
+    event: Event,
+    left: u32,
+    text: &mut ArrayVec<u8, 64>,
+) -> (Event, u32)
     requires leaf { leaf < length (components world.old.scenario) }
+    requires few { left ≤ most }
+    requires silent { IsSilent event }
     ensures scenario { world.new.scenario ≡ world.old.scenario }
     ensures stopped { world.new.stopped ≡ world.old.stopped }
-    ensures left { result.1 ≤ most }
-    ensures taken { taken_up_to (system world.old.scenario) leaf most world.old.world
+    ensures left { result.1 ≤ left }
+    ensures taken { taken_on (system world.old.scenario) leaf left (burst (most - left) (event_of event []) world.old.world)
         ≡ burst (most - result.1) (event_of result.0 text.new.items) world.new.world }
 {
-    let mut event = Event::Idle;
-    let mut left = most;
-    while left > 0 {
-        let (shown, rest, goes_on) = go(world, leaf, most, event, left, text);
+    let mut shown = event;
+    let mut rest = left;
+    while rest > 0 {
+        let (next, fewer, goes_on) = go(world, leaf, most, shown, rest, text);
         if !goes_on {
-            return (shown, rest);
+            return (next, fewer);
         }
-        event = shown;
-        left = rest;
+        shown = next;
+        rest = fewer;
     }
-    (event, left)
+    (shown, rest)
 }
 
 // Turns of a leaf, at most so many, if there is such a leaf.
@@ -137,7 +154,7 @@ pub(crate) fn turns(
         return NONE;
     }
     let mut text = ArrayVec::new();
-    let (event, left) = take(world, LeafNo::new(leaf), most, &mut text);
+    let (event, left) = take(world, LeafNo::new(leaf), most, Event::Idle, most, &mut text);
     *taken = most - left;
     put_event(event, &text, line, written)
 }

@@ -5,6 +5,7 @@ pub mod Step_counted_leaves
 pub mod Saturated_step_budgets
 pub mod First_refusal_reason
 mod Over_limit_lists
+pub mod Signal_line_steps
 pub mod Unsized_faults
 pub mod Sound_programs
 pub mod Read_service_resources

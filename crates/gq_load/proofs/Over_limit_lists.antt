@@ -5,8 +5,7 @@ use Rattle.std.proofs.lemmas.List.{drop_more, drop_all}
 use Rattle.gq_model.specs.machine.Amounts as resources
 use Rattle.gq_model.specs.machine.Amounts.{part}
 use Rattle.gq_model.specs.machine.Scenario.{Component}
-use Rattle.gq_model.specs.rules.Accept.{Budget, Refusal, own_refusal, steps_refusal}
-use Rattle.gq_model.specs.rules.Verdict.{greatest_cost}
+use Rattle.gq_model.specs.rules.Accept.{Budget, Refusal, own_refusal, are_small, steps_refusal}
 use Rattle.gq_load.specs.Load_faults.{Prints}
 use Rattle.gq_load.specs.Load.{refused}
 use Rattle.gq_load.specs.Over_limits.{over_refusal}
@@ -27,14 +26,14 @@ failed false x rest f h = h
 over_passed : (limit : Limit) (c : Component) (b : Budget) (cs : List Component) (bs : List Budget) → over_refusal limit (c ∷ []) (b ∷ []) ≡ None
     → over_refusal limit (c ∷ cs) (b ∷ bs) ≡ over_refusal limit cs bs
 over_passed Ram c b cs bs e = passed (nat_le (part resources.Ram b.own) (part resources.Ram c.node.quantum)) _ (own_refusal resources.Ram cs bs) e
-over_passed Steps c b cs bs e = passed (nat_le b.steps greatest_cost) _ (steps_refusal cs bs) e
+over_passed Steps c b cs bs e = passed (are_small b.steps) _ (steps_refusal cs bs) e
 over_passed Caps c b cs bs e = passed (nat_le (part resources.Caps b.own) (part resources.Caps c.node.quantum)) _ (own_refusal resources.Caps cs bs) e
 
 over_failed : (limit : Limit) (c : Component) (b : Budget) (cs : List Component) (bs : List Budget) (f : LoadFault)
     → Prints f (refused (over_refusal limit (c ∷ []) (b ∷ []))) → Prints f (refused (over_refusal limit (c ∷ cs) (b ∷ bs)))
 over_failed Ram c b cs bs f h =
     failed (nat_le (part resources.Ram b.own) (part resources.Ram c.node.quantum)) _ (own_refusal resources.Ram cs bs) f h
-over_failed Steps c b cs bs f h = failed (nat_le b.steps greatest_cost) _ (steps_refusal cs bs) f h
+over_failed Steps c b cs bs f h = failed (are_small b.steps) _ (steps_refusal cs bs) f h
 over_failed Caps c b cs bs f h =
     failed (nat_le (part resources.Caps b.own) (part resources.Caps c.node.quantum)) _ (own_refusal resources.Caps cs bs) f h
 

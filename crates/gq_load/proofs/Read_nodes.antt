@@ -8,7 +8,7 @@ use Rattle.gq_model.specs.machine.Scenario.{LeafNode, Nodes, End, Leaf_node, Ini
 use Rattle.gq_scenario.specs.Table_keys.{DocumentFault, KeyRule, required, optional, either, other, text_of, members_of, passes, is_number, is_quantity}
 use Rattle.gq_scenario.specs.Table_keys.{is_text}
 use Rattle.gq_scenario.specs.Table_keys.{is_hex, is_name_text, is_table, is_list, table_fault}
-use Rattle.gq_scenario.specs.Document_tables.{greatest_caps, is_declared, is_inputs, is_named_names, leaf_keys, init_keys}
+use Rattle.gq_scenario.specs.Document_tables.{greatest_caps, greatest_signals, is_declared, is_inputs, is_named_names, leaf_keys, init_keys}
 use Rattle.gq_scenario.specs.Document.{value_of, list_at, leaf_of, is_init, init_of, nodes_by, node_onto, first_of, routes_fault, node_fault}
 use Rattle.gq_scenario.specs.Sizes.{leaves_in}
 use Rattle.gq_scenario.proofs.Preorder_leaves.{components-leaves_in}
@@ -36,13 +36,14 @@ declared_there : (services : List (List ℕ)) (o : Option Data) → fits_or_none
 declared_there services None f service e = absurd (none_some e)
 declared_there services (Some d) f service e = passes_there (λ name. any_of (text_eq name) services) (text_of d) service e f
 
--- the keys of a leaf, from version 2 on or not, and from version 3 on or not
-abbrev leaf_keys_by : Bool → Bool → List (List ℕ) → List KeyRule
-leaf_keys_by two three services =
+-- the keys of a leaf, from version 2 on or not, from version 3 on or not, and from version 4 on or not
+abbrev leaf_keys_by : Bool → Bool → Bool → List (List ℕ) → List KeyRule
+leaf_keys_by two three four services =
     (required (codes "name") is_name_text ∷ required (codes "quantum") (is_quantity 0 1099511627776)
     ∷ cond two (required (codes "caps") (is_number 0 greatest_caps) ∷ []) [] ++ optional (codes "route") (is_list is_table) ∷ [])
     ++ (optional (codes "provides") (is_declared services) ∷ optional (codes "after") is_name_text
     ∷ cond three (optional (codes "inputs") is_inputs ∷ []) [])
+    ++ cond four (optional (codes "signals") (is_number 0 greatest_signals) ∷ []) []
     ++ either (codes "program") (codes "code" ∷ []) is_text ∷ other (codes "code") (codes "program" ∷ []) is_hex ∷ []
 
 -- those of an init
@@ -54,18 +55,21 @@ init_keys_by two three =
     ∷ cond three (optional (codes "offers") is_named_names ∷ []) []
 
 -- no key of capabilities before version 2
-no_caps_key : (three : Bool) (services : List (List ℕ)) → any_of (λ (a : KeyRule). text_eq (codes "caps") a.key) (leaf_keys_by false three services) ≡ false
-no_caps_key true services = refl
-no_caps_key false services = refl
+no_caps_key : (three four : Bool) (services : List (List ℕ))
+    → any_of (λ (a : KeyRule). text_eq (codes "caps") a.key) (leaf_keys_by false three four services) ≡ false
+no_caps_key true true services = refl
+no_caps_key true false services = refl
+no_caps_key false true services = refl
+no_caps_key false false services = refl
 
 no_caps_of_inits : (three : Bool) → any_of (λ (a : KeyRule). text_eq (codes "caps") a.key) (init_keys_by false three) ≡ false
 no_caps_of_inits true = refl
 no_caps_of_inits false = refl
 
-provides_fits : (two three : Bool) (services : List (List ℕ)) (entries : Members) → AreKept (leaf_keys_by two three services) entries
+provides_fits : (two three four : Bool) (services : List (List ℕ)) (entries : Members) → AreKept (leaf_keys_by two three four services) entries
     → fits_or_none (is_declared services) (get_member (codes "provides") entries) ≡ true
-provides_fits true three services entries k = k.1.1.1.1.0.fits
-provides_fits false three services entries k = k.1.1.1.0.fits
+provides_fits true three four services entries k = k.1.1.1.1.0.fits
+provides_fits false three four services entries k = k.1.1.1.0.fits
 
 -- LISTS
 
@@ -97,12 +101,13 @@ module _ (version : ℕ) (services : List (List ℕ)) where
       record {
         plain = λ one. (
           no_number (codes "caps") entries (absent (leaf_keys version services) entries (codes "caps") k.0
-              (subst (λ b. any_of (λ (a : KeyRule). text_eq (codes "caps") a.key) (leaf_keys_by b (nat_le 3 version) services) ≡ false) (sym one)
-              (no_caps_key (nat_le 3 version) services))),
+              (subst (λ b. any_of (λ (a : KeyRule). text_eq (codes "caps") a.key) (leaf_keys_by b (nat_le 3 version) (nat_le 4 version) services)
+              ≡ false) (sym one) (no_caps_key (nat_le 3 version) (nat_le 4 version) services))),
           h.plain one,
         );
         declared = (
-          declared_there services (get_member (codes "provides") entries) (provides_fits (counts_caps version) (nat_le 3 version) services entries k.1),
+          declared_there services (get_member (codes "provides") entries)
+              (provides_fits (counts_caps version) (nat_le 3 version) (nat_le 4 version) services entries k.1),
           h.declared,
         );
       }

@@ -13,6 +13,8 @@ use Rattle.gq_load.specs.Load.{LoadRefusal, Unread, sources_fault, refused, scen
 use Rattle.gq_laws.specs.Sound_scenarios.{IsSound}
 use Rattle.gq_model.proofs.Small_facts.{none_some, or_first_none}
 use Rattle.gq_scenario.proofs.Distinct_leaf_names.{names_differ}
+use Rattle.gq_scenario.proofs.Preorder_leaves.{component_signals}
+use Rattle.gq_reader.proofs.Faultless_document_parts.{described_signals}
 use Rattle.gq_load.proofs.Sound_programs.{nodes_given, programs_are}
 use Rattle.gq_load.proofs.Read_service_resources.{services_fair}
 
@@ -43,6 +45,7 @@ described_sound top e sources accepted =
         programs = programs_are s (nodes_given 4 (list_at (codes "start") top)) sources;
         counted = λ service j found. (services_fair version interfaces i.0 service j found).0;
         upgrades = λ service j found. (services_fair version interfaces i.0 service j found).1;
+        signals = component_signals s (described_signals top a.0);
       };
       accepted = accepted;
     }

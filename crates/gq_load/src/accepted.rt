@@ -73,12 +73,7 @@ pub fn kept_budgets(
         routes,
         surveys.counted.as_slice(),
     )?;
-    let budgets = budgets_of(
-        alloc,
-        scenario.version(),
-        surveys.owns.as_slice(),
-        steps.as_slice(),
-    )?;
+    let budgets = budgets_of(alloc, scenario.version(), surveys.owns.as_slice(), steps)?;
     Ok(budgets)
 }
 

@@ -3,16 +3,17 @@ ghost use Rattle.std.specs.Prelude.{◌≡◌, length, IfOk};
 ghost use Rattle.gq_scenario.specs.Component_trees.{version_number};
 ghost use Rattle.gq_load.specs.internal.Saturated_budgets.{budget_from, budgets_with};
 
+use gq_budget::StepBudget;
 use gq_scenario::scenario::Version;
 use gq_tariff::Amount;
 use std::alloc::{AllocError, Global};
 use std::marker::Model;
 
 /// What a leaf uses at most, whatever the turns.
-#[derive(Clone, Copy)]
+#[derive(Drop)]
 pub struct Budget {
     own: Amount,
-    steps: u64,
+    steps: StepBudget,
 }
 
 impl Model for Budget {
@@ -21,13 +22,11 @@ impl Model for Budget {
     ghost Value = { Budget };
 
     ghost view = { λ b. record { own = b.own; steps = b.steps } };
-
-    ghost inverse = { λ b. record { own = b.own; steps = b.steps } };
 }
 
 impl Budget {
     /// So many bytes and capabilities of the own account, and so many steps.
-    pub fn new(own: Amount, steps: u64) -> Budget
+    pub fn new(own: Amount, steps: StepBudget) -> Budget
         ensures { result ≡ record { own = own; steps = steps } }
     {
         Budget { own, steps }
@@ -47,16 +46,16 @@ impl Budget {
         self.own.caps
     }
 
-    /// The steps that it takes.
-    pub fn steps(&self) -> u64
-        ensures { result ≡ self.now.steps }
+    /// The steps that it takes, for the start and for each signal.
+    pub fn steps(&self) -> &StepBudget
+        ensures { result.now ≡ self.now.steps }
     {
-        self.steps
+        &self.steps
     }
 }
 
 // The budget of a program that uses so much of its own account, with so many steps.
-fn budget_of(version: Version, own: &Amount, steps: u64) -> Budget
+fn budget_of(version: Version, own: &Amount, steps: StepBudget) -> Budget
     ensures { result ≡ budget_from (version_number version) own.now steps }
 {
     let caps = if version.counts_caps() { own.caps } else { 0 };
@@ -68,14 +67,15 @@ pub(crate) fn budgets_of(
     alloc: Global,
     version: Version,
     owns: &[Amount],
-    steps: &[u64],
+    steps: Vec<StepBudget>,
 ) -> Result<Vec<Budget>, AllocError>
-    requires { length steps.now ≡ length owns.now }
-    ensures { IfOk result (λ b. b.items ≡ budgets_with (version_number version) owns.now steps.now) }
+    requires { length steps.items ≡ length owns.now }
+    ensures { IfOk result (λ b. b.items ≡ budgets_with (version_number version) owns.now steps.items) }
 {
     let mut budgets = Vec::new(alloc);
-    for (place, own) in owns.iter().enumerate() {
-        budgets.push(budget_of(version, own, steps[place]))?;
+    let mut left = steps;
+    for own in owns {
+        budgets.push(budget_of(version, own, left.remove(0)))?;
     }
     Ok(budgets)
 }

@@ -12,7 +12,7 @@ use itoa::Buffer;
 use std::alloc::{AllocError, Global};
 
 // Puts a word and a number at the end of a text.
-fn push_entry(text: &mut Vec<u8>, word: &[u8], number: u64) -> Result<(), AllocError>
+pub(crate) fn push_entry(text: &mut Vec<u8>, word: &[u8], number: u64) -> Result<(), AllocError>
     ensures { OnOk result (text.new.items ≡ text.old.items ++ entry word.now number) }
 {
     text.extend_from_slice(b" ")?;
@@ -37,7 +37,7 @@ fn push_line(
     if version.counts_caps() {
         push_entry(text, b"caps", budget.own_caps())?;
     }
-    push_entry(text, b"steps", budget.steps())?;
+    push_entry(text, b"steps", budget.steps().from_start())?;
     text.extend_from_slice(b"\n")?;
     Ok(())
 }

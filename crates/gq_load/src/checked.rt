@@ -7,6 +7,7 @@ ghost use Rattle.gq_load.specs.Load.{loaded, scenario_fault};
 use crate::accepted::judge;
 use crate::budget_lines::component_lines;
 use crate::load_fault::{LoadError, LoadFault};
+use crate::signal_lines::push_signal_lines;
 use crate::surveys::survey_sources;
 use gq_reader::reader::read_scenario;
 use gq_resolve::component::components;
@@ -14,7 +15,7 @@ use gq_scenario::scenario::Scenario;
 use gq_scenario::scenario_fault::ScenarioError;
 use std::alloc::Global;
 
-/// A line for each budget of a leaf of a scenario, in preorder, where the verifier accepts it.
+/// A line for each budget of a leaf of a scenario, in preorder, and then one for each signal, where the verifier accepts it.
 ///
 /// Refused as `Accepted::read` is of a scenario that was read. It allocates host memory for one program at a time, beside what the scenario's size asks for.
 pub fn scenario_lines(alloc: Global, scenario: &Scenario) -> Result<Vec<u8>, LoadError>
@@ -25,16 +26,18 @@ pub fn scenario_lines(alloc: Global, scenario: &Scenario) -> Result<Vec<u8>, Loa
     let components = components(alloc, scenario)?;
     let surveys = survey_sources(alloc, components.as_slice(), scenario.interfaces())?;
     let (_routes, budgets) = judge(alloc, scenario, components.as_slice(), &surveys)?;
-    let lines = component_lines(
+    scenario.bounds();
+    let mut lines = component_lines(
         alloc,
         scenario.version(),
         components.as_slice(),
         budgets.as_slice(),
     )?;
+    push_signal_lines(&mut lines, components.as_slice(), budgets.as_slice())?;
     Ok(lines)
 }
 
-/// A line for each budget of a leaf of the scenario of a text, in preorder, where the verifier accepts it.
+/// A line for each budget of a leaf of the scenario of a text, in preorder, and then one for each signal, where the verifier accepts it.
 ///
 /// Refused as `Accepted::read` is. It allocates host memory for one program at a time, beside the text's own.
 pub fn checked_lines(alloc: Global, text: &[u8]) -> Result<Vec<u8>, LoadError>

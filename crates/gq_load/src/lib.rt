@@ -19,7 +19,7 @@
 //! loaded_laws();
 //! ```
 //!
-//! Modules: loading (`accepted`, `checked`), and laws of what is loaded (`loaded`, `read`).
+//! Modules: loading (`accepted`, `checked`), what a signal takes of all leaves (`signal_lines`), and laws of what is loaded (`loaded`, `read`).
 #![tactic(auto)]
 
 pub mod accepted;
@@ -33,6 +33,7 @@ pub mod named;
 pub mod over;
 mod program_verdict;
 pub mod read;
+pub mod signal_lines;
 pub mod surveys;
 pub mod unsized_scenarios;
 pub mod unverified;

@@ -8,7 +8,6 @@ ghost use Rattle.gq_load.specs.Over_limits.{IsFaultFor, over_refusal};
 
 use crate::budget::Budget;
 use crate::load_fault::LoadFault;
-use gq_model::limits::GREATEST_STEPS;
 use gq_resolve::component::Component;
 
 /// What a leaf may use too much of.
@@ -16,7 +15,7 @@ use gq_resolve::component::Component;
 pub enum Limit {
     /// Bytes of its own account: as many as its quantum has.
     Ram,
-    /// Steps: 10^12.
+    /// Steps, for the start and for each signal: 10^12.
     Steps,
     /// Capabilities of its own account: as many as it is given.
     Caps,
@@ -35,11 +34,11 @@ fn over_ram(component: &Component<'_>, budget: &Budget) -> Option<LoadFault>
     Some(LoadFault::OverQuantum { leaf, own, quantum })
 }
 
-// The fault of a leaf that may take more than 10^12 steps.
+// The fault of a leaf that may take more than 10^12 steps for the start, or for a signal.
 fn over_steps(component: &Component<'_>, budget: &Budget) -> Option<LoadFault>
     ensures { IsFaultFor result (steps_refusal (component.now ∷ []) (budget.now ∷ [])) }
 {
-    if budget.steps() <= GREATEST_STEPS {
+    if budget.steps().is_small() {
         return None;
     }
     let leaf = component.leaf().name().copied();

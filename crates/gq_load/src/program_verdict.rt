@@ -22,7 +22,13 @@ pub(crate) fn judge<'a>(
     ensures refused { IfErr result (λ f. Prints f (refused (leaf_refusal interfaces.now component.now))) }
 {
     let leaf = component.leaf();
-    match verify(program, leaf.provides(), interfaces, leaf.inputs()) {
+    match verify(
+        program,
+        leaf.provides(),
+        interfaces,
+        leaf.inputs(),
+        leaf.signals(),
+    ) {
         Ok(verified) => Ok(verified),
         Err(fault) => Err(LoadFault::Rule {
             leaf: leaf.name().copied(),

@@ -96,11 +96,17 @@ pub fn verified<'a>(
     program: &'a Program,
     interfaces: &'a Interfaces,
 ) -> Verified<'a>
-    requires { program_fault (subject_of program.now component.now.node.provides interfaces.now component.now.node.inputs) ≡ None }
-    ensures { result ≡ subject_of program.now component.now.node.provides interfaces.now component.now.node.inputs }
+    requires { program_fault (subject_of program.now component.now.node.provides interfaces.now component.now.node.inputs component.now.node.signals) ≡ None }
+    ensures { result ≡ subject_of program.now component.now.node.provides interfaces.now component.now.node.inputs component.now.node.signals }
 {
     let leaf = component.leaf();
-    match verify(program, leaf.provides(), interfaces, leaf.inputs()) {
+    match verify(
+        program,
+        leaf.provides(),
+        interfaces,
+        leaf.inputs(),
+        leaf.signals(),
+    ) {
         Ok(verified) => verified,
         Err(_) => unreachable!(),
     }

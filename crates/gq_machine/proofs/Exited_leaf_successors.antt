@@ -109,6 +109,7 @@ with_body l p body =
     record {
       phase = p;
       current = current_seen l.current;
+      reacting = l.reacting;
       todo = state.todo;
       loops = state.loops;
       operands = state.operands;
@@ -117,13 +118,14 @@ with_body l p body =
       peaks = [];
       steps = state.steps;
       inputs = state.inputs;
+      signals = l.signals;
     }
 
 released_leaf : (program : Program) (l : LeafState) (name : List ℕ) (after : Option (List ℕ))
     → leaf_of program (released_by name after l) ≡ record (leaf_of program l) { phase = released name after l.phase }
 released_leaf program l name after =
     ap (with_body l (released name after l.phase)) (released_body name after l.phase
-    (body_of (section_in (section_at l.current) program.sections)))
+    (body_of (section_in (section_at l.current l.reacting) program.sections)))
 
 -- THE LEAVES
 
@@ -197,15 +199,6 @@ frame_gone system f x c l =
     }
 
 -- WHAT IS KNOWN OF A LEAF THAT EXITS
-
-pub runs : (p : Phase) (o : Option world.Current) → Active p → Fits p o → o ≡ None → p ≡ phase.Running
-runs phase.Running o active fits e = refl
-runs phase.Handling None active fits e = absurd fits
-runs phase.Handling (Some current) active fits e = absurd (some_none e)
-runs phase.Pending o active fits e = absurd active
-runs phase.Blocked o active fits e = absurd active
-runs phase.Serving o active fits e = absurd active
-runs phase.Exited o active fits e = absurd active
 
 pub provides_nothing : (s : Scenario) → IsReady s → (x : ℕ) (c : Component) → slice_get (components s) x ≡ Some c → c.node.provides ≡ None
     → ProvidesNothing (system s) x

@@ -31,3 +31,4 @@ pub mod Machine_entry_lengths
 pub mod Machine_register_reads
 pub mod Many_machine_turns
 pub mod Machine_input_setting
+pub mod Machine_signals

@@ -32,13 +32,13 @@ use Rattle.gq_machine.proofs.Machine_reader_values.{if_some, item_is, seen_at}
 abbrev bare : world.Leaf → world.Leaf
 bare l = record l { slots = []; peaks = [] }
 
-same_section : (current : Option Current) → section_at current ≡ section_of (current_seen current)
-same_section None = refl
-same_section (Some current) = refl
+same_section : (current : Option Current) (reacting : Option ℕ) → section_at current reacting ≡ section_of (current_seen current) reacting
+same_section None reacting = refl
+same_section (Some current) reacting = refl
 
 stands_bare : (c : Component) (l : LeafState) → StandsAt c (leaf_of c.node.program l) l.registers
 stands_bare c l =
-    ap (λ section. state_of (body_in l.phase (body_of (section_in section c.node.program.sections))) l.registers l.steps) (same_section l.current)
+    ap (λ section. state_of (body_in l.phase (body_of (section_in section c.node.program.sections))) l.registers l.steps) (same_section l.current l.reacting)
 
 module _ (i : Inside) (w : Machine) (e : machine_seen i ≡ w) (h : Holds i.fixed i.state) where
   abbrev t : Slots

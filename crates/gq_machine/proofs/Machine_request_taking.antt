@@ -12,7 +12,8 @@ use Rattle.gq_model.specs.declared.section.Section.TheVariants.{Upgrading}
 use Rattle.gq_model.specs.machine.Doing.{Doing, Idle, Quiet, standing}
 use Rattle.gq_model.specs.machine.Program.{body_of, section_in}
 use Rattle.gq_model.specs.machine.Scenario.{Interface, Scenario, System, Component, components, interface_in, number_of, system}
-use Rattle.gq_model.specs.machine.Step.{accept_oldest, accepted_as, beginning, first_operands, next, oldest, section_asked, section_for, step_in}
+use Rattle.gq_model.specs.machine.Step.{accept_oldest, accepted_as, beginning, first_operands, first_signal, next, oldest, section_asked, section_for}
+use Rattle.gq_model.specs.machine.Step.{serve, step_in}
 use Rattle.gq_model.specs.machine.World as world
 use Rattle.gq_model.specs.texts.Code.{IsProgram}
 use Rattle.gq_model.proofs.Small_facts.{some_same}
@@ -36,7 +37,7 @@ use Rattle.gq_statements.proofs.Oldest_request_outcomes.{from_some, without}
 use Rattle.gq_statements.proofs.Taken_request_world.{none_taken}
 use Rattle.gq_leaf.specs.Coded.{Coded, IsStanding}
 use Rattle.gq_leaf.proofs.Section_start_exit.{begins as begins_in}
-use Rattle.gq_leaf.proofs.Leaf_stance_worlds.{first, next_in, phase_is}
+use Rattle.gq_leaf.proofs.Leaf_stance_worlds.{first, next_in, phase_is, shape}
 use Rattle.gq_machine.specs.Machine_world.{frame_of, world_of}
 use Rattle.gq_machine.specs.declared.machine_state.Fixed.{Fixed}
 use Rattle.gq_machine.specs.declared.machine_state.MachineState.{MachineState}
@@ -77,7 +78,7 @@ same_oldest o p r a b e g = ap (λ (y : Request × List Request). y.0) (some_sam
 
 module _ (f : Fixed) (m : MachineState) (h : Holds f m) (l : AreLawful m.slots) (x : ℕ) (c : Component) (old : Coded)
     (ec : slice_get (components f.table) x ≡ Some c)
-    (el : slice_get m.leaves.items x ≡ Some old) (serves : old.state.phase ≡ phase.Serving) where
+    (el : slice_get m.leaves.items x ≡ Some old) (serves : old.state.phase ≡ phase.Serving) (no_signal : first_signal old.state.signals ≡ None) where
   abbrev s : Scenario
   s = f.table
 
@@ -98,6 +99,7 @@ module _ (f : Fixed) (m : MachineState) (h : Holds f m) (l : AreLawful m.slots) 
   next_is =
       next_in (system s) now t x c old.state f.services.buffers l here.stands
       ∙ ap (step_in it) (phase_is (system s) now t x c old.state f.services.buffers l here.stands ∙ serves)
+      ∙ ap (serve it) (ap (λ (y : world.Leaf). first_signal y.signals) (shape (system s) now t x c old.state f.services.buffers l here.stands) ∙ no_signal)
 
   abbrev pub level_of : world.Request → ℕ
   level_of r = (session_at t.trades.trading r.session).level

@@ -92,6 +92,7 @@ one_first c l st h none first =
     ∙ (λ j. record {
       phase = world.first_phase after;
       current = None;
+      reacting = None;
       todo = todo j;
       loops = loops j;
       operands = [];
@@ -100,6 +101,7 @@ one_first c l st h none first =
       peaks = none j;
       steps = 0;
       inputs = replicate 8 0;
+      signals = replicate c.node.signals (record { submitted = false; taken = 0 });
     })
 
 -- ALL LEAVES

@@ -16,7 +16,7 @@ use Rattle.gq_model.proofs.Small_facts.{get_within, text_is}
 use Rattle.gq_laws.proofs.verified_programs.Use_chains.{Chain, Uses, chain_short, resolved_acyclic}
 use Rattle.gq_statements.proofs.linked.Session_count.{few}
 use Rattle.gq_trade.specs.Numbers.{free_number}
-use Rattle.gq_laws.specs.Leaf_phases.{Suits}
+use Rattle.gq_laws.specs.Leaf_phases.{Suits, serves}
 use Rattle.gq_laws.specs.Ready.{IsReady}
 use Rattle.gq_laws.proofs.ready.Routed_leaf_services.{found, provided}
 use Rattle.gq_trade.specs.Trades.{IsLive}
@@ -59,13 +59,14 @@ apart s ready x y c name ec used routed same =
 
 -- A SERVER IS LIVE
 
-suits_live : (provides : Option (List ℕ)) (service : List ℕ) (p : Phase) → provides ≡ Some service → Suits provides p → stage_in p ≡ Live
-suits_live provides service phase.Pending e h = cc
-suits_live provides service phase.Running e h = refl
-suits_live provides service phase.Blocked e h = refl
-suits_live provides service phase.Serving e h = refl
-suits_live provides service phase.Handling e h = refl
-suits_live provides service phase.Exited e h = cc
+suits_live : (provides : Option (List ℕ)) (service : List ℕ) (signals : ℕ) (p : Phase) → provides ≡ Some service → Suits provides signals p
+    → stage_in p ≡ Live
+suits_live provides service signals phase.Pending e h = cc
+suits_live provides service signals phase.Running e h = refl
+suits_live provides service signals phase.Blocked e h = refl
+suits_live provides service signals phase.Serving e h = refl
+suits_live provides service signals phase.Handling e h = refl
+suits_live provides service signals phase.Exited e h = let bad : ◌≡◌ {A = Bool} true false = ap (λ o. serves o signals) (sym e) ∙ h in cc
 
 module _ (f : Fixed) (m : MachineState) (h : Holds f m) (l : AreLawful m.slots) where
   pub server_live : (x y : ℕ) (c : Component) (service : List ℕ) → slice_get (components f.table) x ≡ Some c
@@ -82,8 +83,8 @@ module _ (f : Fixed) (m : MachineState) (h : Holds f m) (l : AreLawful m.slots) 
       let at = there (system s) frame m.slots y d.0 leaf.0.state f.services.buffers l stands in
       let suits = h.phases.suits y d.0 _ d.1 at in
       live f m h l y d.0 leaf.0 d.1 leaf.1
-      (suits_live d.0.node.provides service leaf.0.state.phase provides
-      (subst (Suits d.0.node.provides) (phase_is (system s) frame m.slots y d.0 leaf.0.state f.services.buffers l stands) suits))
+      (suits_live d.0.node.provides service d.0.node.signals leaf.0.state.phase provides
+      (subst (Suits d.0.node.provides d.0.node.signals) (phase_is (system s) frame m.slots y d.0 leaf.0.state f.services.buffers l stands) suits))
 
   -- and there is room for one session more
   pub few_there : AreSound m.slots.trades.trading → free_number m.slots.trades.trading.sessions ≤ 16448

@@ -62,7 +62,7 @@ pub record OpeningAt (p : Prepared) (f : Fixed) (c : Component) (name : List ℕ
 pub opening_at : (f : Fixed) (c : Component) (l : Coded) (p : Prepared) → IsPrepared f.table c l p → (statement : ℕ) → operation_of l ≡ Some (Long statement)
     → (place : OperandSlot) (name : List ℕ) (n : ℕ) → slice_get l.code.longs statement ≡ Some (instruction.Open place name n) → OpeningAt p f c name statement
 opening_at f c l p is statement next place name n long =
-    let section = section_at l.state.current in
+    let section = section_at l.state.current l.state.reacting in
     let code = code_there (code_in section l.code.sections) l.state.registers.position statement next in
     let body = body_there code.0 l.code.longs (section_in section c.node.program.sections)
     (found_body l.code section (Some code.0) c.node.program.sections (sym code.1) is.code) in
@@ -78,7 +78,7 @@ opening_at f c l p is statement next place name n long =
 pub long_is : (f : Fixed) (c : Component) (l : Coded) (p : Prepared) → IsPrepared f.table c l p → (statement : ℕ) → operation_of l ≡ Some (Long statement)
     → (i : Instruction) → slice_get l.code.longs statement ≡ Some i → IsLongOne i
 long_is f c l p is statement next i long =
-    let section = section_at l.state.current in
+    let section = section_at l.state.current l.state.reacting in
     let code = code_there (code_in section l.code.sections) l.state.registers.position statement next in
     let found = code_found l.code section code.0 c.node.program code.1 is.code in
     long_kind code.0 l.code.longs (body_of (section_in section c.node.program.sections)) l.state.registers.position statement i found.is code.2 long

@@ -62,9 +62,10 @@ stages_set s ls x c old new ec el stage y = elim (eqb_tells y x) [
   | inr t ↦ ap (λ (l : world.Leaf). stage_in l.phase) (leaf_else s ls x y new t.1)
 ]
 
-resumed_live : (o : Option Current) → stage_in (resumed_phase o) ≡ stage_in phase.Blocked
-resumed_live None = refl
-resumed_live (Some h) = refl
+resumed_live : (o : Option Current) (i : Option ℕ) → stage_in (resumed_phase o i) ≡ stage_in phase.Blocked
+resumed_live None None = refl
+resumed_live None (Some i) = refl
+resumed_live (Some h) i = refl
 
 -- LEAVES THAT ARE CHANGED
 
@@ -237,7 +238,7 @@ module _ (f : Fixed) (m : MachineState) (x y : ℕ) (current : Current) (e : IsE
     stages : (z : ℕ) → stage_in ((frame_of s after).leaf z).phase ≡ stage_in (before.leaf z).phase
     stages z =
         stages_set s between x c server rests e.can.component_is server_between (sym (active_live server.state.phase active)) z
-        ∙ stages_set s ls y d client waked its.1 client_is (resumed_live client.state.current ∙ sym (ap stage_in blocked)) z
+        ∙ stages_set s ls y d client waked its.1 client_is (resumed_live client.state.current client.state.reacting ∙ sym (ap stage_in blocked)) z
 
     -- the system goes with other slots in which nodes stand the same
     of_after : (u : Slots) → AreLawful u → SameScene t u → IsOf (system s) (frame_of s after) u
@@ -271,7 +272,8 @@ module _ (f : Fixed) (m : MachineState) (x y : ℕ) (current : Current) (e : IsE
 
   pub next_is : (section : Section) → current.section ≡ section → next (system s) (world_of s ls t) x ≡ reply it k section q
   next_is section is =
-      end_is (system s) before t x c server f.services.buffers e.lawful stands active end ∙ ap (λ o. section_ended it (current_seen o)) current_is
+      end_is (system s) before t x c server f.services.buffers e.lawful stands active end
+      ∙ ap (λ o. section_ended it (current_seen o) server.state.reacting) current_is
       ∙ ap (λ o. need o WrongKind (reply it k current.section)) q_is ∙ ap (λ z. reply it k z q) is
 
   -- the same operands, or one more

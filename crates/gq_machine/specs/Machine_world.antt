@@ -10,7 +10,21 @@ use Rattle.gq_prepared.specs.Prepared.{names_of}
 use Rattle.gq_leaf.specs.Coded.{Coded}
 
 abbrev pub no_leaf : world.Leaf
-no_leaf = record { phase = Exited; current = None; todo = Done; loops = []; operands = []; locals = []; slots = []; peaks = []; steps = 0; inputs = [] }
+no_leaf =
+    record {
+      phase = Exited;
+      current = None;
+      reacting = None;
+      todo = Done;
+      loops = [];
+      operands = [];
+      locals = [];
+      slots = [];
+      peaks = [];
+      steps = 0;
+      inputs = [];
+      signals = [];
+    }
 
 -- a leaf that runs the program of its component
 abbrev pub leaf_in : Option Component → Option Coded → world.Leaf

@@ -88,7 +88,7 @@ awaits (world.Waiting k) = true
 
 -- a leaf has left to do what stands at the place of these registers in its section, and has their operands, locals and inputs
 abbrev pub StandsAt : Component → world.Leaf → Core → Type 0
-StandsAt c l core = state_in l ≡ state_of (body_in l.phase (body_of (section_in (section_of l.current) c.node.program.sections))) core l.steps
+StandsAt c l core = state_in l ≡ state_of (body_in l.phase (body_of (section_in (section_of l.current l.reacting) c.node.program.sections))) core l.steps
 
 -- BYTES
 

@@ -4,7 +4,7 @@ ghost use Rattle.gq_statements.specs.Slot_statements.{done};
 ghost use Rattle.gq_bytecode.specs.declared.operation.Operation.TheVariants as operation;
 ghost use Rattle.gq_leaf.specs.Operations.{is_on_memory};
 ghost use Rattle.gq_leaf.specs.Leaf_steps.{shows};
-ghost use Rattle.gq_machine.specs.internal.Machine_invariant.{ActsOn, CanDo, Goes, Holds, IsLong, LeavesState, Provides};
+ghost use Rattle.gq_machine.specs.internal.Machine_invariant.{ActsOn, CanDo, EndsReaction, Goes, Holds, IsLong, LeavesState, Provides};
 ghost use Rattle.gq_model.specs.declared.program.Instruction.TheVariants as instruction;
 
 use crate::machine_state::{Fixed, MachineState};
@@ -105,10 +105,23 @@ pub fn say(fixed: &Fixed, state: &mut MachineState, number: usize, statement: u3
     leaf.said(statement);
 }
 
-// A provider waits for requests at the end of `main`.
+// A leaf that provides a service or has signals waits for them at the end of `main`.
 pub fn serve(fixed: &Fixed, state: &mut MachineState, number: usize)
     requires does { CanDo fixed.now state.old number operation.End }
     requires provides { Provides fixed.now state.old number }
+    ensures step { Goes fixed.now number state.old state.new (done (Ok tt)) }
+    ensures holds { Holds fixed.now state.new }
+    ensures slots { state.new.slots ≡ state.old.slots }
+{
+    let _table = &fixed.table;
+    lawful(&state.slots);
+    let leaf = &mut state.leaves[number];
+    leaf.serve();
+}
+
+// A leaf waits for signals and requests again at the end of the section for a signal. Nothing is replied.
+pub fn serve_again(fixed: &Fixed, state: &mut MachineState, number: usize)
+    requires ends { EndsReaction fixed.now state.old number }
     ensures step { Goes fixed.now number state.old state.new (done (Ok tt)) }
     ensures holds { Holds fixed.now state.new }
     ensures slots { state.new.slots ≡ state.old.slots }

@@ -10,10 +10,11 @@
 //! let event = machine.step_tested(leaf, &mut line);
 //! ```
 //!
-//! Module `machine_state` has what is fixed at load and what changes. Modules `leaf_statements`, `donating_requests`, `taken_requests`, `section_replies` and
-//! `main_end` have what each kind of step makes of it. Each is a step of the abstract machine that keeps what holds between two steps. `machine_steps` has one
-//! turn of a leaf, `bursts` many of them in one go, and `output` the lines that they give. `input_settings` gives inputs other values. `world_reads` has what
-//! is reported of leaves, sessions, requests and slots between two steps, and `contents` what reports worlds apart beside.
+//! Module `machine_state` has what is fixed at load and what changes. Modules `leaf_statements`, `donating_requests`, `taken_requests`, `taken_signals`,
+//! `section_replies` and `main_end` have what each kind of step makes of it. Each is a step of the abstract machine that keeps what holds between two steps.
+//! `machine_steps` has one turn of a leaf, `bursts` many of them in one go, and `output` the lines that they give. `input_settings` gives inputs other values,
+//! and `submitted_signals` submits signals. `world_reads` has what is reported of leaves, sessions, requests and slots between two steps, and `contents` what
+//! reports worlds apart beside.
 #![tactic(auto)]
 
 mod bursts;
@@ -30,5 +31,7 @@ pub mod main_end;
 mod others;
 mod output;
 pub mod section_replies;
+pub mod submitted_signals;
 pub mod taken_requests;
+pub mod taken_signals;
 pub mod world_reads;

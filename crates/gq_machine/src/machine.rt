@@ -18,7 +18,7 @@ ghost use Rattle.gq_machine.specs.internal.Starts.{AreFirst, ArePrepared, IsFirs
 
 use crate::machine_state::{Fixed, MachineState, Prepared};
 use gq_bytecode::Code;
-use gq_leaf::Leaf;
+use gq_leaf::{Leaf, Signals};
 use gq_model::limits::{GREATEST_SESSIONS, INPUTS};
 use gq_model::phase::Phase;
 use gq_prepared::openings::openings;
@@ -85,7 +85,8 @@ fn first_leaf(alloc: Global, table: &NodeTable, leaf: LeafNo) -> Result<Leaf, Al
     ensures { IfOk result (λ l. IfSome (slice_get (components table.now) leaf) (λ c. IsFirstOf c l)) }
 {
     let phase = first_phase(table, leaf);
-    Leaf::new(alloc, &table.programs()[leaf.index()], phase)
+    let signals = usize::from(table.signals(leaf));
+    Leaf::new(alloc, &table.programs()[leaf.index()], phase, signals)
 }
 
 // All leaves at the start of their programs.
@@ -244,6 +245,14 @@ impl Machine {
         ensures { IfSome (slice_get self.now.world.leaves leaf) (λ l. result.now ≡ l.inputs) }
     {
         self.state.leaves[leaf.index()].inputs()
+    }
+
+    /// The signals of a leaf.
+    pub fn signals(&self, leaf: LeafNo) -> &Signals
+        requires { leaf < length (components self.now.scenario) }
+        ensures { IfSome (slice_get self.now.world.leaves leaf) (λ l. result.now ≡ l.signals) }
+    {
+        self.state.leaves[leaf.index()].signals()
     }
 
     /// The steps that a leaf has taken.

@@ -3,16 +3,17 @@ ghost use Rattle.std.specs.Prelude.{◌≡◌, ◌<◌, ◌≤◌, ℕ, List, []
 ghost use Rattle.gq_model.specs.machine.Scenario.{components};
 ghost use Rattle.gq_bytecode.specs.Cores.{is_shared};
 ghost use Rattle.gq_bytecode.specs.declared.operation.Operation.TheVariants as operation;
+ghost use Rattle.gq_laws.specs.Leaf_phases.{serves};
 ghost use Rattle.gq_laws.specs.Ready.{IsReady};
 ghost use Rattle.gq_statements.specs.Slot_statements.{done};
 ghost use Rattle.gq_machine.specs.declared.event.Event.TheVariants as event;
-ghost use Rattle.gq_machine.specs.internal.Machine_invariant.{CanDo, Goes, LeavesState};
+ghost use Rattle.gq_machine.specs.internal.Machine_invariant.{CanDo, Goes, IsInMain, LeavesState};
 ghost use Rattle.gq_machine.specs.internal.Operation_kinds.{is_quiet};
 ghost use Rattle.gq_machine.specs.Shows.{StepShows};
 
 use crate::donating_requests::{open, upgrade};
 use crate::event::Event;
-use crate::leaf_statements::{call, close, memory, say, serve, show};
+use crate::leaf_statements::{call, close, memory, say, serve, serve_again, show};
 use crate::machine_state::{Fixed, MachineState};
 use crate::main_end::exit;
 use crate::section_replies::reply;
@@ -123,7 +124,36 @@ fn provides(fixed: &Fixed, leaf: usize) -> bool
     fixed.table.service(LeafNo::new(leaf as u32)).is_some()
 }
 
-// The end of a section: a reply, or at the end of `main` a leaf that serves from now on or exits.
+// Whether a leaf serves after its `main`: it provides a service or has signals.
+fn serves_on(fixed: &Fixed, leaf: usize) -> bool
+    requires ready { IsReady fixed.now.table }
+    requires leaf { leaf < length (components fixed.now.table) }
+    ensures { IfSome (slice_get (components fixed.now.table) leaf) (λ c. result ≡ serves c.node.provides c.node.signals) }
+{
+    let _leaves = fixed.table.leaf_count();
+    provides(fixed, leaf) || fixed.table.signals(LeafNo::new(leaf as u32)) > 0
+}
+
+// The end of `main`: the leaf serves from now on, or exits.
+fn end_main(fixed: &Fixed, state: &mut MachineState, number: usize) -> Result<Event, Wrong>
+    requires does { CanDo fixed.now state.old number operation.End }
+    requires main { IsInMain state.old number }
+    ensures step { (text : List ℕ) → StepShows fixed.now number state.old state.new text result }
+    ensures no_line { IfOk result (λ e. e ≡ event.Line → ⊥) }
+    ensures leaves { LeavesState result fixed.now state.old state.new }
+{
+    let _table = &fixed.table;
+    if serves_on(fixed, number) {
+        serve(fixed, state, number);
+        return Ok(Event::Quiet);
+    }
+    match exit(fixed, state, number) {
+        Err(wrong) => Err(wrong),
+        Ok(()) => Ok(Event::Finished),
+    }
+}
+
+// The end of a section: a reply, a leaf that serves again, or the end of `main`.
 fn end(fixed: &Fixed, state: &mut MachineState, number: usize) -> Result<Event, Wrong>
     requires does { CanDo fixed.now state.old number operation.End }
     ensures step { (text : List ℕ) → StepShows fixed.now number state.old state.new text result }
@@ -131,22 +161,17 @@ fn end(fixed: &Fixed, state: &mut MachineState, number: usize) -> Result<Event, 
     ensures leaves { LeavesState result fixed.now state.old state.new }
 {
     let _table = &fixed.table;
-    let current = state.leaves[number].current();
-    match current {
-        Some(current) => match reply(fixed, state, number, current) {
+    let leaf = &state.leaves[number];
+    match (leaf.current(), leaf.reacting()) {
+        (Some(current), _) => match reply(fixed, state, number, current) {
             Err(wrong) => Err(wrong),
             Ok(()) => Ok(Event::Quiet),
         },
-        None => {
-            if provides(fixed, number) {
-                serve(fixed, state, number);
-                return Ok(Event::Quiet);
-            }
-            match exit(fixed, state, number) {
-                Err(wrong) => Err(wrong),
-                Ok(()) => Ok(Event::Finished),
-            }
+        (None, Some(_)) => {
+            serve_again(fixed, state, number);
+            Ok(Event::Quiet)
         }
+        (None, None) => end_main(fixed, state, number),
     }
 }
 

@@ -8,7 +8,7 @@ ghost use Rattle.gq_trade.specs.declared.requests.Ask.TheVariants as asks;
 ghost use Rattle.gq_trade.specs.Seen_requests.{request_seen};
 ghost use Rattle.gq_statements.specs.Serving.{AreSections, KnowsService};
 ghost use Rattle.gq_statements.specs.Slot_statements.{done};
-ghost use Rattle.gq_machine.specs.internal.Machine_invariant.{CanServe, Goes, Holds, LeavesState};
+ghost use Rattle.gq_machine.specs.internal.Machine_invariant.{CanServe, Goes, HasNoSignal, Holds, LeavesState};
 ghost use Rattle.gq_machine.specs.internal.Taken_requests.{IsFirst, begun_for, takes};
 ghost use Rattle.gq_model.specs.machine.Amounts.{counts_caps};
 
@@ -88,7 +88,7 @@ fn is_beyond(ask: Ask, level: u8) -> bool
     }
 }
 
-// A leaf that serves takes the oldest request to it, which is this one.
+// A leaf that serves, and of whose signals none is submitted, takes the oldest request to it, which is this one.
 fn take(
     fixed: &Fixed,
     state: &mut MachineState,
@@ -97,6 +97,7 @@ fn take(
     level: u8,
 ) -> Result<(), Wrong>
     requires serves { CanServe fixed.now state.old number }
+    requires no_signal { HasNoSignal state.old number }
     requires first { IsFirst state.old.slots number request level }
     ensures step { OnOk result (Goes fixed.now number state.old state.new (takes true)) }
     ensures wrong { IfErr result (λ wrong. Goes fixed.now number state.old state.new (done (Err wrong))) }
@@ -116,9 +117,10 @@ fn take(
     }
 }
 
-// A leaf that serves takes the oldest request to it, if there is one. It returns whether one was taken.
+// A leaf that serves, and of whose signals none is submitted, takes the oldest request to it, if there is one. It returns whether one was taken.
 pub fn accept(fixed: &Fixed, state: &mut MachineState, number: usize) -> Result<bool, Wrong>
     requires serves { CanServe fixed.now state.old number }
+    requires no_signal { HasNoSignal state.old number }
     ensures step { IfOk result (λ was. Goes fixed.now number state.old state.new (takes was)) }
     ensures wrong { IfErr result (λ wrong. Goes fixed.now number state.old state.new (done (Err wrong))) }
     ensures leaves { LeavesState result fixed.now state.old state.new }

@@ -106,12 +106,20 @@ fn holding_of(content: Content) -> Holding
 }
 
 impl Machine {
-    /// The current session of a leaf and the section that it does for it: none in `main`.
+    /// The current session of a leaf and the section that it does for it: none in `main` or in the section for a signal.
     pub fn current(&self, leaf: LeafNo) -> Option<Current>
         requires { leaf < length (components self.now.scenario) }
         ensures { IfSome (slice_get self.now.world.leaves leaf) (λ l. current_seen result ≡ l.current) }
     {
         self.state.leaves[leaf.index()].current()
+    }
+
+    /// The number of the signal in whose section a leaf is, if it is in one.
+    pub fn reacting(&self, leaf: LeafNo) -> Option<u8>
+        requires { leaf < length (components self.now.scenario) }
+        ensures { IfSome (slice_get self.now.world.leaves leaf) (λ l. result ≡ l.reacting) }
+    {
+        self.state.leaves[leaf.index()].reacting()
     }
 
     /// The top operand of a leaf, where there is one.

@@ -3,8 +3,8 @@ use Rattle.std.proofs.Common.{◌≡◌, ℕ, suc, ◌+◌, ◌<◌, ◌≤◌, 
 use Rattle.std.specs.Prelude.{nat_lt, nat_le, ◌==◌, ◌&&◌, ◌||◌, if◌then◌else◌, codes, sum_by}
 use Rattle.std.proofs.lemmas.Bool.{and_parts, and_from, ltb-true, le-leb, cond_both}
 use Rattle.gq_model.specs.machine.Program.{Done, Do, section_in, Program, size, text_eq}
-use Rattle.gq_model.specs.machine.Sections.{Section, Main, Opening, Upgrading, Calling, Closing, Reacting, all_sections, is_section}
-use Rattle.gq_model.specs.machine.Sections.{SectionKind, row, all_kinds}
+use Rattle.gq_model.specs.machine.Sections.{Section, Main, Opening, Upgrading, Calling, Closing, Reacting, all_sections, is_section, SectionKind, row}
+use Rattle.gq_model.specs.machine.Sections.{all_kinds}
 use Rattle.gq_model.specs.declared.section.SectionKind.TheVariants as kinds
 use Rattle.gq_model.specs.machine.Lists.{all_of, between}
 use Rattle.gq_model.specs.texts.Letters.{lines, words, unindented, past_word, number_in}

@@ -4,8 +4,8 @@ use Rattle.std.specs.Prelude.{nat_le, ◌==◌, ◌&&◌, if◌then◌else◌, s
 use Rattle.std.proofs.lemmas.Bool.{and_parts, and_from, leb-true, le-leb, cond_both}
 use Rattle.std.proofs.lemmas.List.Sums.{sum_by-cons}
 use Rattle.gq_model.specs.machine.Program.{Statements, section_in, size}
-use Rattle.gq_model.specs.machine.Sections.{Section, Main, Opening, Upgrading, Calling, Closing, Reacting, same_section, all_sections}
-use Rattle.gq_model.specs.machine.Sections.{is_section, section_number}
+use Rattle.gq_model.specs.machine.Sections.{Section, Main, Opening, Upgrading, Calling, Closing, Reacting, same_section, all_sections, is_section}
+use Rattle.gq_model.specs.machine.Sections.{section_number}
 use Rattle.gq_model.specs.machine.Lists.{all_of, between}
 use Rattle.gq_model.specs.texts.Operands.{greatest_number}
 use Rattle.gq_model.specs.texts.Code.{is_body, are_sections}

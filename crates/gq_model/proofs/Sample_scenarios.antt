@@ -10,6 +10,7 @@ use Rattle.gq_model.specs.machine.Scenario.{Scenario, Interface, Interfaces, Rou
 use Rattle.gq_model.specs.machine.Scenario.{Leaf_node, Init_node}
 use Rattle.gq_model.proofs.Statement_word_rows.{drop, combine, push, modulo, index}
 use Rattle.gq_model.specs.machine.Run.{Turns, Acts}
+use Rattle.gq_model.specs.machine.Step_budgets.{StepBudget}
 
 -- PROGRAMS
 
@@ -31,7 +32,7 @@ main_of is = program ((Main, all_do is) ∷ [])
 
 abbrev pub leaf : List ℕ → ℕ → Program → LeafNode
 leaf name ram p =
-    record { name = name; quantum = amount ram 0; source = As_text []; program = p; provides = None; after = None; inputs = []; routes = None }
+    record { name = name; quantum = amount ram 0; source = As_text []; program = p; provides = None; after = None; inputs = []; signals = 0; routes = None }
 
 abbrev pub server : List ℕ → ℕ → List ℕ → List (Section × Statements) → LeafNode
 server name ram service sections = record (leaf name ram (program sections)) { provides = Some service }
@@ -199,3 +200,10 @@ pool_main =
 
 abbrev pub pooled : Scenario
 pooled = scenario 65536 (leaves (leaf (codes "a") 20480 (program ((Main, pool_main) ∷ [])) ∷ []))
+
+-- BUDGETS
+
+-- budgets of leaves in scenarios without signals: so many steps for the start
+abbrev pub started : List ℕ → List StepBudget
+started [] = []
+started (n ∷ rest) = record { from_start = n; for_signals = [] } ∷ started rest

@@ -9,10 +9,10 @@ use Rattle.gq_model.specs.machine.World.{Session, Handling, Leaf, World, session
 use Rattle.gq_model.specs.machine.Sums.{bank_price, to_leaf, held, lent, received, quota, paid}
 use Rattle.gq_model.specs.machine.Doing.{Event}
 use Rattle.gq_model.specs.machine.Step.{all_empty, next}
-use Rattle.gq_model.specs.machine.Run.{Turns, Sets, Acts, run}
+use Rattle.gq_model.specs.machine.Run.{Turns, Sets, Submits, Acts, run}
 use Rattle.gq_model.specs.machine.Accounts.{LeafAccount, Account, accounts, account_lines, whole}
-use Rattle.gq_model.specs.rules.Verdict.{greatest_cost}
-use Rattle.gq_model.specs.rules.Accept.{Budget, budget, budgets, step_budgets}
+use Rattle.gq_model.specs.machine.Step_budgets.{steps_in, all_steps_in}
+use Rattle.gq_model.specs.rules.Accept.{Budget, budget, budgets, step_budgets, are_small}
 
 -- so it is for each of these resources
 abbrev pub EachOf : List Resource → (Resource → Type 0) → Type 0
@@ -38,13 +38,14 @@ pub record StaysWithin (s : Scenario) (w : World) (x : ℕ) (c : Component) (lea
   pub within_budget : held r w x leaf + lent r w x ≤ part r (budget_of s x c).own + needed r (system s) w x
   pub budget_is_paid : part r (budget_of s x c).own + needed r (system s) w x ≤ part r c.node.quantum + received r w x
 
--- the leaf of a component keeps the budget that is reported of it: of steps, which is itself limited, and of each resource that is counted
+-- the leaf of a component keeps the budget that is reported of it: of steps, which are limited for the start and for each signal, and of each resource that
+-- is counted
 pub record KeepsBudget (s : Scenario) (w : World) (x : ℕ) (c : Component) : Type 0 where
   pub leaf : Leaf
   pub there : slice_get w.leaves x ≡ Some leaf
   pub reported : slice_get (budgets s) x ≡ Some (budget_of s x c)
-  pub steps : leaf.steps ≤ (budget_of s x c).steps
-  pub limited : (budget_of s x c).steps ≤ greatest_cost
+  pub steps : leaf.steps ≤ steps_in w (budget_of s x c).steps
+  pub limited : are_small (budget_of s x c).steps ≡ true
   pub bytes_and_caps : EachOf (system s).counted (StaysWithin s w x c leaf)
 
 -- QUOTAS
@@ -122,7 +123,7 @@ AllKeep (a ∷ rest) = KeepsQuota a.quota a.leaf × AllKeep rest
 
 -- so it is in each account that is reported of a world
 abbrev pub KeepsAccounts : Scenario → World → Type 0
-KeepsAccounts s w = AllKeep (accounts s w (step_budgets (budgets s)))
+KeepsAccounts s w = AllKeep (accounts s w (all_steps_in w (step_budgets (budgets s))))
 
 -- WORLDS AND RUNS
 
@@ -136,7 +137,8 @@ pub record IsUpheld (s : Scenario) (w : World) : Type 0 where
   pub closes : ClosesWhole s w
   pub ends : EndsSessions s w
 
--- these turns and settings came to no wrong step, the world after them and each on the way is such a one, and the text is whole: all lines, then the accounts
+-- these turns, settings and signals came to no wrong step, the world after them and each on the way is such a one, and the text is whole: all lines,
+-- then the accounts
 pub record Upholds (s : Scenario) (turns : Acts) : Type 0 where
   pub never_wrong : (run (system s) turns).wrong ≡ None
   pub in_world : IsUpheld s (run (system s) turns).world
@@ -146,5 +148,8 @@ pub record Upholds (s : Scenario) (turns : Acts) : Type 0 where
   -- and the one after any of these settings
   pub after_settings : (before after : Acts) (x i n : ℕ) → turns ≡ before ++ (x, Sets i n) ∷ after
       → IsUpheld s (run (system s) (before ++ (x, Sets i n) ∷ [])).world
+  -- and the one after any of these signals
+  pub after_signals : (before after : Acts) (x i : ℕ) → turns ≡ before ++ (x, Submits i) ∷ after
+      → IsUpheld s (run (system s) (before ++ (x, Submits i) ∷ [])).world
   pub writes_all : whole s (step_budgets (budgets s)) turns ≡ (run (system s) turns).text
-      ++ account_lines s.version (accounts s (run (system s) turns).world (step_budgets (budgets s)))
+      ++ account_lines s.version (accounts s (run (system s) turns).world (all_steps_in (run (system s) turns).world (step_budgets (budgets s))))

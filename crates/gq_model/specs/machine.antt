@@ -1,5 +1,6 @@
 -- The abstract machine: programs and the tree of components, what stands between two steps, and what a step does (`next`).
--- From these: what is held, lent and received of each resource, runs (`run`), and the accounts and the text of a run (`whole`).
+-- From these: what is held, lent and received of each resource, runs (`run`), turns that bring all to rest (`to_rest`), and the accounts and the text of a
+-- run (`whole`).
 -- It speaks of lists, numbers and trees alone; no page, frame, code byte or stored balance.
 pub mod Lists
 pub mod Amounts
@@ -16,4 +17,6 @@ pub mod Memory
 pub mod Requests
 pub mod Step
 pub mod Run
+pub mod Rest
+pub mod Step_budgets
 pub mod Accounts

@@ -193,6 +193,8 @@ pub enum TurnFault {
     NoInput,
     /// A number above the greatest value of an input.
     InputTooLarge,
+    /// A signal that the leaf has not.
+    NoSignal,
 }
 
 impl TurnFault {
@@ -206,6 +208,7 @@ impl TurnFault {
             TurnFault::TooMany => "U3 TooMany",
             TurnFault::NoInput => "U4 NoInput",
             TurnFault::InputTooLarge => "U5 InputTooLarge",
+            TurnFault::NoSignal => "U6 NoSignal",
         }
     }
 }

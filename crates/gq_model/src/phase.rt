@@ -13,7 +13,7 @@ pub enum Phase {
     /// It waits for a reply.
     #[error("blocked")]
     Blocked,
-    /// It provides a service, and has no current request.
+    /// It provides a service or has signals, and handles neither a request nor a signal.
     #[error("serving")]
     Serving,
     /// It is in another section than `main`.

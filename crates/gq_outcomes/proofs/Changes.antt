@@ -2,7 +2,7 @@
 use Rattle.std.proofs.Common.{◌≡◌, ℕ, ◌+◌, ◌<◌, Bool, true, false, ◌||◌, ◌&&◌, not, List, [], ◌∷◌, length, drop, get_or, refl, ap, sym, ◌∙◌}
 use Rattle.gq_model.specs.declared.section.Section.{Section}
 use Rattle.gq_model.specs.machine.Program.{Statements}
-use Rattle.gq_model.specs.machine.Sections.{is_own_section}
+use Rattle.gq_model.specs.machine.Sections.{is_start_section}
 use Rattle.gq_program.specs.declared.program_tree.Statement.{Statement}
 use Rattle.gq_program.specs.declared.program_tree.Statement.TheVariants.{Plain, If, Loop}
 use Rattle.gq_program.specs.Statement_trees.{tree_of}
@@ -50,11 +50,11 @@ changes_here items k st less is does =
 -- SECTIONS
 
 pub parts_left : (items : List (Section × Statements)) (k : ℕ) (p : Section × Statements) → k < length items → p ≡ get_or items k p
-    → (not (is_own_section p.0) && changes_in p.1) ≡ false → changes_later (drop k items) ≡ changes_later (drop (k + 1) items)
+    → (not (is_start_section p.0) && changes_in p.1) ≡ false → changes_later (drop k items) ≡ changes_later (drop (k + 1) items)
 parts_left items k p less is none =
-    ap changes_later (next_is items k p less is) ∙ or_else (not (is_own_section p.0) && changes_in p.1) (changes_later (drop (k + 1) items)) none
+    ap changes_later (next_is items k p less is) ∙ or_else (not (is_start_section p.0) && changes_in p.1) (changes_later (drop (k + 1) items)) none
 
 pub parts_here : (items : List (Section × Statements)) (k : ℕ) (p : Section × Statements) → k < length items → p ≡ get_or items k p
-    → (not (is_own_section p.0) && changes_in p.1) ≡ true → changes_later (drop k items) ≡ true
+    → (not (is_start_section p.0) && changes_in p.1) ≡ true → changes_later (drop k items) ≡ true
 parts_here items k p less is does =
-    ap changes_later (next_is items k p less is) ∙ or_first (not (is_own_section p.0) && changes_in p.1) (changes_later (drop (k + 1) items)) does
+    ap changes_later (next_is items k p less is) ∙ or_first (not (is_start_section p.0) && changes_in p.1) (changes_later (drop (k + 1) items)) does

@@ -1,7 +1,7 @@
 -- What is known of the leaves and slots of a sound machine, and of what a leaf asks.
 use Rattle.std.proofs.Common.{◌≡◌, ◌<◌, ◌≤◌, ℕ, zero, suc, Bool, true, false, ◌&&◌, List, [], ◌∷◌, Option, Some, None, length, refl, sym, ap}
 use Rattle.std.proofs.Common.{subst, ◌∙◌, arith}
-use Rattle.std.specs.Prelude.{IfSome, slice_get}
+use Rattle.std.specs.Prelude.{IfSome, is_some, option_map, slice_get}
 use Rattle.std.specs.Coded.{Coded-set, coded_ℕ}
 use Rattle.std.proofs.Math.Logic.{∥∥₁_elim}
 use Rattle.std.proofs.lemmas.Option.{slice_get_past}
@@ -15,7 +15,7 @@ use Rattle.gq_model.specs.machine.Scenario.{Component, System, components, syste
 use Rattle.gq_model.specs.machine.World as model
 use Rattle.gq_model.proofs.Small_facts.{get_within, none_some, some_same}
 use Rattle.gq_laws.specs.Shapes.{Each, IsWholeLeaf, IsWholeSession}
-use Rattle.gq_laws.specs.Turn_effects.{can_run, runs, runs_as}
+use Rattle.gq_model.specs.machine.Rest.{can_run, runs, runs_as}
 use Rattle.gq_bytecode.specs.Code_positions.{place_at}
 use Rattle.gq_bytecode.specs.Cores.{Core}
 use Rattle.gq_machine.specs.Machines.{Machine}
@@ -33,6 +33,10 @@ pub each_at : {A : Type 0} (P : A → Type 0) (xs : List A) (k : ℕ) (a : A) �
 each_at P [] k a h e = absurd (none_some e)
 each_at P (x ∷ xs) zero a h e = subst P (some_same e) h.0
 each_at P (x ∷ xs) (suc k) a h e = each_at P xs k a h.1 e
+
+pub some_map : {A B : Type 0} (f : A → B) (o : Option A) → is_some (option_map f o) ≡ is_some o
+some_map f None = refl
+some_map f (Some a) = refl
 
 -- SOUND MACHINES
 
@@ -77,12 +81,11 @@ module _ (m : Machine) (sound : IsSoundMachine m) where
 
   -- whether a leaf can take a turn, by its phase
   pub take_is : (x : ℕ) (p : Phase) → x < length (components m.scenario) → IfSome (slice_get m.world.leaves x) (λ l. p ≡ l.phase)
-      → can_run (system m.scenario) m.world x ≡ runs m.world x p
-  take_is x p less at =
+      → (l : model.Leaf) → slice_get m.world.leaves x ≡ Some l → can_run (system m.scenario) m.world x ≡ runs m.world x l p
+  take_is x p less at l there =
       let c = get_within (components m.scenario) x less in
-      let l = leaf_there x less in
-      let phase : p ≡ l.0.phase = subst (λ (o : Option model.Leaf). IfSome o (λ l. p ≡ l.phase)) l.1 at in
-      (λ i. runs_as m.world x (c.1 i) (l.1 i)) ∙ ap (runs m.world x) (sym phase)
+      let phase : p ≡ l.phase = subst (λ (o : Option model.Leaf). IfSome o (λ l. p ≡ l.phase)) there at in
+      (λ i. runs_as m.world x (c.1 i) (there i)) ∙ ap (runs m.world x l) (sym phase)
 
 -- WHAT IS ASKED
 
@@ -134,7 +137,7 @@ module _ (s : System) (w : model.World) (x : ℕ) (c : Component) (l : model.Lea
   ahead_is Other = refl
 
   abbrev body : Statements
-  body = body_of (section_in (section_of l.current) c.node.program.sections)
+  body = body_of (section_in (section_of l.current l.reacting) c.node.program.sections)
 
   -- a leaf that takes steps of its own
   asks_active : (core : Core) → StandsAt c l core → is_active l.phase ≡ true
@@ -159,13 +162,13 @@ module _ (s : System) (w : model.World) (x : ℕ) (c : Component) (l : model.Lea
   by_phase : (racy : List Bool) (core : Core) (asks : Asks) → StandsAt c l core
       → asks ≡ asks_of (server_of s c) (ahead_in body core.position)
       → (p : Phase) → l.phase ≡ p
-      → (runs w x p && spec.is_one_of racy (spec.next_asked s w x c l l.todo)) ≡ (is_active p && spec.is_one_of racy (server_asked w x l asks))
+      → (runs w x l p && spec.is_one_of racy (spec.next_asked s w x c l l.todo)) ≡ (is_active p && spec.is_one_of racy (server_asked w x l asks))
   by_phase racy core a stands is phase.Pending e = refl
   by_phase racy core a stands is phase.Running e =
       ap (spec.is_one_of racy) (asks_active core stands (ap is_active e) ∙ ap (server_asked w x l) (sym is))
   by_phase racy core a stands is phase.Blocked e = refl
   by_phase racy core a stands is phase.Serving e =
-      ap (λ o. runs w x phase.Serving && spec.is_one_of racy o) (asks_serving core stands e) ∙ both_false (runs w x phase.Serving)
+      ap (λ o. runs w x l phase.Serving && spec.is_one_of racy o) (asks_serving core stands e) ∙ both_false (runs w x l phase.Serving)
   by_phase racy core a stands is phase.Handling e =
       ap (spec.is_one_of racy) (asks_active core stands (ap is_active e) ∙ ap (server_asked w x l) (sym is))
   by_phase racy core a stands is phase.Exited e = refl
@@ -182,11 +185,12 @@ pub none_chooses : (s : System) (w : model.World) (x : ℕ) (racy : List Bool) (
 none_chooses s w x racy c l core stands none ec el =
     (λ i. runs_as w x (ec i) (el i) && spec.is_one_of racy (spec.asks_next s w x (ec i) (el i))) ∙ by l.phase refl none
   where
-    by : (p : Phase) → l.phase ≡ p → is_active p ≡ false → (runs w x p && spec.is_one_of racy (spec.next_asked s w x c l l.todo)) ≡ false
+    by : (p : Phase) → l.phase ≡ p → is_active p ≡ false → (runs w x l p && spec.is_one_of racy (spec.next_asked s w x c l l.todo)) ≡ false
     by phase.Pending e n = refl
     by phase.Running e n = absurd (cc n)
     by phase.Blocked e n = refl
     by phase.Serving e n =
-        ap (λ o. runs w x phase.Serving && spec.is_one_of racy o) (asks_serving s w x c l core stands e) ∙ both_false s w x c l (runs w x phase.Serving)
+        ap (λ o. runs w x l phase.Serving && spec.is_one_of racy o) (asks_serving s w x c l core stands e)
+        ∙ both_false s w x c l (runs w x l phase.Serving)
     by phase.Handling e n = absurd (cc n)
     by phase.Exited e n = refl

@@ -1,5 +1,5 @@
 -- Slots, leaves and sessions of a world, as parts of its key.
-use Rattle.std.proofs.Common.{◌≡◌, ℕ, zero, suc, ◌+◌, ◌<◌, List, [], ◌∷◌, ◌++◌, length, get_or, map, Option, Some, None}
+use Rattle.std.proofs.Common.{◌≡◌, ℕ, zero, suc, ◌<◌, List, [], ◌∷◌, ◌++◌, length, get_or, map, Option, Some, None}
 use Rattle.std.proofs.Common.{refl, ap, sym, ◌∙◌, append_assoc, arith}
 use Rattle.std.specs.Prelude.{IfSome, option_map, slice_get}
 use Rattle.gq_model.specs.machine.World.{Slot, Empty, Session, Leaf, World, leaf_slot, session_at, session_slot}
@@ -9,7 +9,7 @@ use Rattle.gq_laws.specs.Renamed.{renamed_leaf, renamed_request, renamed_session
 use Rattle.gq_machine.specs.Machine_world.{no_leaf}
 use Rattle.gq_outcomes.specs.Same.{ordered_by, session_slots}
 use Rattle.gq_outcomes.specs.internal.Keys.{current_key, each_key, flag, leaf_key, left_key, list_key, number_key, option_key, phase_tag, request_key}
-use Rattle.gq_outcomes.specs.internal.Keys.{session_key, slot_id_key, slot_key, slots_key, text_key, world_key}
+use Rattle.gq_outcomes.specs.internal.Keys.{session_key, signals_key, slot_id_key, slot_key, slots_key, text_key, world_key}
 use Rattle.gq_outcomes.specs.internal.Key_parts.{kept_head_key, kept_leaf_key, kept_slot_key, numbered_key, peak_key, place_in}
 use Rattle.gq_outcomes.specs.internal.Key_parts.{session_head_key, slot_or_empty}
 use Rattle.gq_outcomes.proofs.Key_lists.{list_map}
@@ -47,19 +47,27 @@ leaf_is (leaf ∷ leaves) (suc x) l = leaf_is leaves x (omega (arith, l))
 pub slots_are : (order : List ℕ) (slots : List Slot) → slots_key (map (renamed_slot (place_in order)) slots) ≡ list_key (kept_slot_key order) slots
 slots_are order slots = list_map slot_key (renamed_slot (place_in order)) slots
 
-seven : (t : ℕ) (a b c d e f g h : List ℕ)
-    → (t ∷ (a ++ (b ++ (c ++ (d ++ (e ++ (f ++ g))))))) ++ h ≡ t ∷ (a ++ (b ++ (c ++ (d ++ (e ++ (f ++ (g ++ h)))))))
-seven t a b c d e f g h =
-    ap (λ l. t ∷ l) (append_assoc a (b ++ (c ++ (d ++ (e ++ (f ++ g))))) h ∙ ap (λ l. a ++ l) (append_assoc b (c ++ (d ++ (e ++ (f ++ g)))) h
+seven : (a b c d e f g h : List ℕ)
+    → (a ++ (b ++ (c ++ (d ++ (e ++ (f ++ g)))))) ++ h ≡ a ++ (b ++ (c ++ (d ++ (e ++ (f ++ (g ++ h))))))
+seven a b c d e f g h =
+    append_assoc a (b ++ (c ++ (d ++ (e ++ (f ++ g))))) h ∙ ap (λ l. a ++ l) (append_assoc b (c ++ (d ++ (e ++ (f ++ g)))) h
     ∙ ap (λ l. b ++ l) (append_assoc c (d ++ (e ++ (f ++ g))) h ∙ ap (λ l. c ++ l) (append_assoc d (e ++ (f ++ g)) h
-    ∙ ap (λ l. d ++ l) (append_assoc e (f ++ g) h ∙ ap (λ l. e ++ l) (append_assoc f g h))))))
+    ∙ ap (λ l. d ++ l) (append_assoc e (f ++ g) h ∙ ap (λ l. e ++ l) (append_assoc f g h)))))
+
+eight : (a b c d e f g h i : List ℕ)
+    → (a ++ (b ++ (c ++ (d ++ (e ++ (f ++ (g ++ h))))))) ++ i ≡ a ++ (b ++ (c ++ (d ++ (e ++ (f ++ (g ++ (h ++ i)))))))
+eight a b c d e f g h i = append_assoc a (b ++ (c ++ (d ++ (e ++ (f ++ (g ++ h)))))) i ∙ ap (λ l. a ++ l) (seven b c d e f g h i)
+
+nine : (t : ℕ) (a b c d e f g h i : List ℕ)
+    → (t ∷ (a ++ (b ++ (c ++ (d ++ (e ++ (f ++ (g ++ h)))))))) ++ i ≡ t ∷ (a ++ (b ++ (c ++ (d ++ (e ++ (f ++ (g ++ (h ++ i))))))))
+nine t a b c d e f g h i = ap (λ l. t ∷ l) (eight a b c d e f g h i)
 
 -- a leaf is its slots behind the rest of it
 pub leaf_parts : (order : List ℕ) (leaf : Leaf) → kept_leaf_key order leaf ≡ kept_head_key order leaf ++ list_key (kept_slot_key order) leaf.slots
 leaf_parts order leaf =
     let l = renamed_leaf (place_in order) leaf in
-    sym (seven (phase_tag l.phase) (option_key current_key l.current) (left_key l.todo l.loops) (text_key l.operands) (text_key l.locals) (text_key l.peaks)
-    (number_key l.steps) (text_key l.inputs) (slots_key l.slots))
+    sym (nine (phase_tag l.phase) (option_key current_key l.current) (left_key l.todo l.loops) (text_key l.operands) (text_key l.locals) (text_key l.peaks)
+    (number_key l.steps) (text_key l.inputs) (signals_key l.reacting l.signals) (slots_key l.slots))
     ∙ ap (λ t. kept_head_key order leaf ++ t) (slots_are order leaf.slots)
 
 -- PEAKS
@@ -80,13 +88,6 @@ peaks_text (a ∷ b ∷ c ∷ d ∷ e ∷ f ∷ g ∷ []) n = absurd (omega (ari
 peaks_text (a ∷ b ∷ c ∷ d ∷ e ∷ f ∷ g ∷ h ∷ i ∷ rest) n = absurd (omega (arith, n))
 
 -- SESSIONS
-
-eight : (a b c d e f g h i : List ℕ)
-    → (a ++ (b ++ (c ++ (d ++ (e ++ (f ++ (g ++ h))))))) ++ i ≡ a ++ (b ++ (c ++ (d ++ (e ++ (f ++ (g ++ (h ++ i)))))))
-eight a b c d e f g h i =
-    append_assoc a (b ++ (c ++ (d ++ (e ++ (f ++ (g ++ h)))))) i ∙ ap (λ l. a ++ l) (append_assoc b (c ++ (d ++ (e ++ (f ++ (g ++ h))))) i
-    ∙ ap (λ l. b ++ l) (append_assoc c (d ++ (e ++ (f ++ (g ++ h)))) i ∙ ap (λ l. c ++ l) (append_assoc d (e ++ (f ++ (g ++ h))) i
-    ∙ ap (λ l. d ++ l) (append_assoc e (f ++ (g ++ h)) i ∙ ap (λ l. e ++ l) (append_assoc f (g ++ h) i ∙ ap (λ l. f ++ l) (append_assoc g h i))))))
 
 -- a session is its object and its slots behind the rest of it
 pub session_parts : (order : List ℕ) (s : Session) → session_key (renamed_session (place_in order) s)

@@ -1,5 +1,5 @@
 -- What is read of a machine's slots and sessions, as parts of a key.
-use Rattle.std.proofs.Common.{◌≡◌, ℕ, zero, suc, ◌+◌, ◌<◌, Bool, List, [], ◌∷◌, ◌++◌, length, get_or, Option, Some, None, is_some}
+use Rattle.std.proofs.Common.{◌≡◌, ℕ, zero, suc, ◌<◌, Bool, List, [], ◌∷◌, ◌++◌, length, get_or, Option, Some, None, is_some}
 use Rattle.std.proofs.Common.{refl, ap, sym, ◌∙◌, arith}
 use Rattle.std.specs.Prelude.{if◌then◌else◌, IfSome, IsTrue, option_map, slice_get, slice_index}
 use Rattle.std.specs.Coded.{Coded-set, coded_ℕ}
@@ -101,10 +101,10 @@ memory_count (Some (Pool n entries)) = refl
 memory_count (Some (Link k)) = refl
 memory_count (Some (Waiting k)) = refl
 
-pub get_is : (bytes : List ℕ) (i b : ℕ) → slice_get bytes i ≡ Some b → b ≡ get_or bytes i b
+pub get_is : {A : Type 0} (items : List A) (i : ℕ) (b : A) → slice_get items i ≡ Some b → b ≡ get_or items i b
 get_is [] i b e = refl
-get_is (x ∷ bytes) zero b e = sym (some_same e)
-get_is (x ∷ bytes) (suc i) b e = get_is bytes i b e
+get_is (x ∷ items) zero b e = sym (some_same e)
+get_is (x ∷ items) (suc i) b e = get_is items i b e
 
 pub memory_byte : (o : Option Slot) (i b : ℕ) → byte_at i o ≡ Some b → b ≡ get_or (memory_in (slot_or_empty o)) i b
 memory_byte None i b e = absurd (none_some e)

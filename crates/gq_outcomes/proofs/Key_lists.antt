@@ -13,6 +13,10 @@ use Rattle.gq_outcomes.specs.internal.Keys.{bytes_key, each_key, list_key, numbe
 pub behind : (old mid new x y : List ℕ) → mid ≡ old ++ x → new ≡ mid ++ y → new ≡ old ++ (x ++ y)
 behind old mid new x y first second = second ∙ ap (λ t. t ++ y) first ∙ append_assoc old x y
 
+-- behind two that were put at once
+pub behind_two : (old mid new x y z : List ℕ) → mid ≡ old ++ (x ++ y) → new ≡ mid ++ z → new ≡ old ++ (x ++ (y ++ z))
+behind_two old mid new x y z first second = behind old mid new (x ++ y) z first second ∙ ap (λ t. old ++ t) (append_assoc x y z)
+
 module _ {A : Type 0} (key : A → List ℕ) where
   -- the key of what is left of a list, one by one
   pub each_next : (xs : List A) (i : ℕ) (d a : A) → i < length xs → a ≡ get_or xs i d → each_key key (drop i xs) ≡ key a ++ each_key key (drop (i + 1) xs)

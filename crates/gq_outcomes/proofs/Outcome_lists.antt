@@ -6,7 +6,8 @@ use Rattle.std.specs.Io.KnownBytes.{Appends}
 use Rattle.std.proofs.lemmas.Bool.{le-leb}
 use Rattle.gq_model.specs.machine.Scenario.{Component, Scenario, components}
 use Rattle.gq_model.specs.texts.Letters.{is_name}
-use Rattle.gq_model.specs.texts.Turns.{greatest_turns, turned}
+use Rattle.gq_model.specs.texts.Turns.{turned}
+use Rattle.gq_model.specs.machine.Rest.{greatest_turns}
 use Rattle.gq_laws.specs.Shapes.{Each}
 use Rattle.gq_laws.specs.Sound_scenarios.{IsSound}
 use Rattle.gq_views.specs.Listing.{joined}

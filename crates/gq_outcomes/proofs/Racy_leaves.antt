@@ -12,8 +12,8 @@ use Rattle.gq_model.specs.machine.Routes.{server_of}
 use Rattle.gq_model.specs.machine.Scenario.{Component, System}
 use Rattle.gq_model.specs.rules.Use.{is_there, reaches, services, used_at, used_from, uses}
 use Rattle.gq_model.proofs.Small_facts.{get_within, none_some, some_same}
-use Rattle.gq_races.specs.Races.{Stated, changes_own, each_stated, for_several, found_in, is_shared, stated_in, stated_of}
-use Rattle.gq_outcomes.specs.Choices.{are_some, has_race, is_own_race, is_racy, leads_to_race, races_at, racy_from}
+use Rattle.gq_races.specs.Races.{Stated, changes_own, each_stated, for_several, found_in, is_race, is_shared, stated_in, stated_of}
+use Rattle.gq_outcomes.specs.Choices.{are_some, has_race, is_racy, leads_to_race, races_at, racy_from}
 use Rattle.gq_outcomes.specs.internal.Racy.{both, changes_in, changes_later, is_marked, leading, uses_marked, with_race, with_users}
 
 -- TESTS
@@ -328,52 +328,52 @@ some_three [] [] c = refl
 some_three [] (y ∷ b) c = refl
 some_three (x ∷ a) b c = refl
 
-changes_found : (n : ℕ) (st : Statements) → some (found_in (is_own_race true) n st) ≡ changes_in st
+changes_found : (n : ℕ) (st : Statements) → some (found_in (is_race true) n st) ≡ changes_in st
 changes_found n Done = refl
 changes_found n (Do i rest) =
-    (let c : ℕ × Instruction = (n, i) in some_append (if changes_own i then c ∷ [] else []) (found_in (is_own_race true) (suc n) rest))
+    (let c : ℕ × Instruction = (n, i) in some_append (if changes_own i then c ∷ [] else []) (found_in (is_race true) (suc n) rest))
     ∙ (λ k. one_some n i (changes_own i) k || changes_found (suc n) rest k)
 changes_found n (If arm other rest) =
-    some_three (found_in (is_own_race true) (suc n) arm) (found_in (is_own_race true) (suc n + size arm) other) (found_in (is_own_race true) (suc n + size arm
+    some_three (found_in (is_race true) (suc n) arm) (found_in (is_race true) (suc n + size arm) other) (found_in (is_race true) (suc n + size arm
     + size other) rest)
     ∙ (λ k. (changes_found (suc n) arm k || changes_found (suc n + size arm) other k) || changes_found (suc n + size arm + size other) rest k)
     ∙ three (changes_in arm) (changes_in other) (changes_in rest)
 changes_found n (Loop count body rest) =
-    some_append (found_in (is_own_race true) (suc n) body) (found_in (is_own_race true) (suc n + size body) rest)
+    some_append (found_in (is_race true) (suc n) body) (found_in (is_race true) (suc n + size body) rest)
     ∙ (λ k. changes_found (suc n) body k || changes_found (suc n + size body) rest k)
 
-none_found : (n : ℕ) (st : Statements) → some (found_in (is_own_race false) n st) ≡ false
+none_found : (n : ℕ) (st : Statements) → some (found_in (is_race false) n st) ≡ false
 none_found n Done = refl
 none_found n (Do i rest) = none_found (suc n) rest
 none_found n (If arm other rest) =
-    some_three (found_in (is_own_race false) (suc n) arm) (found_in (is_own_race false) (suc n + size arm) other) (found_in (is_own_race false) (suc n + size
+    some_three (found_in (is_race false) (suc n) arm) (found_in (is_race false) (suc n + size arm) other) (found_in (is_race false) (suc n + size
     arm + size other) rest)
     ∙ (λ k. (none_found (suc n) arm k || none_found (suc n + size arm) other k) || none_found (suc n + size arm + size other) rest k)
 none_found n (Loop count body rest) =
-    some_append (found_in (is_own_race false) (suc n) body) (found_in (is_own_race false) (suc n + size body) rest)
+    some_append (found_in (is_race false) (suc n) body) (found_in (is_race false) (suc n + size body) rest)
     ∙ (λ k. none_found (suc n) body k || none_found (suc n + size body) rest k)
 
-section_found : (several : Bool) (st : Statements) → some (found_in (is_own_race several) 1 st) ≡ (several && changes_in st)
+section_found : (several : Bool) (st : Statements) → some (found_in (is_race several) 1 st) ≡ (several && changes_in st)
 section_found true st = changes_found 1 st
 section_found false st = none_found 1 st
 
 sections_found : (label : List ℕ) (sections : List (Section × Statements))
-    → are_some (stated_in (λ section. is_own_race (for_several true section)) label sections) ≡ changes_later sections
+    → are_some (stated_in (λ section. is_race (for_several true section)) label sections) ≡ changes_later sections
 sections_found label [] = refl
 sections_found label (p ∷ rest) =
-    stated_append (each_stated label p.0 (found_in (is_own_race (for_several true p.0)) 1 p.1)) (stated_in (λ section. is_own_race (for_several true section))
+    stated_append (each_stated label p.0 (found_in (is_race (for_several true p.0)) 1 p.1)) (stated_in (λ section. is_race (for_several true section))
     label rest)
-    ∙ (λ k. (each_some label p.0 (found_in (is_own_race (for_several true p.0)) 1 p.1) ∙ section_found (for_several true p.0) p.1) k || sections_found label
+    ∙ (λ k. (each_some label p.0 (found_in (is_race (for_several true p.0)) 1 p.1) ∙ section_found (for_several true p.0) p.1) k || sections_found label
     rest k)
 
 none_stated : (label : List ℕ) (sections : List (Section × Statements))
-    → are_some (stated_in (λ section. is_own_race (for_several false section)) label sections) ≡ false
+    → are_some (stated_in (λ section. is_race (for_several false section)) label sections) ≡ false
 none_stated label [] = refl
 none_stated label (p ∷ rest) =
-    stated_append (each_stated label p.0 (found_in (is_own_race false) 1 p.1)) (stated_in (λ section. is_own_race (for_several false section)) label rest)
-    ∙ (λ k. (each_some label p.0 (found_in (is_own_race false) 1 p.1) ∙ none_found 1 p.1) k || none_stated label rest k)
+    stated_append (each_stated label p.0 (found_in (is_race false) 1 p.1)) (stated_in (λ section. is_race (for_several false section)) label rest)
+    ∙ (λ k. (each_some label p.0 (found_in (is_race false) 1 p.1) ∙ none_found 1 p.1) k || none_stated label rest k)
 
-race_is : (shared : Bool) (c : Component) → are_some (stated_of is_own_race shared c) ≡ (shared && changes_later c.node.program.sections)
+race_is : (shared : Bool) (c : Component) → are_some (stated_of is_race shared c) ≡ (shared && changes_later c.node.program.sections)
 race_is true c = sections_found c.label c.node.program.sections
 race_is false c = none_stated c.label c.node.program.sections
 

@@ -1,5 +1,5 @@
 -- A search that keeps the choices that are open comes to what the recursion comes to.
-use Rattle.std.proofs.Common.{◌≡◌, ℕ, zero, suc, ◌+◌, ◌<◌, ◌≤◌, ◌==◌, Bool, true, false, List, [], ◌∷◌, ◌++◌, refl, ap, sym, ◌∙◌, arith}
+use Rattle.std.proofs.Common.{◌≡◌, ℕ, zero, suc, ◌<◌, ◌≤◌, ◌==◌, Bool, true, false, List, [], ◌∷◌, ◌++◌, refl, ap, sym, ◌∙◌, arith}
 use Rattle.gq_model.specs.machine.Scenario.{Component}
 use Rattle.gq_outcomes.specs.Choices.{can_settle, choices, is_settled}
 use Rattle.gq_outcomes.specs.Outcomes.{Explored, Going, Kept, Point, Search, after_turn, and_further, and_on, arrive, branch, choose, each_choice}

@@ -5,6 +5,7 @@ use Rattle.std.specs.declared.alloc.Global.{Global}
 use Rattle.gq_model.specs.machine.Accounts.{account_lines, accounts}
 use Rattle.gq_model.specs.machine.Scenario.{Component, Scenario, System, components, system}
 use Rattle.gq_model.specs.machine.World as model
+use Rattle.gq_model.specs.machine.Step_budgets.{all_steps_in}
 use Rattle.gq_model.specs.rules.Accept.{budgets, step_budgets}
 use Rattle.gq_machine.specs.Machines.{Machine}
 use Rattle.gq_world.specs.Account_lines.{accounts_by, accounts_text, all_accounts}
@@ -17,6 +18,7 @@ use Rattle.gq_outcomes.specs.internal.Found_outcomes.{outcome_seen}
 use Rattle.gq_outcomes.specs.internal.Kept_keys.{kept_key}
 use Rattle.gq_outcomes.specs.internal.Turn_rows.{past_of}
 use Rattle.gq_outcomes.specs.internal.Walks.{IsOnWay, reached, said_of}
+use Rattle.gq_world.proofs.World_account_lines.{stored_lines}
 
 -- LEAVES AT A CHOICE
 
@@ -50,8 +52,10 @@ module _ (s : Scenario) (w : Walk) (h : IsOnWay s w) where
   unfolding all_accounts accounts_by
   outcome_is text is =
       let of = h.walk.scenario in
-      is ∙ (λ i. lines_of (h.at.stands.said i)
-      ++ account_lines (of i).version (accounts (of i) (h.at.stands.world i) (step_budgets (budgets (of i)))))
+      is ∙ ap (λ l. lines_of (said_of w) ++ l) (stored_lines w.world.scenario w.world.world (step_budgets (budgets w.world.scenario)))
+      ∙ (λ i. lines_of (h.at.stands.said i)
+      ++ account_lines (of i).version
+      (accounts (of i) (h.at.stands.world i) (all_steps_in (h.at.stands.world i) (step_budgets (budgets (of i))))))
 
   -- the outcome that is kept
   pub outcome_kept : (f : Found) → f.text.items ≡ (outcome_of e (reached s w.past.items)).text → f.past.items ≡ w.past.items

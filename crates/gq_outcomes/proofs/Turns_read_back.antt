@@ -9,12 +9,17 @@ use Rattle.std.proofs.lemmas.List.{reverse-append}
 use Rattle.std.proofs.lemmas.List.Sums.{sum_by-append, sum_by-cons}
 use Rattle.gq_model.specs.machine.Lists.{all_of, between}
 use Rattle.gq_model.specs.declared.act.Act.TheVariants.{Turns}
-use Rattle.gq_model.specs.machine.Scenario.{Scenario, Component, components}
+use Rattle.gq_model.specs.machine.Run.{Ran, begun, run_on}
+use Rattle.gq_model.specs.machine.Scenario.{Scenario, Component, System, components, system}
 use Rattle.gq_model.specs.machine.Program.{text_eq}
 use Rattle.gq_model.specs.machine.Routes.{numbered}
 use Rattle.gq_model.specs.declared.fault.TurnFault.TheVariants.{BadLine, TooMany}
 use Rattle.gq_model.specs.texts.Letters.{is_name, is_name_byte, lines, pieces, number_in}
-use Rattle.gq_model.specs.texts.Turns.{Given, Turned, after_line, greatest_turns, says_nothing, turn_count, turn_in, turn_of, turn_onto, turned, turns_from}
+use Rattle.gq_model.specs.declared.act.TurnLine.{TurnLine}
+use Rattle.gq_model.specs.declared.act.TurnLine.TheVariants.{Gives}
+use Rattle.gq_model.specs.texts.Turns.{Given, Listed, acts_from, acts_of, after_line, line_onto, lines_from, listed, says_nothing, turn_count, turn_in}
+use Rattle.gq_model.specs.texts.Turns.{turn_of, turned}
+use Rattle.gq_model.specs.machine.Rest.{greatest_turns}
 use Rattle.gq_model.proofs.Small_facts.{text_is, text_self}
 use Rattle.gq_laws.specs.Names.{NamesDiffer}
 use Rattle.gq_laws.specs.Shapes.{Each}
@@ -142,7 +147,7 @@ line_pieces name n h few =
     (arith, few)))))
 
 turn_back : (version : ℕ) (components : List Component) (name : List ℕ) (x n : ℕ) → is_name name ≡ true → numbered 0 name components ≡ Some x → 1 ≤ n
-    → n ≤ greatest_turns → turn_in version components (pieces (λ c. c == 32) (name ++ 32 ∷ decimal n)) ≡ Ok (x, Turns n)
+    → n ≤ greatest_turns → turn_in version components (pieces (λ c. c == 32) (name ++ 32 ∷ decimal n)) ≡ Ok (Gives x (Turns n))
 turn_back version components name x n h found some few =
     ap (turn_in version components) (line_pieces name n h few)
     ∙ ap (λ (b : Bool). if b then turn_of (numbered 0 name components) (turn_count (decimal n)) else Err BadLine) h
@@ -157,26 +162,35 @@ no_comment (c ∷ rest) x h =
     by : is_name_byte c ≡ true → (c == 35) ≡ false
     by p = grind (arith, nat_tests)
 
+-- the lines that give these turns
+abbrev lines_of : List (ℕ × ℕ) → List TurnLine
+lines_of [] = []
+lines_of (t ∷ ts) = Gives t.0 (Turns t.1) ∷ lines_of ts
+
+acts_back : (u : System) (ran : Ran) (ts : List (ℕ × ℕ)) → acts_from u ran (lines_of ts) ≡ turns_alone ts
+acts_back u ran [] = refl
+acts_back u ran (t ∷ ts) = ap (λ acts. (t.0, Turns t.1) ∷ acts) (acts_back u (run_on u ((t.0, Turns t.1) ∷ []) ran) ts)
+
 -- a line with turns, then further ones
-onto_back : (version : ℕ) (components : List Component) (k m : ℕ) (t : ℕ × ℕ) (go : ℕ → Turned) (ts : List (ℕ × ℕ)) → IsCalled components t.0 → 1 ≤ t.1
-    → m + t.1 ≤ greatest_turns → go (m + t.1) ≡ Ok (turns_alone ts)
+onto_back : (version : ℕ) (components : List Component) (k m : ℕ) (t : ℕ × ℕ) (go : ℕ → Listed) (ts : List (ℕ × ℕ)) → IsCalled components t.0 → 1 ≤ t.1
+    → m + t.1 ≤ greatest_turns → go (m + t.1) ≡ Ok (lines_of ts)
     → after_line (says_nothing (row_line components t)) (turn_in version components (pieces (λ c. c == 32) (row_line components t))) k m go
-    ≡ Ok (turns_alone (t ∷ ts))
+    ≡ Ok (lines_of (t ∷ ts))
 onto_back version components k m t go ts called some few more =
     let line : row_line components t ≡ called.name ++ 32 ∷ decimal t.1 = ap (λ (l : List ℕ). l ++ 32 ∷ decimal t.1) called.there in
     ap₂ (λ (b : Bool) (r : Given). after_line b r k m go)
     (ap says_nothing line ∙ no_comment called.name (32 ∷ decimal t.1) called.is_name)
     (ap (λ (l : List ℕ). turn_in version components (pieces (λ c. c == 32) l)) line
     ∙ turn_back version components called.name t.0 t.1 called.is_name called.found some (omega (arith, few)))
-    ∙ ap (λ (b : Bool). if b then turn_onto (t.0, Turns t.1) (go (m + t.1)) else Err (TooMany, k)) (le-leb (m + t.1) greatest_turns few)
-    ∙ ap (turn_onto (t.0, Turns t.1)) more
+    ∙ ap (λ (b : Bool). if b then line_onto (Gives t.0 (Turns t.1)) (go (m + t.1)) else Err (TooMany, k)) (le-leb (m + t.1) greatest_turns few)
+    ∙ ap (line_onto (Gives t.0 (Turns t.1))) more
 
 rest_back : (version : ℕ) (components : List Component) (k m : ℕ) (ts : List (ℕ × ℕ)) → Each (IsRow components) ts → m + all_turns ts ≤ greatest_turns
-    → turns_from version components k m (map (row_line components) ts ++ [] ∷ []) ≡ Ok (turns_alone ts)
+    → lines_from version components k m (map (row_line components) ts ++ [] ∷ []) ≡ Ok (lines_of ts)
 rest_back version components k m [] h few = refl
 rest_back version components k m (t ∷ ts) h few =
     let sum = sum_by-cons (λ (t : ℕ × ℕ). t.1) t ts in
-    onto_back version components k m t (λ j. turns_from version components (suc k) j (map (row_line components) ts ++ [] ∷ [])) ts h.0.0 h.0.1
+    onto_back version components k m t (λ j. lines_from version components (suc k) j (map (row_line components) ts ++ [] ∷ [])) ts h.0.0 h.0.1
     (omega (arith, sum, few)) (rest_back version components (suc k) (m + t.1) ts h.1 (omega (arith, sum, few)))
 
 line_printed : (components : List Component) (t : ℕ × ℕ) → IsCalled components t.0 → t.1 ≤ greatest_turns → all_of is_printed (row_line components t) ≡ true
@@ -199,9 +213,11 @@ pub read_back : (s : Scenario) (ts : List (ℕ × ℕ)) → Each (IsRow (compone
 read_back s ts h few short =
     let all = components s in
     let text = joined (map (row_line all) ts) in
-    ap (λ (b : Bool). if b then turns_from s.version all 1 0 (lines text) else Err (TooMany, 0)) (le-leb (length text) (2 ^ 24) short)
-    ∙ ap (turns_from s.version all 1 0) (lines_joined (map (row_line all) ts) (all_printed all ts h few))
-    ∙ rest_back s.version all 1 0 ts h (omega (arith, few))
+    let all_listed : listed s text ≡ Ok (lines_of ts) =
+    ap (λ (b : Bool). if b then lines_from s.version all 1 0 (lines text) else Err (TooMany, 0)) (le-leb (length text) (2 ^ 24) short)
+    ∙ ap (lines_from s.version all 1 0) (lines_joined (map (row_line all) ts) (all_printed all ts h few))
+    ∙ rest_back s.version all 1 0 ts h (omega (arith, few)) in
+    ap (acts_of (system s)) all_listed ∙ ap Ok (acts_back (system s) (begun (system s)) ts)
 
 -- LENGTHS
 

@@ -217,15 +217,17 @@ all_ok (Err e) f p q h = p
 -- STARTS
 
 -- a walk at the start of a scenario
-pub begins : (s : Scenario) (w : Walk) → w.world.scenario ≡ s → IsReady s → w.world.world ≡ start (system w.world.scenario) → AreChoices s w.choices
+pub begins : (s : Scenario) (w : Walk) → w.world.scenario ≡ s → IsReady s → w.world.stopped ≡ false → w.world.world ≡ start (system w.world.scenario)
+    → AreChoices s w.choices
     → said_of w ≡ no_lines (components s) → length w.said.items ≡ length (components s) → w.past.items ≡ [] → IsOnWay s w
-begins s w of ready world choices said count past = record {
+begins s w of ready running world choices said count past = record {
   walk = record {
     scenario = of;
     ready = ready;
     choices = choices;
     count = count;
     turns = subst (λ l. All (λ x. x < length (components s)) l) (sym past) (λ k d less. absurd (omega (arith, less)));
+    running = running;
   };
   at = subst (At s w) (sym past) (at_start s w (record { world = world ∙ ap (λ z. start (system z)) of; said = said }));
 }
@@ -239,7 +241,8 @@ pub same_loaded : (r : Result Scenario LoadRefusal) (a b : Scenario) → r ≡ O
 same_loaded r a b first other = ap (λ q. scenario_or q a) (sym first ∙ other)
 
 -- a walk with another world of its scenario
-pub walk_moved : (s : Scenario) (old : Walk) (world : Running) → world.scenario ≡ s → IsWalk s old → IsWalk world.scenario (record old { world = world })
-walk_moved s old world of h =
+pub walk_moved : (s : Scenario) (old : Walk) (world : Running) → world.scenario ≡ s → world.stopped ≡ false → IsWalk s old
+    → IsWalk world.scenario (record old { world = world })
+walk_moved s old world of running h =
     subst (λ z. IsWalk z (record old { world = world })) (sym of)
-    (record { scenario = of; ready = h.ready; choices = h.choices; count = h.count; turns = h.turns })
+    (record { scenario = of; ready = h.ready; choices = h.choices; count = h.count; turns = h.turns; running = running })

@@ -5,6 +5,7 @@ pub mod Kept_renamed
 pub mod Same_outcomes
 pub mod Runs_end
 pub mod Runs_of_rows
+pub mod Unsubmitted_signals
 pub mod Held_worlds
 pub mod Held_steps
 pub mod Step_changes

@@ -9,23 +9,19 @@ use Rattle.gq_model.specs.machine.Scenario.{System, Component}
 use Rattle.gq_model.specs.machine.Routes.{server_of}
 use Rattle.gq_model.specs.machine.World.{Slot, Link, SlotId, Session, Leaf, World, session_at, slot_at, slot_id_of}
 use Rattle.gq_model.specs.rules.Use.{reaches}
-use Rattle.gq_laws.specs.Turn_effects.{can_run}
-use Rattle.gq_races.specs.Races.{Stated, changes_own, is_shared, stated_of}
+use Rattle.gq_model.specs.machine.Rest.{can_run}
+use Rattle.gq_races.specs.Races.{Stated, is_race, is_shared, stated_of}
 
 -- RACY SERVERS
-
--- a race that is no `in`
-abbrev pub is_own_race : Bool → Instruction → Bool
-is_own_race several i = several && changes_own i
 
 abbrev pub are_some : List Stated → Bool
 are_some [] = false
 are_some (r ∷ rest) = true
 
--- a leaf, which is shared or not, has such a race
+-- a leaf, which is shared or not, has a race
 abbrev pub races_at : Bool → Option Component → Bool
 races_at shared None = false
-races_at shared (Some c) = are_some (stated_of is_own_race shared c)
+races_at shared (Some c) = are_some (stated_of is_race shared c)
 
 abbrev pub has_race : System → ℕ → Bool
 has_race system x = races_at (is_shared system x) (slice_get system.components x)

@@ -5,8 +5,10 @@ use Rattle.gq_model.specs.declared.act.Act.TheVariants.{Turns}
 use Rattle.gq_model.specs.machine.Accounts.{account_lines, accounts}
 use Rattle.gq_model.specs.machine.Run.{Acts, run}
 use Rattle.gq_model.specs.machine.Scenario.{Component, Scenario, components, system}
+use Rattle.gq_model.specs.machine.Step_budgets.{all_steps_in}
 use Rattle.gq_model.specs.rules.Accept.{budgets, step_budgets}
-use Rattle.gq_model.specs.texts.Turns.{greatest_turns, turned}
+use Rattle.gq_model.specs.texts.Turns.{turned}
+use Rattle.gq_model.specs.machine.Rest.{greatest_turns}
 use Rattle.gq_load.specs.Load.{loaded}
 use Rattle.gq_laws.specs.Progress.{AllRest}
 use Rattle.gq_laws.specs.Shapes.{Each}
@@ -31,7 +33,8 @@ quiet_lines s x (c ∷ rest) acts = if_none c.node.provides (own_lines (system s
 -- how a run ends: what each leaf that provides nothing has written, and all account lines
 abbrev pub ending : Scenario → Acts → List ℕ
 ending s acts =
-    quiet_lines s 0 (components s) acts ++ account_lines s.version (accounts s (run (system s) acts).world (step_budgets (budgets s)))
+    let w = (run (system s) acts).world in
+    quiet_lines s 0 (components s) acts ++ account_lines s.version (accounts s w (all_steps_in w (step_budgets (budgets s))))
 
 -- a run over the turns of an outcome has no wrong step, comes to rest, and ends so
 pub record IsOutcome (s : Scenario) (o : Outcome) : Type 0 where

@@ -7,6 +7,7 @@ use Rattle.gq_model.specs.machine.Program.{text_eq}
 use Rattle.gq_model.specs.machine.Run.{line_of}
 use Rattle.gq_model.specs.machine.Scenario.{System, Component, Scenario, system}
 use Rattle.gq_model.specs.machine.Step.{next}
+use Rattle.gq_model.specs.machine.Step_budgets.{StepBudget, all_steps_in}
 use Rattle.gq_model.specs.machine.World.{World, start}
 use Rattle.gq_model.specs.rules.Accept.{budgets, step_budgets}
 use Rattle.gq_outcomes.specs.Choices.{can_settle, choices, is_settled, racy_servers}
@@ -17,7 +18,7 @@ pub record Explored : Type 0 where
   pub scenario : Scenario
   pub system : System
   pub racy : List Bool
-  pub budgets : List ℕ
+  pub budgets : List StepBudget
 
 abbrev pub explored : Scenario → Explored
 explored s = let all = system s in record { scenario = s; system = all; racy = racy_servers all; budgets = step_budgets (budgets s) }
@@ -108,7 +109,7 @@ lines_of (lines ∷ rest) = lines ++ lines_of rest
 
 abbrev pub outcome_of : Explored → Point → Outcome
 outcome_of e p =
-    record { text = lines_of p.said ++ account_lines e.scenario.version (accounts e.scenario p.world e.budgets); past = p.past }
+    record { text = lines_of p.said ++ account_lines e.scenario.version (accounts e.scenario p.world (all_steps_in p.world e.budgets)); past = p.past }
 
 -- THE SEARCH
 

@@ -24,7 +24,7 @@ use Rattle.gq_model.specs.declared.program.Instruction.TheVariants.{Upgrade, Cal
 use Rattle.gq_model.specs.machine.Program.{Statements, Done, Do, If, Loop, text_eq}
 use Rattle.gq_model.specs.machine.Sections.{same_section}
 use Rattle.gq_model.specs.machine.World.{Slot, Empty, Bytes, Pool, Link, Waiting, SlotId, In_leaf, In_session, In_object, Session, Ask, Ask_open, Ask_upgrade}
-use Rattle.gq_model.specs.machine.World.{Ask_close, Ask_call, Request, Current, Round, Leaf, World}
+use Rattle.gq_model.specs.machine.World.{Ask_close, Ask_call, Request, Current, Round, Signal, Leaf, World}
 use Rattle.gq_model.specs.machine.World.{session_at}
 use Rattle.gq_laws.specs.Renamed.{renamed_leaf, renamed_request, renamed_session}
 
@@ -214,11 +214,14 @@ same_statements _ _ = false
 abbrev pub same_round : Round → Round → Bool
 same_round r t = r.round == t.round && r.count == t.count && same_statements r.body t.body && same_statements r.rest t.rest
 
+abbrev pub same_signal : Signal → Signal → Bool
+same_signal s t = same_bool s.submitted t.submitted && s.taken == t.taken
+
 abbrev pub same_leaf : Leaf → Leaf → Bool
 same_leaf a b =
     same_phase a.phase b.phase && same_option same_current a.current b.current && same_statements a.todo b.todo && same_all same_round a.loops b.loops
     && text_eq a.operands b.operands && text_eq a.locals b.locals && same_all same_slot a.slots b.slots && text_eq a.peaks b.peaks
-    && a.steps == b.steps && text_eq a.inputs b.inputs
+    && a.steps == b.steps && text_eq a.inputs b.inputs && same_option (λ i j. i == j) a.reacting b.reacting && same_all same_signal a.signals b.signals
 
 abbrev pub same_world : World → World → Bool
 same_world w v =

@@ -2,7 +2,7 @@
 use Rattle.std.specs.Prelude.{ℕ, suc, ◌-◌, ◌==◌, nat_le, nat_lt, if◌then◌else◌, Bool, true, false, ◌&&◌, List, [], ◌∷◌, ◌++◌, length, map, reverse}
 use Rattle.std.specs.Prelude.{Option, Some, None, slice_get, decimal, codes}
 use Rattle.gq_model.specs.machine.Scenario.{Component}
-use Rattle.gq_model.specs.texts.Turns.{greatest_turns}
+use Rattle.gq_model.specs.machine.Rest.{greatest_turns}
 use Rattle.gq_views.specs.Listing.{joined}
 use Rattle.gq_outcomes.specs.Outcomes.{Outcome, Search, most_turns}
 

@@ -6,7 +6,7 @@ ghost use Rattle.gq_model.specs.machine.World as model;
 ghost use Rattle.gq_machine.specs.Readers.{HasSlotId};
 ghost use Rattle.gq_model.specs.machine.World.{section_of};
 ghost use Rattle.gq_laws.specs.Ready.{IsReady};
-ghost use Rattle.gq_laws.specs.Turn_effects.{can_run};
+ghost use Rattle.gq_model.specs.machine.Rest.{can_run};
 ghost use Rattle.gq_statements.specs.Slot_statements.{current_seen};
 ghost use Rattle.gq_trade.specs.Seen_sessions.{slot_id_seen};
 ghost use Rattle.gq_outcomes.specs.Choices as spec;
@@ -108,7 +108,7 @@ fn server_asked(machine: &Machine, leaf: LeafNo, asks: Asks) -> Option<usize>
     }
 }
 
-/// Whether a leaf can take a turn: it runs, handles a request, or serves and a request waits for it.
+/// Whether a leaf can take a turn: it runs, handles a request or a signal, or serves and one of its signals is submitted or a request waits for it.
 pub(crate) fn can_take(machine: &Machine, leaf: LeafNo) -> bool
     requires leaf { leaf < length (components machine.now.scenario) }
     requires sound { IsSoundMachine machine.now }
@@ -116,7 +116,9 @@ pub(crate) fn can_take(machine: &Machine, leaf: LeafNo) -> bool
 {
     match machine.phase(leaf) {
         Phase::Running | Phase::Handling => true,
-        Phase::Serving => machine.oldest(leaf).is_some(),
+        Phase::Serving => {
+            machine.signals(leaf).first().is_some() || machine.oldest(leaf).is_some()
+        }
         Phase::Pending | Phase::Blocked | Phase::Exited => false,
     }
 }
@@ -181,7 +183,7 @@ impl Choices {
     {
         asks_at(
             self.asks[leaf.index()].as_slice(),
-            section_of(machine.current(leaf)),
+            section_of(machine.current(leaf), machine.reacting(leaf)),
             machine.registers(leaf).position(),
         )
     }

@@ -15,14 +15,15 @@ ghost use Rattle.gq_outcomes.specs.Same.{named, named_below, named_by, named_in,
 ghost use Rattle.gq_outcomes.specs.internal.Choosing.{IsSoundMachine};
 ghost use Rattle.gq_outcomes.specs.internal.Kept_keys.{kept_key};
 ghost use Rattle.gq_outcomes.specs.internal.Keys as keys;
-ghost use Rattle.gq_outcomes.specs.internal.Keys.{current_key, each_key, left_key, list_key, number_key, option_key, section_key, slot_id_key};
-ghost use Rattle.gq_outcomes.specs.internal.Keys.{text_key, world_key};
+ghost use Rattle.gq_outcomes.specs.internal.Keys.{current_key, each_key, left_key, list_key, number_key, option_key, section_key, signal_key, signals_key};
+ghost use Rattle.gq_outcomes.specs.internal.Keys.{slot_id_key, text_key, world_key};
 ghost use Rattle.gq_outcomes.specs.internal.Key_parts.{kept_head_key, kept_leaf_key, kept_request_key, kept_slot_key, leaf_at, numbered_key, peak_key};
 ghost use Rattle.gq_outcomes.specs.internal.Key_parts.{place_in, rests, slot_in, state_key};
 
 use crate::encoding::{push_byte, push_number, push_numbers, push_text};
 use crate::slot_key::{place_of, push_slot};
 use crate::statement_key::push_left;
+use gq_leaf::{Signal, Signals};
 use gq_machine::machine::Machine;
 use gq_machine::world_reads::{Holding, SessionState};
 use gq_model::limits::{OWN_SLOTS, SESSION_SLOTS};
@@ -227,7 +228,7 @@ fn statements_of(machine: &Machine, leaf: LeafNo) -> &[Statement]
     requires sound { IsSoundMachine machine.now }
     ensures statements { (c : Component) → slice_get (components machine.now.scenario) leaf ≡ Some c
         → tree_of result.now ≡ body_in (leaf_at machine.now.world leaf).phase
-        (body_of (section_in (section_of (leaf_at machine.now.world leaf).current) c.node.program.sections)) }
+        (body_of (section_in (section_of (leaf_at machine.now.world leaf).current (leaf_at machine.now.world leaf).reacting) c.node.program.sections)) }
     ensures small { width (tree_of result.now) ≤ 65536 }
 {
     if rests(machine.phase(leaf)) {
@@ -235,7 +236,7 @@ fn statements_of(machine: &Machine, leaf: LeafNo) -> &[Statement]
     }
     statements_in(
         &machine.table().programs()[leaf.index()],
-        section_of(machine.current(leaf)),
+        section_of(machine.current(leaf), machine.reacting(leaf)),
     )
 }
 
@@ -315,6 +316,50 @@ fn push_counts(key: &mut Vec<u8>, machine: &Machine, leaf: LeafNo) -> Result<(),
     push_numbers(key, machine.inputs(leaf))
 }
 
+// Puts the signal that a leaf reacts to, if it reacts to one.
+fn push_reacting(key: &mut Vec<u8>, reacting: Option<u8>) -> Result<(), AllocError>
+    ensures { OnOk result (key.new.items ≡ key.old.items ++ option_key number_key reacting) }
+{
+    match reacting {
+        None => push_byte(key, 0),
+        Some(signal) => {
+            push_byte(key, 1)?;
+            push_number(key, u64::from(signal))
+        }
+    }
+}
+
+// Puts a signal: whether it is submitted, and how often it was taken.
+fn push_signal(key: &mut Vec<u8>, signal: Signal) -> Result<(), AllocError>
+    ensures { OnOk result (key.new.items ≡ key.old.items ++ signal_key (record { submitted = signal.submitted; taken = signal.taken })) }
+{
+    push_byte(key, flag(signal.submitted))?;
+    push_number(key, signal.taken)
+}
+
+// Puts these signals.
+fn push_all_signals(key: &mut Vec<u8>, signals: &Signals) -> Result<(), AllocError>
+    ensures { OnOk result (key.new.items ≡ key.old.items ++ list_key signal_key signals.now) }
+{
+    let count = signals.count();
+    push_number(key, count as u64)?;
+    for number in 0..count {
+        push_signal(key, signals.get(number))?;
+    }
+    Ok(())
+}
+
+// Puts the signal that a leaf reacts to, and its signals.
+fn push_signals(key: &mut Vec<u8>, machine: &Machine, leaf: LeafNo) -> Result<(), AllocError>
+    requires leaf { leaf < length (components machine.now.scenario) }
+    requires sound { IsSoundMachine machine.now }
+    ensures { OnOk result (key.new.items ≡ key.old.items
+        ++ signals_key (leaf_at machine.now.world leaf).reacting (leaf_at machine.now.world leaf).signals) }
+{
+    push_reacting(key, machine.reacting(leaf))?;
+    push_all_signals(key, machine.signals(leaf))
+}
+
 // Puts a leaf but for its slots.
 fn push_head(
     key: &mut Vec<u8>,
@@ -331,7 +376,8 @@ fn push_head(
     push_operands(key, machine, leaf)?;
     push_locals(key, machine, leaf)?;
     push_peaks(key, machine, leaf)?;
-    push_counts(key, machine, leaf)
+    push_counts(key, machine, leaf)?;
+    push_signals(key, machine, leaf)
 }
 
 // Puts the own slots of a leaf.

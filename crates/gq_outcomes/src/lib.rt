@@ -1,7 +1,7 @@
 //! The ways in which a run of an accepted scenario can end, and the turns that lead to each.
 //!
-//! These are all ways if the inputs of all leaves are 0 and the search takes at most 10,000,000 turns. If it would take more, the text says so, and there may
-//! be more outcomes.
+//! These are all ways if the inputs of all leaves are 0, no signal is submitted, and the search takes at most 10,000,000 turns. If it would take more, the text
+//! says so, and there may be more outcomes.
 //!
 //! ```rust
 //! use gq_outcomes::outcomes::{outcome_turns, outcomes};

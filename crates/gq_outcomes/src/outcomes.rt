@@ -70,8 +70,8 @@ fn turns_to(alloc: Global, scenario: &[u8], number: u32) -> Result<Vec<u8>, RunF
 
 /// Writes the outcomes of an accepted scenario: all ways in which a run of it can end.
 ///
-/// The inputs of all leaves are 0. The outcome of a run to rest is what each leaf that provides nothing has written, and the account lines at its end. For each
-/// outcome, in the order in which they are found:
+/// The inputs of all leaves are 0, and no signal is submitted. The outcome of a run to rest is what each leaf that provides nothing has written, and the
+/// account lines at its end. For each outcome, in the order in which they are found:
 ///
 /// - a line `outcome` with its number and the number of turns with which it was found;
 /// - the lines of leaves that provide nothing, leaves in preorder;

@@ -5,7 +5,7 @@ ghost use Rattle.gq_model.specs.machine.Scenario.{Component, components, system}
 ghost use Rattle.gq_laws.specs.Ready.{IsReady};
 ghost use Rattle.gq_views.specs.internal.Table_leaves.{served_by};
 ghost use Rattle.gq_outcomes.specs.Choices as choices;
-ghost use Rattle.gq_model.specs.machine.Sections.{is_own_section};
+ghost use Rattle.gq_model.specs.machine.Sections.{is_start_section};
 ghost use Rattle.gq_program.specs.Statement_trees.{tree_of};
 ghost use Rattle.gq_outcomes.specs.internal.Racy as spec;
 ghost use Rattle.gq_outcomes.specs.internal.Racy.{changes_in, is_marked};
@@ -48,9 +48,9 @@ fn has_changes(body: &Body) -> bool
 
 // Whether a section changes an own slot, and is not `main`.
 fn section_changes(section: Section, body: &Body) -> bool
-    ensures { result ≡ (not (is_own_section section) && changes_in body.now) }
+    ensures { result ≡ (not (is_start_section section) && changes_in body.now) }
 {
-    !section.is_own() && has_changes(body)
+    !section.is_start() && has_changes(body)
 }
 
 // Whether a section of a program other than `main` changes an own slot.

@@ -4,6 +4,7 @@ mod Shared_leaf_servers
 mod Served_openers
 mod Race_leaf_lines
 mod Leaf_owner_rounds
+mod Conflicts_left
 -- where nothing was written
 mod Silence_means_raceless
 -- worked examples

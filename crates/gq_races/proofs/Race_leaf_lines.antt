@@ -1,6 +1,6 @@
 -- The lines of all leaves.
 use Rattle.std.proofs.Common.{◌≡◌, ◌∙◌, ℕ, suc, ◌+◌, ◌<◌, Bool, cond, List, [], ◌++◌}
-use Rattle.std.proofs.Common.{map, length, get_or, drop, ap, sym, add-one, refl, append_assoc, append-nil, ◌∷◌, codes}
+use Rattle.std.proofs.Common.{map, length, get_or, drop, ap, sym, add-one, refl, append_assoc, append-nil, ◌∷◌}
 use Rattle.gq_model.specs.machine.Scenario.{Component, Scenario, System, components, system}
 use Rattle.std.proofs.Common.{Result, Ok, Err}
 use Rattle.std.specs.Prelude.{OnOk, is_ok}
@@ -11,11 +11,16 @@ use Rattle.gq_model.specs.declared.program.Instruction.{Instruction}
 use Rattle.gq_model.specs.declared.program.Instruction.TheVariants.{Open}
 use Rattle.gq_model.specs.declared.section.Section.{Section}
 use Rattle.gq_model.specs.machine.Program.{Statements, Done, Do, If, Loop, size}
-use Rattle.gq_races.specs.Races.{Stated, is_shared, found_in, each_stated, stated_in, stated_of, opens_with, opened_by_from, openers}
-use Rattle.gq_races.specs.Race_text.{effect_text, has_effect, heading, leaf_lines, lines_from, opened_text, place_text, sharing_lines, word_of}
+use Rattle.gq_races.specs.Races.{is_shared, found_in, each_stated, stated_in, stated_of, opens_with, opened_by_from, openers}
+use Rattle.gq_races.specs.Races.{for_several}
+use Rattle.gq_races.specs.Race_text.{effect_text, has_effect, is_conflict, leaf_lines, lines_from, opened_text, prefix_of, reaction_lines, section_lines}
+use Rattle.gq_races.specs.Race_text.{sections_lines, sharing_lines}
+use Rattle.gq_races.specs.internal.Conflicts.{sharing}
+use Rattle.gq_races.specs.internal.Kind_lines.{effect_line}
 use Rattle.gq_races.specs.internal.Openers.{opened_among, opens_among}
-use Rattle.gq_races.proofs.Race_line_text.{joined_append}
-use Rattle.gq_views.specs.Listing.{instruction_text, joined}
+use Rattle.gq_races.proofs.Conflicts_left.{sharing_is}
+use Rattle.gq_races.proofs.Race_line_text.{each_text, effect_same, joined_append}
+use Rattle.gq_views.specs.Listing.{joined}
 
 -- the lines of these leaves, of which the first is the x-th
 abbrev pub reported : System → ℕ → List Component → List ℕ
@@ -59,31 +64,42 @@ openers_from s x (c ∷ cs) = λ e. stated_same s c x c.label c.node.program.sec
 
 -- the lines of a leaf, as the code makes them
 pub lines_are : (s : Scenario) (x : ℕ) (c : Component) (shared : Bool) → is_shared (system s) x ≡ shared
-    → heading (sharing_lines shared c (opened_among (components s) x (components s))) (stated_of has_effect shared c) ≡ leaf_lines (system s) x c
+    → sharing shared c (opened_among (components s) x (components s)) ++ sections_lines shared c.label c.node.program.sections ≡ leaf_lines (system s) x c
 lines_are s x c shared is =
-    ap (λ l. heading (sharing_lines shared c l) (stated_of has_effect shared c)) (openers_from s x (components s))
-    ∙ ap (λ b. heading (sharing_lines b c (openers (system s) x)) (stated_of has_effect b c)) (sym is)
+    ap (λ l. sharing shared c l ++ sections_lines shared c.label c.node.program.sections) (openers_from s x (components s))
+    ∙ (ap (λ l. l ++ sections_lines shared c.label c.node.program.sections) (sharing_is shared c (openers (system s) x))
+    ∙ ap (λ b. sharing_lines c (openers (system s) x) (stated_of is_conflict b c) ++ sections_lines b c.label c.node.program.sections) (sym is))
 
--- a text that is empty is of no statements
-pub none_found : (found : List Stated) → joined (map effect_text found) ≡ [] → found ≡ []
-none_found [] e = refl
-none_found (r ∷ found) e = absurd (not_nil (word_of r.statement ++ place_text r ++ codes " " ++ instruction_text r.statement) (joined (map
-    effect_text found)) e)
-  where
-    not_nil : (a b : List ℕ) → a ++ 10 ∷ b ≡ [] → ⊥
-    not_nil [] b e = cc
-    not_nil (x ∷ a) b e = cc
+-- lines were put behind those that were
+pub both_put : (a b : List (List ℕ)) (t u w : List ℕ) → u ≡ t ++ joined a → w ≡ u ++ joined b → w ≡ t ++ joined (a ++ b)
+both_put a b t u w e f = f ∙ (ap (λ u. u ++ joined b) e ∙ (append_assoc t (joined a) (joined b) ∙ ap (λ l. t ++ l) (sym (joined_append a b))))
 
-pub heading_none : (lines : List (List ℕ)) (found : List Stated) (t : List ℕ) → joined (map effect_text found) ≡ [] → t ≡ t ++ joined (heading lines found)
-heading_none lines found t e = sym (ap (λ f. t ++ joined (heading lines f)) (none_found found e) ∙ append-nil t)
+-- SECTIONS
 
-pub heading_put : (lines : List (List ℕ)) (found : List Stated) (t u w effects : List ℕ) → effects ≡ joined (map effect_text found)
-    → (effects ≡ [] → ⊥) → u ≡ t ++ joined lines → w ≡ u ++ effects → w ≡ t ++ joined (heading lines found)
-heading_put lines [] t u w effects is more a b = absurd (more is)
-heading_put lines (r ∷ found) t u w effects is more a b =
-    let fs = map effect_text (r ∷ found) in
-    b ∙ (ap (λ u. u ++ effects) a
-    ∙ (ap (λ l. (t ++ joined lines) ++ l) is ∙ (append_assoc t (joined lines) (joined fs) ∙ ap (λ l. t ++ l) (sym (joined_append lines fs)))))
+-- the line of a section, and those of its statements
+pub section_put_at : (shared : Bool) (leaf : List ℕ) (section : Section) (body : Statements) (prefix t u w : List ℕ) → prefix ≡ prefix_of leaf section
+    → u ≡ t ++ joined (reaction_lines leaf section)
+    → w ≡ u ++ joined (map (effect_line prefix) (found_in (has_effect (for_several shared section)) 1 body))
+    → w ≡ t ++ joined (section_lines shared leaf section body)
+section_put_at shared leaf section body prefix t u w is first rest =
+    let found = found_in (has_effect (for_several shared section)) 1 body in
+    both_put (reaction_lines leaf section) (map effect_text (each_stated leaf section found)) t u w first
+    (rest ∙ (ap (λ f. u ++ joined (map (effect_line f) found)) is ∙ ap (λ l. u ++ joined l) (each_text effect_line effect_text effect_same leaf section found)))
+
+module _ (shared : Bool) (leaf : List ℕ) (all : List (Section × Statements)) (i : ℕ) (p : Section × Statements) (within : i < length all)
+    (is : p ≡ get_or all i p) where
+  sections_here : joined (sections_lines shared leaf (drop i all))
+      ≡ joined (section_lines shared leaf p.0 p.1) ++ joined (sections_lines shared leaf (drop (i + 1) all))
+  sections_here =
+      ap (λ l. joined (sections_lines shared leaf l)) (next_is all i p within is)
+      ∙ joined_append (section_lines shared leaf p.0 p.1) (sections_lines shared leaf (drop (i + 1) all))
+
+  -- one section more
+  pub sections_put : (old more whole : List ℕ) → more ≡ old ++ joined (section_lines shared leaf p.0 p.1)
+      → old ++ joined (sections_lines shared leaf (drop i all)) ≡ whole → more ++ joined (sections_lines shared leaf (drop (i + 1) all)) ≡ whole
+  sections_put old more whole put inv =
+      onto old more (joined (section_lines shared leaf p.0 p.1)) (joined (sections_lines shared leaf (drop (i + 1) all)))
+      (joined (sections_lines shared leaf (drop i all))) whole put sections_here inv
 
 -- a line was put at the end
 pub line_put : (t a f d u v w x : List ℕ) → u ≡ t ++ a → v ≡ u ++ f → w ≡ v ++ d → x ≡ w ++ 10 ∷ [] → x ≡ t ++ (a ++ ((f ++ d) ++ 10 ∷ []))

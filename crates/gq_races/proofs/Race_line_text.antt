@@ -101,13 +101,16 @@ module _ (test : Instruction → Bool) (text : ℕ × Instruction → List ℕ) 
 -- SECTIONS
 
 -- what a statement's line is behind the prefix of its section, and with its leaf and section
-module _ (test : Section → Instruction → Bool) (line : List ℕ → ℕ × Instruction → List ℕ) (text : Stated → List ℕ)
+module _ (line : List ℕ → ℕ × Instruction → List ℕ) (text : Stated → List ℕ)
     (same : (leaf : List ℕ) (section : Section) (c : ℕ × Instruction)
     → line (prefix_of leaf section) c ≡ text (record { leaf = leaf; section = section; place = c.0; statement = c.1 })) (leaf : List ℕ) where
-  each_text : (section : Section) (found : List (ℕ × Instruction)) → map (line (prefix_of leaf section)) found ≡ map text (each_stated leaf section found)
+  pub each_text : (section : Section) (found : List (ℕ × Instruction)) → map (line (prefix_of leaf section)) found ≡ map text (each_stated leaf section found)
   each_text section [] = refl
   each_text section (c ∷ found) = λ e. same leaf section c e ∷ each_text section found e
 
+module _ (test : Section → Instruction → Bool) (line : List ℕ → ℕ × Instruction → List ℕ) (text : Stated → List ℕ)
+    (same : (leaf : List ℕ) (section : Section) (c : ℕ × Instruction)
+    → line (prefix_of leaf section) c ≡ text (record { leaf = leaf; section = section; place = c.0; statement = c.1 })) (leaf : List ℕ) where
   -- the lines of a section
   pub section_lines : (section : Section) (body : Statements) (prefix t u : List ℕ) → prefix ≡ prefix_of leaf section
       → u ≡ t ++ joined (map (line prefix) (found_in (test section) 1 body)) → u ≡ t ++ joined (map text (stated_in test leaf ((section, body) ∷ [])))
@@ -115,7 +118,8 @@ module _ (test : Section → Instruction → Bool) (line : List ℕ → ℕ × I
       let found = found_in (test section) 1 body in
       p
       ∙ (ap (λ f. t ++ joined (map (line f) found)) e
-      ∙ (ap (λ l. t ++ joined l) (each_text section found) ∙ ap (λ l. t ++ joined (map text l)) (sym (append-nil (each_stated leaf section found)))))
+      ∙ (ap (λ l. t ++ joined l) (each_text line text same leaf section found)
+      ∙ ap (λ l. t ++ joined (map text l)) (sym (append-nil (each_stated leaf section found)))))
 
   module _ (all : List (Section × Statements)) (i : ℕ) (p : Section × Statements) (within : i < length all) (is : p ≡ get_or all i p) where
     abbrev reported : List (Section × Statements) → List ℕ

@@ -7,7 +7,7 @@ use Rattle.gq_model.specs.declared.program.Instruction.TheVariants.{Out, Make, L
 use Rattle.gq_model.specs.declared.program.Operator.TheVariants.{Add}
 use Rattle.gq_model.specs.declared.program.OperandSlot.{OperandSlot}
 use Rattle.gq_model.specs.declared.program.OperandSlot.TheVariants.{Own, Shared, Object}
-use Rattle.gq_model.specs.declared.section.Section.TheVariants.{Main, Opening, Calling, Closing}
+use Rattle.gq_model.specs.declared.section.Section.TheVariants.{Main, Opening, Calling, Closing, Reacting}
 use Rattle.gq_model.specs.declared.program.Width.TheVariants.{Byte, Word}
 use Rattle.gq_tariff.specs.declared.amount.Resource.TheVariants.{Ram}
 use Rattle.gq_model.specs.machine.Amounts.{amount}
@@ -17,7 +17,7 @@ use Rattle.gq_model.specs.machine.Scenario.{Scenario, Interface, LeafNode, syste
 use Rattle.gq_model.specs.rules.Accept.{refusal}
 use Rattle.gq_model.specs.texts.Letters.{fed_lines}
 use Rattle.gq_model.proofs.Sample_scenarios.{all_do, leaf, server, leaves, served, main_of}
-use Rattle.gq_races.specs.Races.{Stated, changes_own, found_in, is_owner, is_shared, orders, races}
+use Rattle.gq_races.specs.Races.{Stated, changes_own, found_in, inputs, is_owner, is_shared, orders, races, reactions}
 use Rattle.gq_races.specs.Race_text.{races_text}
 use Rattle.gq_races.specs.Races_written.{HasNoLine, begins}
 use Rattle.gq_model.proofs.Statement_word_rows.{drop, combine, push, input}
@@ -123,6 +123,16 @@ set_up =
     record (server (codes "srv") 4096 (codes "tally") ((Main, all_do (input 0 ∷ drop ∷ [])) ∷ (Opening, all_do (Make Slice (Shared 0) 16 ∷ []))
     ∷ (Calling 0, counting (Shared 0)) ∷ (Closing 0, all_do (Free (Shared 0) ∷ [])) ∷ [])) { inputs = 1 ∷ [] }
 
+-- one that has two signals, and changes its own slot and writes a line for one of them
+abbrev pub ticked : LeafNode
+ticked =
+    record (server (codes "srv") 8192 (codes "tally") ((Main, all_do (Make Slice (Own 0) 16 ∷ [])) ∷ (Opening, Done)
+    ∷ (Calling 0, all_do (Load Byte (Own 0) ∷ [])) ∷ (Closing 0, Done)
+    ∷ (Reacting 0, all_do (push 0 ∷ push 0 ∷ Store Byte (Own 0) ∷ push 1 ∷ Out ∷ [])) ∷ (Reacting 1, all_do (input 0 ∷ drop ∷ [])) ∷ [])) {
+      inputs = 9 ∷ [];
+      signals = 2;
+    }
+
 -- all are accepted
 accepted_together : refusal (two together) ≡ None
 accepted_together = refl
@@ -144,6 +154,9 @@ accepted_sensed = refl
 
 accepted_set_up : refusal (two set_up) ≡ None
 accepted_set_up = refl
+
+accepted_ticked : refusal (two ticked) ≡ None
+accepted_ticked = refl
 
 -- OWNERS
 
@@ -205,17 +218,37 @@ stored_in_call = record { leaf = codes "init -> srv"; section = Calling 0; place
 abbrev read_by_client : Stated
 read_by_client = record { leaf = codes "init -> a"; section = Main; place = 1; statement = input 0 }
 
--- with one client no leaf is shared, and each `in` is a race
-race_sensed : races sensed_once ≡ read_in_main ∷ read_in_call ∷ read_by_client ∷ []
+-- with one client no leaf is shared, and no `in` is a race
+race_sensed : races sensed_once ≡ []
 race_sensed = refl
 
--- with two clients the server is shared, and the statement that changes its own slot is one of them
-race_shared_sensed : races sensed_twice ≡ read_in_main ∷ read_in_call ∷ stored_in_call ∷ read_by_client ∷ []
+-- each is an input
+input_sensed : inputs sensed_once ≡ read_in_main ∷ read_in_call ∷ read_by_client ∷ []
+input_sensed = refl
+
+-- with two clients the server is shared, and the statement that changes its own slot is a race
+race_shared_sensed : races sensed_twice ≡ stored_in_call ∷ []
 race_shared_sensed = refl
+
+input_shared_sensed : inputs sensed_twice ≡ read_in_main ∷ read_in_call ∷ read_by_client ∷ []
+input_shared_sensed = refl
 
 -- none is an order
 none_read_ordered : orders sensed_twice ≡ []
 none_read_ordered = refl
+
+-- SIGNALS
+
+reactions_ticked : reactions (two ticked)
+    ≡ record { leaf = codes "init -> srv"; section = Reacting 0 } ∷ record { leaf = codes "init -> srv"; section = Reacting 1 } ∷ []
+reactions_ticked = refl
+
+-- in a shared leaf a section that a signal begins is one outside `main`
+race_ticked : races (two ticked) ≡ record { leaf = codes "init -> srv"; section = Reacting 0; place = 3; statement = Store Byte (Own 0) } ∷ []
+race_ticked = refl
+
+none_ticked_once : races (single ticked) ≡ []
+none_ticked_once = refl
 
 -- AS TEXT
 
@@ -236,25 +269,37 @@ printed_apart = refl
 
 -- each `in` of a leaf that is not shared has a line, and no opener has one
 printed_sensed : races_text sensed_once
-    ≡ codes "race init -> srv in main at 2 in 1" ++ 10 ∷ codes "race init -> srv in call 0 at 1 in 0" ++ 10
-    ∷ codes "race init -> a in main at 1 in 0" ++ 10 ∷ []
+    ≡ codes "input init -> srv in main at 2 in 1" ++ 10 ∷ codes "input init -> srv in call 0 at 1 in 0" ++ 10
+    ∷ codes "input init -> a in main at 1 in 0" ++ 10 ∷ []
 unfolding digits
 printed_sensed = refl
 
--- of a shared leaf the openers come first, then its races, those in `main` too
+-- of a shared leaf the openers come first, then its races and inputs, those in `main` too
 printed_shared_sensed : races_text sensed_twice
     ≡ codes "shared init -> srv tally" ++ 10 ∷ codes "  opened by init -> a in main at 2" ++ 10 ∷ codes "  opened by init -> b in main at 1" ++ 10
-    ∷ codes "race init -> srv in main at 2 in 1" ++ 10 ∷ codes "race init -> srv in call 0 at 1 in 0" ++ 10
-    ∷ codes "race init -> srv in call 0 at 2 store o0" ++ 10 ∷ codes "race init -> a in main at 1 in 0" ++ 10 ∷ []
+    ∷ codes "input init -> srv in main at 2 in 1" ++ 10 ∷ codes "input init -> srv in call 0 at 1 in 0" ++ 10
+    ∷ codes "race init -> srv in call 0 at 2 store o0" ++ 10 ∷ codes "input init -> a in main at 1 in 0" ++ 10 ∷ []
 unfolding digits
 printed_shared_sensed = refl
 
--- so it is where a shared leaf has an `in` in `main` alone
-printed_set_up : races_text (two set_up)
-    ≡ codes "shared init -> srv tally" ++ 10 ∷ codes "  opened by init -> a in main at 1" ++ 10 ∷ codes "  opened by init -> b in main at 1" ++ 10
-    ∷ codes "race init -> srv in main at 1 in 0" ++ 10 ∷ []
+-- no opener has a line where a shared leaf has neither a race nor an order
+printed_set_up : races_text (two set_up) ≡ codes "input init -> srv in main at 1 in 0" ++ 10 ∷ []
 unfolding digits
 printed_set_up = refl
+
+-- each section that a signal begins has a line before those of its statements
+printed_ticked : races_text (two ticked)
+    ≡ codes "shared init -> srv tally" ++ 10 ∷ codes "  opened by init -> a in main at 1" ++ 10 ∷ codes "  opened by init -> b in main at 1" ++ 10
+    ∷ codes "signal init -> srv in on 0" ++ 10 ∷ codes "race init -> srv in on 0 at 3 store o0" ++ 10 ∷ codes "order init -> srv in on 0 at 5 out" ++ 10
+    ∷ codes "signal init -> srv in on 1" ++ 10 ∷ codes "input init -> srv in on 1 at 1 in 0" ++ 10 ∷ []
+unfolding digits
+printed_ticked = refl
+
+-- with one client only the signals and the inputs have lines
+printed_ticked_once : races_text (single ticked)
+    ≡ codes "signal init -> srv in on 0" ++ 10 ∷ codes "signal init -> srv in on 1" ++ 10 ∷ codes "input init -> srv in on 1 at 1 in 0" ++ 10 ∷ []
+unfolding digits
+printed_ticked_once = refl
 
 -- an `if` and a `loop` are counted before what is in them, and the first arm before the second
 counted_inside : found_in changes_own 1 (Loop 2 (If (Do drop (Do (Give (Own 3)) Done)) (Do (Store Word (Own 0)) Done) (Do (Store Byte Object) Done))

@@ -1,5 +1,5 @@
 -- Leaves that are shared, by the servers of what each leaf opens.
-use Rattle.std.proofs.Common.{◌≡◌, ◌∙◌, ℕ, zero, suc, ◌==◌, ◌+◌, ◌<◌, Bool, true, false, ◌||◌, ◌&&◌, cond, List, []}
+use Rattle.std.proofs.Common.{◌≡◌, ◌∙◌, ℕ, zero, suc, ◌==◌, ◌<◌, Bool, true, false, ◌||◌, ◌&&◌, cond, List, []}
 use Rattle.std.proofs.Common.{◌∷◌, ◌++◌, map, length, get_or, Option, ap, sym}
 use Rattle.std.proofs.Common.{refl, arith}
 use Rattle.std.specs.Prelude.{not}

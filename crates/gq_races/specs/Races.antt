@@ -1,4 +1,5 @@
--- Leaves whose sections may run for several threads, the statements by which these threads can report of one another, and those that read inputs.
+-- Leaves whose sections may run for several threads, the statements by which these threads can report of one another, those that read inputs, and the
+-- sections that signals begin.
 use Rattle.std.specs.Prelude.{◌≡◌, ◌<◌, ℕ, zero, suc, ◌+◌, ◌==◌, if◌then◌else◌, Bool, true, false, ◌&&◌, ◌||◌, not, List, [], ◌∷◌, ◌++◌, length, get_or}
 use Rattle.gq_model.specs.declared.program.Instruction.{Instruction}
 use Rattle.gq_model.specs.declared.program.Instruction.TheVariants.{Say, Out, Operands, Store, Take, Give, Poke, Call, Make, MakePool, Free, Open, Upgrade}
@@ -8,11 +9,12 @@ use Rattle.gq_model.specs.declared.program.WithNumber.TheVariants.{Input}
 use Rattle.gq_model.specs.declared.program.OperandSlot.{OperandSlot}
 use Rattle.gq_model.specs.declared.program.OperandSlot.TheVariants.{Own, Shared, Object}
 use Rattle.gq_model.specs.declared.section.Section.{Section}
+use Rattle.gq_model.specs.declared.section.Section.TheVariants.{Reacting}
 use Rattle.gq_model.specs.machine.Program.{Statements, Done, Do, If, Loop, size}
 use Rattle.gq_model.specs.machine.Lists.{any_of}
 use Rattle.gq_model.specs.machine.Scenario.{Scenario, System, Component, system}
 use Rattle.gq_model.specs.machine.Routes.{server_of}
-use Rattle.gq_model.specs.machine.Sections.{is_own_section}
+use Rattle.gq_model.specs.machine.Sections.{is_own_section, is_start_section}
 use Rattle.gq_model.specs.rules.Use.{services_of, is_there}
 
 -- OWNERS
@@ -21,7 +23,7 @@ use Rattle.gq_model.specs.rules.Use.{services_of, is_there}
 abbrev pub opens : System → ℕ → Component → Statements → Bool
 opens system x c statements = any_of (λ service. is_there x (server_of system c service)) (services_of statements)
 
--- a leaf opens sessions with the x-th in `main`
+-- a leaf opens sessions with the x-th in `main`, or for a signal, where an accepted program opens none: `main` and these sections are one thread
 abbrev pub opens_first : System → ℕ → Component → Bool
 opens_first system x c = any_of (λ p. is_own_section p.0 && opens system x c p.1) c.node.program.sections
 
@@ -124,15 +126,19 @@ abbrev pub stated_in : (Section → Instruction → Bool) → List ℕ → List 
 stated_in test leaf [] = []
 stated_in test leaf (p ∷ rest) = each_stated leaf p.0 (found_in (test p.0) 1 p.1) ++ stated_in test leaf rest
 
--- RACES AND ORDERS
+-- RACES, INPUTS AND ORDERS
 
 -- a section of a leaf that is shared, or not, may run for several threads: each of a shared leaf but `main`
 abbrev pub for_several : Bool → Section → Bool
-for_several shared section = shared && not (is_own_section section)
+for_several shared section = shared && not (is_start_section section)
 
--- a race: a statement that changes an own slot, where the section may run for several threads; or an `in`, in any section
+-- a race: a statement that changes an own slot, where the section may run for several threads
 abbrev pub is_race : Bool → Instruction → Bool
-is_race several i = several && changes_own i || reads_input i
+is_race several i = several && changes_own i
+
+-- an input: an `in`, in any section
+abbrev pub is_input : Bool → Instruction → Bool
+is_input several i = reads_input i
 
 -- an order: a statement that writes a line, where the section may run for several threads
 abbrev pub is_order : Bool → Instruction → Bool
@@ -150,16 +156,51 @@ stated_from test system x (c ∷ rest) = stated_of test (is_shared system x) c +
 abbrev pub races : Scenario → List Stated
 races s = let all = system s in stated_from is_race all 0 all.components
 
+abbrev pub inputs : Scenario → List Stated
+inputs s = let all = system s in stated_from is_input all 0 all.components
+
 abbrev pub orders : Scenario → List Stated
 orders s = let all = system s in stated_from is_order all 0 all.components
 
--- no shared leaf changes an own slot outside `main`, and no leaf reads an input
+-- no shared leaf changes an own slot outside `main`
 abbrev pub IsRaceFree : Scenario → Type 0
 IsRaceFree s = races s ≡ []
+
+-- no leaf reads an input
+abbrev pub IsInputFree : Scenario → Type 0
+IsInputFree s = inputs s ≡ []
 
 -- no shared leaf writes a line outside `main`
 abbrev pub IsOrderFree : Scenario → Type 0
 IsOrderFree s = orders s ≡ []
+
+-- SIGNALS
+
+-- a signal begins the section
+abbrev pub is_reaction : Section → Bool
+is_reaction (Reacting i) = true
+is_reaction _ = false
+
+-- a section of a leaf that a signal begins
+pub record Reaction : Type 0 where
+  pub leaf : List ℕ
+  pub section : Section
+
+abbrev pub reactions_in : List ℕ → List (Section × Statements) → List Reaction
+reactions_in leaf [] = []
+reactions_in leaf (p ∷ rest) = (if is_reaction p.0 then record { leaf = leaf; section = p.0 } ∷ [] else []) ++ reactions_in leaf rest
+
+-- those of these leaves
+abbrev pub reactions_from : List Component → List Reaction
+reactions_from [] = []
+reactions_from (c ∷ rest) = reactions_in c.label c.node.program.sections ++ reactions_from rest
+
+abbrev pub reactions : Scenario → List Reaction
+reactions s = reactions_from (system s).components
+
+-- no leaf handles a signal
+abbrev pub IsSignalFree : Scenario → Type 0
+IsSignalFree s = reactions s ≡ []
 
 -- OPENERS
 

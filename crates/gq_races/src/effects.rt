@@ -1,12 +1,13 @@
-// The races and orders of a leaf: statements that change own slots, read inputs or write lines.
+// The lines of a leaf: of the sections that signals begin, and of statements that change own slots, read inputs or write lines.
 ghost use Rattle.std.specs.Prelude.{◌≡◌, ◌≤◌, ◌+◌, ◌++◌, ◌∷◌, [], OnOk, IfOk, map, sum_by};
 ghost use Rattle.gq_model.specs.machine.Program.{Do, Done, size};
 ghost use Rattle.gq_model.specs.texts.Code.{greatest_statements};
 ghost use Rattle.gq_program.specs.Statement_trees.{tree_of};
 ghost use Rattle.gq_races.specs.Races as spec;
-ghost use Rattle.gq_races.specs.Races.{for_several, found_in, is_own, stated_in};
+ghost use Rattle.gq_races.specs.Races.{for_several, found_in, is_own};
 ghost use Rattle.gq_races.specs.Race_text as text;
-ghost use Rattle.gq_races.specs.Race_text.{effect_text, has_effect};
+ghost use Rattle.gq_races.specs.Race_text.{has_effect, reaction_lines, reaction_text, section_lines, sections_lines};
+ghost use Rattle.gq_races.specs.internal.Conflicts as conflict;
 ghost use Rattle.gq_races.specs.internal.Kind_lines.{effect_line};
 ghost use Rattle.gq_views.specs.Listing.{joined, line};
 
@@ -15,6 +16,7 @@ use gq_model::program::{Instruction, OperandSlot, OperandStatement, WithNumber};
 use gq_model::section::Section;
 use gq_program::program_tree::{Body, Program, Statement};
 use gq_views::instruction_text::push_instruction;
+use gq_views::listing::push_heading;
 use itoa::Buffer;
 use std::alloc::{AllocError, Global};
 
@@ -65,19 +67,28 @@ fn writes_line(instruction: &Instruction) -> bool
     matches!(instruction, Instruction::Say(_) | Instruction::Out)
 }
 
-// Whether a statement is a race or an order, in a section that may run for several threads, or for one alone.
+// Whether a statement is a race or an order, where its section may run for several threads.
+pub(crate) fn conflicts(instruction: &Instruction) -> bool
+    ensures { result ≡ conflict.conflicts instruction.now }
+{
+    changes_own(instruction) || writes_line(instruction)
+}
+
+// Whether a statement is a race, an input or an order, in a section that may run for several threads, or for one alone.
 fn has_effect(several: bool, instruction: &Instruction) -> bool
     ensures { result ≡ has_effect several instruction.now }
 {
-    reads_input(instruction) || several && (changes_own(instruction) || writes_line(instruction))
+    reads_input(instruction) || several && conflicts(instruction)
 }
 
-// What a race or an order is called.
+// What a race, an input or an order is called.
 fn word_of(instruction: &Instruction) -> &'static [u8]
     ensures { result.now ≡ text.word_of instruction.now }
 {
     if writes_line(instruction) {
         b"order "
+    } else if reads_input(instruction) {
+        b"input "
     } else {
         b"race "
     }
@@ -169,7 +180,36 @@ fn push_effects(
 fn for_several(shared: bool, section: Section) -> bool
     ensures { result ≡ for_several shared section }
 {
-    shared && !section.is_own()
+    shared && !section.is_start()
+}
+
+// Whether a signal begins a section.
+fn is_reaction(section: Section) -> bool
+    ensures { result ≡ spec.is_reaction section }
+{
+    matches!(section, Section::Reacting(_))
+}
+
+// The line of a section that a signal begins.
+fn push_reaction(text: &mut Vec<u8>, label: &[u8], section: Section) -> Result<(), AllocError>
+    ensures { OnOk result (text.new.items ≡ text.old.items ++ joined (reaction_text label.now section ∷ [])) }
+{
+    text.extend_from_slice(b"signal ")?;
+    text.extend_from_slice(label)?;
+    text.extend_from_slice(b" in ")?;
+    push_heading(text, section)?;
+    text.extend_from_slice(b"\n")
+}
+
+// The line of a section, if a signal begins it.
+fn push_if_reaction(text: &mut Vec<u8>, label: &[u8], section: Section) -> Result<(), AllocError>
+    ensures { OnOk result (text.new.items ≡ text.old.items ++ joined (reaction_lines label.now section)) }
+{
+    if is_reaction(section) {
+        push_reaction(text, label, section)
+    } else {
+        Ok(())
+    }
 }
 
 // The lines of a section of a leaf that is shared, or not.
@@ -182,9 +222,9 @@ fn push_section(
     body: &Body,
 ) -> Result<(), AllocError>
     requires { size body.now ≤ 4096 }
-    ensures { OnOk result (text.new.items ≡ text.old.items
-        ++ joined (map effect_text (stated_in (λ section. has_effect (for_several shared section)) label.now ((section, body.now) ∷ [])))) }
+    ensures { OnOk result (text.new.items ≡ text.old.items ++ joined (section_lines shared label.now section body.now)) }
 {
+    push_if_reaction(text, label, section)?;
     let several = for_several(shared, section);
     let prefix = prefix_of(alloc, label, section)?;
     let pushed = push_effects(text, prefix.as_slice(), several, 1, body);
@@ -204,8 +244,7 @@ fn push_sections(
     sections: &[(Section, Body)],
 ) -> Result<(), AllocError>
     requires { sum_by (λ p. size p.1) sections.now ≤ greatest_statements }
-    ensures { OnOk result (text.new.items ≡ text.old.items
-        ++ joined (map effect_text (stated_in (λ section. has_effect (for_several shared section)) label.now sections.now))) }
+    ensures { OnOk result (text.new.items ≡ text.old.items ++ joined (sections_lines shared label.now sections.now)) }
 {
     for (section, body) in sections {
         push_section(alloc, text, label, shared, *section, body)?;
@@ -221,8 +260,7 @@ pub(crate) fn push_leaf_effects(
     shared: bool,
     program: &Program,
 ) -> Result<(), AllocError>
-    ensures { OnOk result (text.new.items ≡ text.old.items
-        ++ joined (map effect_text (stated_in (λ section. has_effect (for_several shared section)) label.now program.now.sections))) }
+    ensures { OnOk result (text.new.items ≡ text.old.items ++ joined (sections_lines shared label.now program.now.sections)) }
 {
     program.laws();
     push_sections(alloc, text, label, shared, program.sections())

@@ -1,19 +1,21 @@
 // The statements by which the outcome of an accepted scenario could depend on the turns.
-ghost use Rattle.std.specs.Prelude.{◌≡◌, ◌<◌, ◌++◌, ◌∷◌, [], List, IfOk, IfErr, IsOkAnd, OnOk, codes, length, map};
+ghost use Rattle.std.specs.Prelude.{◌≡◌, ◌<◌, ◌++◌, ◌∷◌, [], List, IfOk, IfErr, IsOkAnd, OnOk, codes, length};
 ghost use Rattle.gq_model.specs.machine.Scenario.{components};
 ghost use Rattle.gq_laws.specs.Ready.{IsReady};
 ghost use Rattle.gq_output.specs.Writer_failures.{written_to};
 ghost use Rattle.gq_load.specs.Load_faults.{Refuses};
 ghost use Rattle.gq_load.specs.Load.{loaded};
-ghost use Rattle.gq_races.specs.Races.{AreSharedOf, IsOrderFree, IsRaceFree, Stated, stated_of};
-ghost use Rattle.gq_races.specs.Race_text.{effect_text, has_effect, heading, races_text, shared_text, sharing_lines};
+ghost use Rattle.gq_races.specs.Races.{AreSharedOf, IsInputFree, IsOrderFree, IsRaceFree, IsSignalFree};
+ghost use Rattle.gq_races.specs.Race_text.{races_text, sections_lines, shared_text};
 ghost use Rattle.gq_races.specs.Races_written.{MeansWithout, races_written, WroteNothing};
+ghost use Rattle.gq_races.specs.internal.Conflicts.{sharing};
 ghost use Rattle.gq_races.specs.internal.Openers.{opened_among};
 ghost use Rattle.gq_races.specs.internal.Owners.{AreShared};
 ghost use Rattle.gq_views.specs.Listing.{joined};
 ghost use Rattle.gq_views.specs.internal.Table_leaves.{leaf_of};
 ghost use Rattle.gq_reports.specs.Command_outcomes.{WritesAs};
 
+use crate::conflicts::conflicts_later;
 use crate::effects::push_leaf_effects;
 use crate::openers::all_opened;
 use crate::opens::push_openers;
@@ -43,22 +45,7 @@ fn push_shared(text: &mut Vec<u8>, server: &TableLeaf<'_>) -> Result<(), AllocEr
     text.extend_from_slice(b"\n")
 }
 
-// The lines of the races and orders of a leaf, which is shared or not.
-fn leaf_effects(alloc: Global, server: &TableLeaf<'_>, shared: bool) -> Result<Vec<u8>, AllocError>
-    ensures { IfOk result (λ effects. effects.items ≡ joined (map effect_text (stated_of has_effect shared server.now.component))) }
-{
-    let mut effects = Vec::new(alloc);
-    push_leaf_effects(
-        alloc,
-        &mut effects,
-        server.label(),
-        shared,
-        server.program(),
-    )?;
-    Ok(effects)
-}
-
-// What stands before the races and orders of a leaf of this number, if it is shared.
+// What stands before the lines of a leaf of this number, if it is shared and has a race or an order.
 fn push_sharing(
     alloc: Global,
     text: &mut Vec<u8>,
@@ -69,34 +56,13 @@ fn push_sharing(
 ) -> Result<(), AllocError>
     requires { IsReady table.now }
     ensures { OnOk result (text.new.items ≡ text.old.items
-        ++ joined (sharing_lines shared server.now.component (opened_among (components table.now) leaf (components table.now)))) }
+        ++ joined (sharing shared server.now.component (opened_among (components table.now) leaf (components table.now)))) }
 {
-    if !shared {
+    if !shared || !conflicts_later(server.program()) {
         return Ok(());
     }
     push_shared(text, server)?;
     push_openers(alloc, text, table, leaf)
-}
-
-// The lines of a leaf of this number with these races and orders.
-fn push_with_effects(
-    alloc: Global,
-    text: &mut Vec<u8>,
-    table: &NodeTable,
-    leaf: LeafNo,
-    server: &TableLeaf<'_>,
-    shared: bool,
-    effects: &[u8],
-) -> Result<(), AllocError>
-    requires { IsReady table.now }
-    ensures { (found : List Stated) → effects.now ≡ joined (map effect_text found) → OnOk result (text.new.items ≡ text.old.items
-        ++ joined (heading (sharing_lines shared server.now.component (opened_among (components table.now) leaf (components table.now))) found)) }
-{
-    if effects.is_empty() {
-        return Ok(());
-    }
-    push_sharing(alloc, text, table, leaf, server, shared)?;
-    text.extend_from_slice(effects)
 }
 
 // The lines of a leaf.
@@ -109,23 +75,13 @@ fn push_leaf(
 ) -> Result<(), AllocError>
     requires ready { IsReady table.now }
     requires leaf { leaf < length (components table.now) }
-    ensures { OnOk result (text.new.items ≡ text.old.items ++ joined (heading
-        (sharing_lines shared (leaf_of table.now leaf).component (opened_among (components table.now) leaf (components table.now)))
-        (stated_of has_effect shared (leaf_of table.now leaf).component))) }
+    ensures { OnOk result (text.new.items ≡ text.old.items ++ joined (
+        sharing shared (leaf_of table.now leaf).component (opened_among (components table.now) leaf (components table.now))
+        ++ sections_lines shared (leaf_of table.now leaf).component.label (leaf_of table.now leaf).component.node.program.sections)) }
 {
     let server = TableLeaf::new(table, leaf);
-    let effects = leaf_effects(alloc, &server, shared)?;
-    let pushed = push_with_effects(
-        alloc,
-        text,
-        table,
-        leaf,
-        &server,
-        shared,
-        effects.as_slice(),
-    );
-    drop(effects);
-    pushed
+    push_sharing(alloc, text, table, leaf, &server, shared)?;
+    push_leaf_effects(alloc, text, server.label(), shared, server.program())
 }
 
 // The lines of all leaves.
@@ -186,20 +142,22 @@ fn loaded_text(alloc: Global, scenario: &[u8]) -> Result<Vec<u8>, LoadError>
     }
 }
 
-/// Writes the statements by which the outcome of an accepted scenario could depend on the turns, or on when inputs are set.
+/// Writes what the outcome of an accepted scenario could depend on: the turns, when inputs are set, and when signals are submitted.
 ///
-/// For each leaf that has any, leaves in preorder:
+/// For each leaf that has any of these, leaves in preorder:
 ///
-/// - If the leaf is shared, a line `shared` with the leaf and its service.
+/// - If the leaf is shared and has a race or an order, a line `shared` with the leaf and its service.
 /// - Below it a line `opened by` for each `open` of a session with it. Leaves go in preorder, statements in the order of the sections and the text.
-/// - A line `race` for each `in`, in any section, whether the leaf is shared or not.
+/// - A line `signal` for each section that a signal begins.
+/// - A line `input` for each `in`, in any section, whether the leaf is shared or not.
 /// - If the leaf is shared, a line `race` for each statement outside `main` that changes an own slot, what is in it or what is behind it.
 /// - If the leaf is shared, a line `order` for each statement outside `main` that writes a line.
 ///
-/// The lines `race` and `order` of a leaf go in the order of the sections and the text.
+/// The lines `signal`, `race`, `input` and `order` of a leaf go in the order of the sections and the text. The line of a section stands before those in it.
 ///
-/// If no line that was written begins with `race `, there is no race (`raceless`), so no leaf has an `in`. If none begins with `order `, there is no order
-/// (`orderless`). If nothing was written, there is neither (`free`, `quiet`).
+/// If no line that was written begins with `race `, there is no race (`raceless`). If none begins with `input `, no leaf has an `in` (`inputless`). If none
+/// begins with `signal `, no leaf handles a signal (`unmoved`). If none begins with `order `, there is no order (`orderless`). If nothing was written,
+/// there is none of these (`free`, `unset`, `still`, `quiet`).
 ///
 /// If the scenario is refused, as `check` refuses it, or host memory is, nothing is written. After a failed write a prefix of the text was written.
 pub fn races<W: Write>(
@@ -209,8 +167,12 @@ pub fn races<W: Write>(
 ) -> Result<(), RunFault<'static>>
     ensures writes { WritesAs W.contents (races_written scenario.now) out.old out.new result }
     ensures raceless { OnOk result (MeansWithout (codes "race ") IsRaceFree scenario.now (written_to W.contents out.old) (written_to W.contents out.new)) }
+    ensures inputless { OnOk result (MeansWithout (codes "input ") IsInputFree scenario.now (written_to W.contents out.old) (written_to W.contents out.new)) }
+    ensures unmoved { OnOk result (MeansWithout (codes "signal ") IsSignalFree scenario.now (written_to W.contents out.old) (written_to W.contents out.new)) }
     ensures orderless { OnOk result (MeansWithout (codes "order ") IsOrderFree scenario.now (written_to W.contents out.old) (written_to W.contents out.new)) }
     ensures free { OnOk result (WroteNothing (written_to W.contents out.old) (written_to W.contents out.new) → IsOkAnd (loaded scenario.now) IsRaceFree) }
+    ensures unset { OnOk result (WroteNothing (written_to W.contents out.old) (written_to W.contents out.new) → IsOkAnd (loaded scenario.now) IsInputFree) }
+    ensures still { OnOk result (WroteNothing (written_to W.contents out.old) (written_to W.contents out.new) → IsOkAnd (loaded scenario.now) IsSignalFree) }
     ensures quiet { OnOk result (WroteNothing (written_to W.contents out.old) (written_to W.contents out.new) → IsOkAnd (loaded scenario.now) IsOrderFree) }
 {
     let text = loaded_text(alloc, scenario)?;

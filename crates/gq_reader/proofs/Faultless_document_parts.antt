@@ -1,9 +1,9 @@
 -- A document whose tables have no faults: its parts, and the faults that are left.
 use Rattle.std.proofs.Common.{◌≡◌, ℕ, suc, ◌<◌, ◌≤◌, ◌%◌, ◌==◌, nat_lt, zero, is_some, Bool, true, false, ◌||◌, ◌&&◌, cond, List, [], ◌∷◌, ◌++◌, length, Option}
 use Rattle.std.proofs.Common.{Some, None}
-use Rattle.std.proofs.Common.{refl, ap, ◌∙◌, arith}
+use Rattle.std.proofs.Common.{nat_le, refl, ap, sym, ◌∙◌, arith}
 use Rattle.std.specs.Prelude.{codes}
-use Rattle.std.proofs.lemmas.Bool.{lt-ltb, le-ltb, false≢true}
+use Rattle.std.proofs.lemmas.Bool.{and_from, lt-ltb, le-ltb, le-leb, false≢true}
 use Rattle.std.proofs.lemmas.Bool.Decides.{nat_tests}
 use Rattle.toml.specs.Data.{Data, string, integer, float, boolean, datetime, array, table, Members, no_members, member, get_member}
 use Rattle.toml.specs.View.{members_view}
@@ -15,28 +15,28 @@ use Rattle.gq_model.specs.texts.Letters.{is_name}
 use Rattle.gq_model.specs.machine.Scenario.{Scenario}
 use Rattle.gq_scenario.specs.Table_keys.{DocumentFault, TooMany, KeyRule, has, number_of, members_of, required, optional, passes, quantity, is_number, is_table}
 use Rattle.gq_scenario.specs.Table_keys.{is_list, table_fault}
-use Rattle.gq_scenario.specs.Document_tables.{greatest_caps, is_total, are_named_tables, is_named_tables, version_of, top_keys}
+use Rattle.gq_scenario.specs.Document_tables.{greatest_caps, is_total, are_named_tables, is_named_tables, version_of, top_keys, init_keys, leaf_keys}
 use Rattle.gq_scenario.specs.Document.{nodes_by, node_onto, is_init, init_of, leaf_of, or_zero, value_of, number_at, quantity_at, list_at, table_of, keys_of}
 use Rattle.gq_scenario.specs.Document.{described, routes_fault, interfaces_fault, node_fault}
 use Rattle.gq_scenario.specs.Document.{first_of, walk_fault, init_count, is_long, has_long_routes, has_too_many, counts_fault, names_of, name_twice}
 use Rattle.gq_scenario.specs.Document.{document_fault}
 use Rattle.gq_reader.specs.internal.Document_parts.{interfaces_at, are_too_many, parts_fault}
 use Rattle.gq_scenario.specs.Scenario_parts.{IsScenario}
-use Rattle.gq_scenario.specs.Sizes.{IsQuantum, IsMemory, depth}
+use Rattle.gq_scenario.specs.Sizes.{IsQuantum, IsMemory, depth, few_signals}
 use Rattle.std.proofs.Math.Nat.{max-le}
 use Rattle.gq_model.specs.machine.Scenario.{LeafNode, InitNode, Nodes, Leaf_node, Init_node}
 use Rattle.gq_reader.specs.internal.Faultless_tables.{AreNodes}
 use Rattle.gq_reader.proofs.Faultless_table_facts.{absent}
 use Rattle.gq_reader.proofs.Table_rules_kept.{fits_or_none, kept, one_there, number_small}
 use Rattle.gq_reader.proofs.Interface_tables.{interfaces_length, rest_named}
-use Rattle.gq_reader.proofs.Node_tables.{no_caps}
+use Rattle.gq_reader.proofs.Node_tables.{no_caps, sound_leaf}
 use Rattle.gq_model.proofs.Small_facts.{or_first_none}
 
 -- THE TOP TABLE
 
 abbrev keys_by : Bool → List KeyRule
 keys_by two =
-    required (codes "version") (is_number 1 3) ∷ required (codes "ram") is_total ∷ cond two (required (codes "caps") (is_number 1 greatest_caps) ∷ []) []
+    required (codes "version") (is_number 1 4) ∷ required (codes "ram") is_total ∷ cond two (required (codes "caps") (is_number 1 greatest_caps) ∷ []) []
     ++ optional (codes "default-route") (is_list is_table) ∷ optional (codes "interface") is_named_tables ∷ required (codes "start") (is_list is_table) ∷ []
 
 pub record IsSoundTop (two : Bool) (top : Members) : Type 0 where
@@ -162,6 +162,42 @@ deep_by (suc n) (d ∷ ds) =
     (leaf_of entries)
     (deep_by n (list_at (codes "start") entries)) (deep_by (suc n) ds)
 
+-- SIGNALS
+
+few_onto : (b : Bool) (init : InitNode) (children rest : Nodes) (leaf : LeafNode) → (b ≡ true → few_signals children ≡ true)
+    → (b ≡ false → leaf.signals ≤ 3) → few_signals rest ≡ true → few_signals (cond b (Init_node init children rest) (Leaf_node leaf rest)) ≡ true
+few_onto true init children rest leaf below here r = and_from (few_signals children) (few_signals rest) (below refl) r
+few_onto false init children rest leaf below here r = and_from (nat_le leaf.signals 3) (few_signals rest) (le-leb leaf.signals 3 (here refl)) r
+
+-- nodes whose tables have no faults have few signals
+few_by : (n version : ℕ) (services : List (List ℕ)) (ds : List Data) → all_of is_name services ≡ true → first_of (node_fault n version services) ds ≡ None
+    → few_signals (nodes_by (node_onto n) ds) ≡ true
+few_by n version services [] names e = refl
+few_by zero version services (d ∷ ds) names e = absurd cc
+few_by (suc n) version services (d ∷ ds) names e =
+    let entries = members_of d in
+    let keys = cond (is_init entries) (init_keys version) (leaf_keys version services) in
+    let all = or_first_none (node_fault (suc n) version services entries) (first_of (node_fault (suc n) version services) ds) e in
+    let more = or_first_none (table_fault keys entries) _ all.0 in
+    let routes = or_first_none (routes_fault (codes "route") entries) _ more.1 in
+    let children = or_first_none (routes_fault (codes "default-route") entries) _ routes.1 in
+    few_onto (is_init entries) (init_of entries) (nodes_by (node_onto n) (list_at (codes "start") entries)) (nodes_by (node_onto (suc n)) ds)
+    (leaf_of entries)
+    (λ i. few_by n version services (list_at (codes "start") entries) names children.1)
+    (λ i. (sound_leaf entries (record {
+      version = version;
+      services = services;
+      names = names;
+      keys = ap (λ b. table_fault (cond b (init_keys version) (leaf_keys version services)) entries) (sym i) ∙ more.0;
+      routes = routes.0;
+    })).signals)
+    (few_by (suc n) version services ds names all.1)
+
+-- no leaf that such a document describes has more than 3 signals
+pub described_signals : (top : Members) → walk_fault top ≡ None → few_signals (described top).nodes ≡ true
+described_signals top e =
+    let nodes = (walked top e).nodes in few_by 4 nodes.version nodes.services (list_at (codes "start") top) nodes.names nodes.sound
+
 -- COUNTS AND NAMES
 
 pub keys_length : (es : List Entry) → length (keys_of (members_view es)) ≡ length es
@@ -240,4 +276,5 @@ module _ (top : Members) (no_fault : walk_fault top ≡ None) where
           memory = sound.memory;
           caps = sound.caps;
           shallow = deep_by 4 (list_at (codes "start") top);
+          signals = described_signals top no_fault;
         }

@@ -14,7 +14,7 @@ use Rattle.gq_scenario.specs.Table_keys.{KeyRule, required, optional, list_lengt
 use Rattle.gq_scenario.specs.Document_tables.{greatest_caps, items_at, is_upgrades, is_upgrade_caps, are_named_tables, interface_keys}
 use Rattle.gq_scenario.specs.Component_trees.{version_number}
 use Rattle.gq_scenario.specs.declared.scenario.Version.{Version}
-use Rattle.gq_scenario.specs.declared.scenario.Version.TheVariants.{Two, Three}
+use Rattle.gq_scenario.specs.declared.scenario.Version.TheVariants.{Two, Three, Four}
 use Rattle.gq_scenario.specs.Document.{number_at, quantity_at, list_at, interface_of, interfaces_of, interfaces_fault, keys_of}
 use Rattle.std.specs.List.{AllByRecursion}
 use Rattle.std.specs.List.Sorted.{IsStrictlySortedBy}
@@ -92,10 +92,12 @@ sound_by false entries e =
 pub sound_interface : (version : ℕ) (entries : Members) → table_fault (interface_keys version entries) entries ≡ None → IsSoundInterface entries
 sound_interface version entries e = sound_by (counts_caps version) entries e
 
--- interfaces have the same keys in versions 2 and 3
-pub counted_keys : (v : Version) (entries : Members) → (v ≡ Two) ⊎ (v ≡ Three) → interface_keys (version_number v) entries ≡ interface_keys 2 entries
+-- interfaces have the same keys in versions 2, 3 and 4
+pub counted_keys : (v : Version) (entries : Members) → (v ≡ Two) ⊎ (v ≡ Three) ⊎ (v ≡ Four)
+    → interface_keys (version_number v) entries ≡ interface_keys 2 entries
 counted_keys v entries (inl e) = rw e refl
-counted_keys v entries (inr e) = rw e refl
+counted_keys v entries (inr (inl e)) = rw e refl
+counted_keys v entries (inr (inr e)) = rw e refl
 
 -- version 1 reports no capabilities
 pub none_in_one : (entries : Members) → table_fault (interface_keys 1 entries) entries ≡ None → number_at (codes "need-caps") entries ≡ 0

@@ -21,7 +21,7 @@ use gq_scenario::scenario::Version;
 use gq_scenario::scenario_fault::ScenarioFault;
 use toml::{Table, Value};
 
-/// The version of a top table: 1 where it is neither 2 nor 3.
+/// The version of a top table: 1 where it is not 2, 3 or 4.
 pub fn version_of(top: &Table) -> Version
     ensures { version_number result ≡ version_of (table_view top.now) }
 {
@@ -29,6 +29,7 @@ pub fn version_of(top: &Table) -> Version
         Some(value) => match number_of(value) {
             Some(2) => Version::Two,
             Some(3) => Version::Three,
+            Some(4) => Version::Four,
             _ => Version::One,
         },
         None => Version::One,

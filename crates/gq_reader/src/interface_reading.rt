@@ -74,7 +74,9 @@ fn read_need_caps(version: Version, table: &Table) -> Option<u32>
 {
     match version {
         Version::One => None,
-        Version::Two | Version::Three => Some(number_at(table, Key::NeedCaps) as u32),
+        Version::Two | Version::Three | Version::Four => {
+            Some(number_at(table, Key::NeedCaps) as u32)
+        }
     }
 }
 

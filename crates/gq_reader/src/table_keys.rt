@@ -11,15 +11,18 @@ use crate::value::count_at;
 use arrayvec::ArrayVec;
 use gq_model::limits::{GREATEST_BUFFER, GREATEST_CAPS, GREATEST_OBJECT, GREATEST_QUANTITY};
 use gq_scenario::key::Key;
-use gq_scenario::scenario::Version;
+use gq_scenario::scenario::{GREATEST_SIGNALS, Version};
 use toml::Table;
 
-/// The rules of a table. No table has more than 9.
-pub type KeyRules<'a> = ArrayVec<KeyRule<'a>, 9>;
+/// The greatest version of a scenario.
+const GREATEST_VERSION: u64 = 4;
+
+/// The rules of a table. No table has more than 10.
+pub type KeyRules<'a> = ArrayVec<KeyRule<'a>, 10>;
 
 // These rules.
 fn listed<'a>(rules: &[KeyRule<'a>]) -> KeyRules<'a>
-    requires { length rules.now ≤ 9 }
+    requires { length rules.now ≤ 10 }
     ensures { result.items ≡ rules.now }
 {
     let mut listed = ArrayVec::new();
@@ -33,7 +36,7 @@ fn listed<'a>(rules: &[KeyRule<'a>]) -> KeyRules<'a>
 pub fn top_rules(version: Version) -> KeyRules<'static>
     ensures { map rule_of result.items ≡ top_keys (version_number version) }
 {
-    let number = required(Key::Version, ValueRule::Number(1, 3));
+    let number = required(Key::Version, ValueRule::Number(1, GREATEST_VERSION));
     let ram = required(Key::Ram, ValueRule::Total);
     let caps = required(Key::Caps, ValueRule::Number(1, GREATEST_CAPS));
     let routes = optional(Key::DefaultRoute, ValueRule::Tables);
@@ -41,7 +44,9 @@ pub fn top_rules(version: Version) -> KeyRules<'static>
     let start = required(Key::Start, ValueRule::Tables);
     match version {
         Version::One => listed(&[number, ram, routes, interfaces, start]),
-        Version::Two | Version::Three => listed(&[number, ram, caps, routes, interfaces, start]),
+        Version::Two | Version::Three | Version::Four => listed(&[
+            number, ram, caps, routes, interfaces, start,
+        ]),
     }
 }
 
@@ -60,7 +65,7 @@ pub fn interface_rules(version: Version, table: &Table) -> KeyRules<'static>
     let buffer = optional(Key::Buffer, ValueRule::Quantity(0, GREATEST_BUFFER));
     match version {
         Version::One => listed(&[arg, reply, need, object, upgrades, buffer]),
-        Version::Two | Version::Three => listed(&[
+        Version::Two | Version::Three | Version::Four => listed(&[
             arg,
             reply,
             need,
@@ -104,7 +109,15 @@ pub fn init_rules(version: Version) -> KeyRules<'static>
     match version {
         Version::One => listed(&[name, quantum, routes, start, default_routes]),
         Version::Two => listed(&[name, quantum, caps, routes, start, default_routes]),
-        Version::Three => listed(&[name, quantum, caps, routes, start, default_routes, offers]),
+        Version::Three | Version::Four => listed(&[
+            name,
+            quantum,
+            caps,
+            routes,
+            start,
+            default_routes,
+            offers,
+        ]),
     }
 }
 
@@ -120,6 +133,10 @@ pub fn leaf_rules<'a>(version: Version, interfaces: Option<&'a Table>) -> KeyRul
     let provides = optional(Key::Provides, ValueRule::Declared(interfaces));
     let after = optional(Key::After, ValueRule::NameText);
     let inputs = optional(Key::Inputs, ValueRule::Inputs);
+    let signals = optional(
+        Key::Signals,
+        ValueRule::Number(0, u64::from(GREATEST_SIGNALS)),
+    );
     let program = either(Key::Program, &[Key::Code], ValueRule::Text);
     let code = other(Key::Code, &[Key::Program], ValueRule::Hex);
     match version {
@@ -127,6 +144,9 @@ pub fn leaf_rules<'a>(version: Version, interfaces: Option<&'a Table>) -> KeyRul
         Version::Two => listed(&[name, quantum, caps, routes, provides, after, program, code]),
         Version::Three => listed(&[
             name, quantum, caps, routes, provides, after, inputs, program, code,
+        ]),
+        Version::Four => listed(&[
+            name, quantum, caps, routes, provides, after, inputs, signals, program, code,
         ]),
     }
 }

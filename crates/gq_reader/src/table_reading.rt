@@ -198,8 +198,11 @@ fn read_leaf(alloc: Global, table: Table) -> Result<Leaf, AllocError>
     let provides = name_at(&table, Key::Provides);
     let after = name_at(&table, Key::After);
     let inputs = read_inputs(list_at(&table, Key::Inputs));
+    let signals = number_at(&table, Key::Signals) as u8;
     let source = read_source(alloc, table)?;
-    Ok(Leaf::new(name, quantum, source, provides, after, inputs, routes))
+    Ok(Leaf::new(
+        name, quantum, source, provides, after, inputs, signals, routes,
+    ))
 }
 
 // The offers of a table: services, each with the name of a child.

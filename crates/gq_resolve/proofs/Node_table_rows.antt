@@ -8,7 +8,7 @@ use Rattle.std.proofs.lemmas.Option.{slice_get-get_or}
 use Rattle.std.proofs.lemmas.List.{length-map}
 use Rattle.gq_model.specs.machine.Program.{text_eq}
 use Rattle.gq_model.specs.machine.Routes.{numbered}
-use Rattle.gq_model.specs.texts.Turns.{inputs_at}
+use Rattle.gq_model.specs.texts.Turns.{inputs_at, signals_at}
 use Rattle.gq_scenario.specs.Component_trees.{nodes_of}
 use Rattle.gq_scenario.specs.declared.scenario.Node.{Node}
 use Rattle.gq_scenario.specs.declared.scenario.Node.TheVariants.{Leaf, Init}
@@ -246,6 +246,9 @@ module _ (s : Scenario) (leaves : List LeafRow) (x : ℕ) (r : LeafRow) (all : l
   pub inputs_here : r.inputs ≡ inputs_at (slice_get (components s) x)
   inputs_here = let a = row_at s x less in ap (λ l. l.inputs) same_row ∙ sym (ap inputs_at a.there)
 
+  pub signals_here : r.signals ≡ signals_at (slice_get (components s) x)
+  signals_here = let a = row_at s x less in ap (λ l. l.signals) same_row ∙ sym (ap signals_at a.there)
+
   pub servers_here : length r.servers ≡ length s.interfaces
   servers_here = ap (λ l. length l.servers) same_row ∙ length-map s.interfaces _
 
@@ -278,8 +281,8 @@ pub row_made : (s : Scenario) (routes : List (List (List ℕ × ℕ))) → AreSe
     → x < length cs → item ≡ get_or cs x item → (row : LeafRow) → row.name ≡ item.node.name → row.node ≡ place
     → row.service ≡ number_named item.node.provides (λ name. interface_number 0 name s.interfaces)
     → row.after ≡ number_named item.node.after (λ name. numbered 0 name cs) → row.inputs ≡ item.node.inputs
-    → row.servers ≡ map (λ e. server_at x e.0 routes) s.interfaces → IfSome (slice_get cs x) (λ c. row ≡ leaf_row s place c)
-row_made s routes are cs all x place item less is row name node service after inputs servers =
+    → row.signals ≡ item.node.signals → row.servers ≡ map (λ e. server_at x e.0 routes) s.interfaces → IfSome (slice_get cs x) (λ c. row ≡ leaf_row s place c)
+row_made s routes are cs all x place item less is row name node service after inputs signals servers =
     let there : slice_get cs x ≡ Some item = slice_get-get_or cs x item less ∙ ap Some (sym is) in
     let at : slice_get (components s) x ≡ Some item = ap (λ l. slice_get l x) (sym all) ∙ there in
     let afters = after ∙ ap (λ (l : List Component). number_named item.node.after (λ name. numbered 0 name l)) all in
@@ -290,6 +293,7 @@ row_made s routes are cs all x place item less is row name node service after in
       service = service i;
       after = afters i;
       inputs = inputs i;
+      signals = signals i;
       servers = given i;
     })
 

@@ -40,13 +40,14 @@ abbrev pub IsNodeOf : List NodeRow → ℕ → Component → Type 0
 IsNodeOf rows n c = (r : NodeRow) × (slice_get rows n ≡ Some r) × (r.label ≡ c.label) × (r.quantum ≡ c.node.quantum)
 
 -- a leaf: its name, its place among the nodes, the interface of the service that it provides, the leaf that it starts after, the greatest values of its inputs,
--- and for each interface the leaf that serves it, where a statement of its program opens that service
+-- the number of its signals, and for each interface the leaf that serves it, where a statement of its program opens that service
 pub record LeafRow : Type 0 where
   pub name : List ℕ
   pub node : ℕ
   pub service : Option ℕ
   pub after : Option ℕ
   pub inputs : List ℕ
+  pub signals : ℕ
   pub servers : List (Option ℕ)
 
 -- the number of a service's interface, counted from n
@@ -71,6 +72,7 @@ leaf_row s place c =
       service = number_named c.node.provides (λ name. interface_number 0 name s.interfaces);
       after = number_named c.node.after (λ name. numbered 0 name (components s));
       inputs = c.node.inputs;
+      signals = c.node.signals;
       servers = map (λ e. opened_server (system s) c e.0) s.interfaces;
     }
 

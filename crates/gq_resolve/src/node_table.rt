@@ -4,7 +4,7 @@ ghost use Rattle.gq_model.specs.machine.Accounts.{leaf_count};
 ghost use Rattle.gq_model.specs.machine.Routes.{numbered};
 ghost use Rattle.gq_model.specs.machine.Scenario as model;
 ghost use Rattle.gq_model.specs.machine.Scenario.{below, components};
-ghost use Rattle.gq_model.specs.texts.Turns.{inputs_at};
+ghost use Rattle.gq_model.specs.texts.Turns.{inputs_at, signals_at};
 ghost use Rattle.gq_resolve.specs.Served.{server_at, AreServers};
 ghost use Rattle.gq_scenario.specs.Sizes.{node_count, leaf_places, depth};
 ghost use Rattle.gq_resolve.specs.NodeTables.{IsNodeOf, all_rows, interface_number, leaf_row, leaf_rows, node_rows, number_named, rows_of};
@@ -51,6 +51,7 @@ struct LeafEntry {
     service: Option<u32>,
     after: Option<LeafNo>,
     inputs: Inputs,
+    signals: u8,
     servers: Vec<Option<LeafNo>>,
 }
 
@@ -59,7 +60,19 @@ impl Model for LeafEntry {
 
     ghost Value = { LeafRow };
 
-    ghost view = { λ e. record { name = e.name; node = e.node; service = e.service; after = e.after; inputs = e.inputs.items; servers = e.servers.items } };
+    ghost view = { λ e. record {
+      name = e.name;
+      node = e.node;
+      service = e.service;
+      after = e.after;
+      inputs = e.inputs.items;
+      signals = e.signals;
+      servers = e.servers.items;
+    } };
+
+    ghost use Rattle.std.specs.Prelude.{◌≤◌};
+
+    ghost invariant = { λ e. e.signals ≤ 3 };
 }
 
 // Puts bytes at the end of a label.
@@ -224,6 +237,7 @@ fn leaf_entry(
         service,
         after,
         inputs: component.copied_inputs(),
+        signals: component.signals(),
         servers,
     })
 }
@@ -402,6 +416,7 @@ impl NodeTable {
         ensures row { slice_get (leaf_rows self.now) leaf ≡ Some result.now }
         ensures node { IfSome (slice_get (components self.now) leaf) (λ c. IsNodeOf (node_rows self.now) result.now.node c) }
         ensures inputs { result.now.inputs ≡ inputs_at (slice_get (components self.now) leaf) }
+        ensures signals { result.now.signals ≡ signals_at (slice_get (components self.now) leaf) }
         ensures servers { length result.now.servers ≡ length self.now.interfaces }
     {
         &self.entries.leaves()[leaf.index()]
@@ -459,6 +474,16 @@ impl NodeTable {
     {
         let entry = self.row(leaf);
         entry.inputs.as_slice()
+    }
+
+    /// The number of a leaf's signals, at most 3.
+    pub fn signals(&self, leaf: LeafNo) -> u8
+        requires { leaf < length (components self.now) }
+        ensures signals { result ≡ signals_at (slice_get (components self.now) leaf) }
+        ensures few { result ≤ 3 }
+    {
+        let entry = self.row(leaf);
+        entry.signals
     }
 
     /// The leaf that serves a leaf's sessions of an interface, where a statement of its program opens one.

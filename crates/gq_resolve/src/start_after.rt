@@ -38,11 +38,12 @@ fn sibling<'a>(name: &Name, levels: &[Level<'a>]) -> Option<&'a Leaf>
     }
 }
 
-// Whether one of two leaves provides a service, or the second's quantum is greater.
+// Whether one of two leaves provides a service, the first has signals, so that it never ends, or the second's quantum is greater.
 fn unfit(before: &Leaf, leaf: &Leaf) -> bool
     ensures { result ≡ unfit before.now leaf.now }
 {
     before.provides().is_some()
+        || before.signals() > 0
         || leaf.provides().is_some()
         || before.quantum().ram() < leaf.quantum().ram()
         || before.quantum().caps() < leaf.quantum().caps()

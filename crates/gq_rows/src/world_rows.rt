@@ -1,4 +1,5 @@
 // A world in memory, turn by turn, and writers that fail.
+use gq_machine::submitted_signals::NoSignal;
 use gq_model::phase::Phase;
 use gq_output::counted::Counted;
 use gq_reports::RunFault;
@@ -16,6 +17,9 @@ const HELLO: &[u8] =
 
 const ECHO_OF_AN_INPUT: &[u8] =
     b"version = 3\nram = \"64K\"\ncaps = 2\n[[start]]\nname = \"a\"\nquantum = \"4K\"\ncaps = 0\ninputs = [100, 7]\nprogram = '''\nmain\nin 0\nout\nend\n'''\n";
+
+const TICKER: &[u8] =
+    b"version=4\nram='64K'\ncaps=2\n[[start]]\nname='a'\nquantum='4K'\ncaps=0\nsignals=2\nprogram='''\nmain\nend\non 0\nsay \"tick\"\nend\non 1\nend\n'''\n";
 
 // Whether `hello` says its text once, exits, and then does nothing.
 fn does_hello(alloc: Global, world: &mut World) -> bool {
@@ -50,6 +54,48 @@ fn reads_inputs(alloc: Global, world: &mut World) -> bool {
         && world.turn(a, &mut out) == Ok(Event::Finished)
         && world.set_input(a, 0, 1) == Ok(());
     sets && turns && text.as_slice() == b"[init -> a] 42\n".as_slice()
+}
+
+// Whether the bounds of signals are reported: of `on 0` a `say` and two steps more, of `on 1` these two. No other signal is there.
+fn reports_reactions(world: &World) -> bool {
+    let Some(a) = world.leaf(b"a") else {
+        return false;
+    };
+    let (Some(tick), Some(other)) = (world.reaction(a, 0), world.reaction(a, 1)) else {
+        return false;
+    };
+    world.signals(a) == 2
+        && (tick.steps, tick.all) == (3, 3)
+        && (other.steps, other.all) == (2, 2)
+        && world.reaction(a, 2).is_none()
+}
+
+// Whether signals are submitted and refused, count once until they are taken, and are taken one after the other.
+fn takes_signals(alloc: Global, world: &mut World) -> bool {
+    let Some(a) = world.leaf(b"a") else {
+        return false;
+    };
+    let mut text = Vec::new(alloc);
+    let mut out = Counted::new(Cursor::new(&mut text));
+    let starts = world.turn(a, &mut out) == Ok(Event::Quiet) && world.is_at_rest();
+    let submits = world.signal(a, 1) == Ok(())
+        && world.signal(a, 0) == Ok(())
+        && world.signal(a, 0) == Ok(())
+        && world.signal(a, 2) == Err(NoSignal)
+        && !world.is_at_rest();
+    let takes = world.turn(a, &mut out) == Ok(Event::Quiet)
+        && world.turn(a, &mut out) == Ok(Event::Line)
+        && world.turn(a, &mut out) == Ok(Event::Quiet)
+        && world.turn(a, &mut out) == Ok(Event::Quiet)
+        && world.turn(a, &mut out) == Ok(Event::Quiet)
+        && world.is_at_rest()
+        && world.turn(a, &mut out) == Ok(Event::Idle);
+    starts && submits && takes && text.as_slice() == b"[init -> a] tick\n".as_slice()
+}
+
+// Whether a world in which signals can be submitted reports their bounds and takes them.
+fn reacts(alloc: Global, world: &mut World) -> bool {
+    reports_reactions(world) && takes_signals(alloc, world)
 }
 
 // Whether a world is stopped once a line of it has room for four bytes alone.
@@ -166,6 +212,7 @@ enum Trial {
     Hello,
     FailedWrite,
     Inputs,
+    Signals,
 }
 
 impl Trial {
@@ -174,6 +221,7 @@ impl Trial {
             Trial::Hello => prints_all(alloc, world),
             Trial::FailedWrite => stops(world),
             Trial::Inputs => reads_inputs(alloc, world),
+            Trial::Signals => reacts(alloc, world),
         }
     }
 
@@ -182,6 +230,7 @@ impl Trial {
         match self {
             Trial::Hello | Trial::FailedWrite => HELLO,
             Trial::Inputs => ECHO_OF_AN_INPUT,
+            Trial::Signals => TICKER,
         }
     }
 }
@@ -211,4 +260,9 @@ fn stops_after_a_write_that_fails(rt: HostRuntime) {
 #[test]
 fn reads_inputs_and_refuses_others(rt: HostRuntime) {
     assert_eq!(rt; tried(rt.alloc(), Trial::Inputs), Some(true));
+}
+
+#[test]
+fn takes_signals_and_refuses_others(rt: HostRuntime) {
+    assert_eq!(rt; tried(rt.alloc(), Trial::Signals), Some(true));
 }

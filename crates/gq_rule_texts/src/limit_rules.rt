@@ -23,10 +23,11 @@ close earlier. `docs/MACHINE.md` has the prices that are summed.",
     entry!(
         "B2",
         "OverSteps",
-        "a leaf may take more than 10^12 steps in all",
+        "a leaf may take more than 10^12 steps in all from the start, or for one signal",
         "\
-A leaf may take more than 10^12 steps in all. What each section costs is taken as often as
-clients ask for it, along all chains of use.
+A leaf may take more than 10^12 steps in all from the start, or for one signal of a leaf each
+time that it is taken. What each section costs is taken as often as clients ask for it, along
+all chains of use.
 
 What usually leads to it:
 - clients call a server from `loop`s in `loop`s, each call with a long section
@@ -54,23 +55,26 @@ What to do: Raise the leaf's `caps`, and with them those of the init; or free an
 ];
 
 /// The codes of U.
-pub(crate) static TURNS: [RuleText; 5] = [
+pub(crate) static TURNS: [RuleText; 6] = [
     entry!(
         "U1",
         "BadLine",
-        "a line of the turns is not a leaf's name, one blank and a number of one to seven digits that does not begin with 0, nor a setting",
+        "a line of the turns is not a leaf's name, one blank and a number of one to seven digits that does not begin with 0, nor a setting, a signal or `rest`",
         "\
 A line of the turns is not a leaf's name, one blank and a number of one to seven digits that
-does not begin with 0, nor a setting. A setting is a leaf's name, a dot, a digit from 0 to 7,
-one blank, `=`, one blank, and one to ten digits of a number up to 4294967295. It may stand in
-version 3 alone. An empty line says nothing, nor does one that begins with `#`.
+does not begin with 0, nor a setting, a signal or `rest`. A setting is a leaf's name, a dot, a
+digit from 0 to 7, one blank, `=`, one blank, and one to ten digits of a number up to
+4294967295. It may stand from version 3 on. A signal is a leaf's name, `!` and a digit from 0 to
+2. It may stand from version 4 on, as may `rest`. An empty line says nothing, nor does one that
+begins with `#`.
 
 What usually leads to it:
 - two blanks, a blank at the end, or a tab
 - a number is missing, is 0, begins with 0, or has a sign
 - no blank beside the `=` of a setting, or a setting in version 1 or 2
+- a blank beside the `!` of a signal, or a signal or `rest` in versions 1 to 3
 
-What to do: Write lines as `cli 12`, and settings as `drv.0 = 500`.",
+What to do: Write lines as `cli 12`, settings as `drv.0 = 500`, and signals as `timer!0`.",
         "trade: U1 BadLine line 1"
     ),
     entry!(
@@ -132,6 +136,22 @@ What usually leads to it:
 What to do: Give a value up to the greatest, or raise the greatest in the scenario and check
 that it is still accepted.",
         "trade: U5 InputTooLarge line 1"
+    ),
+    entry!(
+        "U6",
+        "NoSignal",
+        "a signal is submitted that the leaf has not",
+        "\
+A signal is submitted that the leaf has not. The key `signals` of a leaf says how many it has;
+they are numbered from 0.
+
+What usually leads to it:
+- `signals` is too small: signal 1 needs `signals = 2`
+- the signal is another leaf's: a driver takes it, and calls whoever is to know
+
+What to do: Give the leaf the signal and a section `on i`, or submit one that it has: `trade
+tree` prints how many signals each leaf has.",
+        "trade: U6 NoSignal line 1"
     ),
 ];
 
@@ -201,11 +221,11 @@ What to do: See the texts of these codes.",
     entry!(
         "X5",
         "MissingSection",
-        "a request is accepted whose section is not in the server's program",
+        "a request is accepted, or a signal taken, whose section is not in the leaf's program",
         "\
-A request is accepted whose section is not in the server's program. No run of a scenario that
-`trade check` accepts comes to it: the verifier's rules rule it out. Only runs in tests that
-leave these rules out tell it, with the leaf's name.
+A request is accepted, or a signal taken, whose section is not in the leaf's program. No run of
+a scenario that `trade check` accepts comes to it: the verifier's rules rule it out. Only runs
+in tests that leave these rules out tell it, with the leaf's name.
 
 What usually leads to it:
 - the program breaks `V16`

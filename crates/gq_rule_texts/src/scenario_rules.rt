@@ -75,10 +75,10 @@ The line names the key where some other table has one of that name, and has `?` 
 What usually leads to it:
 - it is misspelt: keys have small letters and hyphens, as `default-route`, and headers are
   `[interface.NAME]` and `[[start]]`
-- it belongs to another table: `provides`, `after`, `inputs`, `program` and `code` are a leaf's,
-  `default-route` and `offers` those of a node with `start`; the root has no `offers`
+- it belongs to another table: `provides`, `after`, `inputs`, `signals`, `program` and `code` are
+  a leaf's, `default-route` and `offers` those of a node with `start`; the root has no `offers`
 - it is one of a later version: `caps`, `need-caps` and `upgrade-caps` are of version 2, `inputs`
-  and `offers` are of version 3
+  and `offers` of version 3, `signals` is of version 4
 - it stands below a header that it was not meant for
 
 What to do: Correct the key, move it to its table, or raise `version`.",
@@ -230,8 +230,8 @@ exited, and is paid what that one gives back.
 
 What usually leads to it:
 - `after` names no leaf right in the same init: none, an init, or a leaf elsewhere
-- the named leaf provides a service, and so never exits, or this one does, and its clients could
-  wait for ever
+- the named leaf provides a service or has signals, and so never exits
+- this leaf provides a service, and its clients could wait for ever
 - an earlier leaf starts after the same one: the quantum can be handed on only once
 - its quantum is greater than that of the named leaf
 - its `caps` are more than those of the named leaf

@@ -53,16 +53,17 @@ What to do: `drop` what is not needed; carry values in and out by locals: `set 0
     entry!(
         "V4",
         "WrongKind",
-        "a slot does not hold what the statement needs, or a session's slot or `obj` is used in `main`",
+        "a slot does not hold what the statement needs, or a session's slot or `obj` is used in `main` or in `on i`",
         "\
-A slot does not hold what the statement needs, or a session's slot or `obj` is used in `main`.
-Bytes are read in blocks, slices, spaces, `obj` and links with a buffer; `take`, `give`, `peek`
-and `poke` need a pool; `call`, `upgrade` and `close` a link; `free` something that is no link.
+A slot does not hold what the statement needs, or a session's slot or `obj` is used in `main` or
+in `on i`. Bytes are read in blocks, slices, spaces, `obj` and links with a buffer; `take`,
+`give`, `peek` and `poke` need a pool; `call`, `upgrade` and `close` a link; `free` something
+that is no link.
 
 What usually leads to it:
 - the slot is empty, or was freed
 - `free` stands where `close` is meant
-- `s0` to `s7` stand in `main`, which has no session
+- `s0` to `s7` stand in `main` or in `on i`, which have no session
 
 What to do: Use the slot that holds the thing, or make it first.",
         "trade: hello: V4 WrongKind in main at 1"
@@ -221,13 +222,14 @@ clients give; or make less. `docs/MACHINE.md` has the prices that are summed.",
     entry!(
         "V14",
         "LinkLeftOpen",
-        "the `main` of a leaf that provides nothing ends with an open session",
+        "the `main` of a leaf that provides nothing and has no signals ends with an open session",
         "\
-The `main` of a leaf that provides nothing ends with an open session. Such a leaf exits, and
-what it has given has to come back to it first.
+The `main` of a leaf that provides nothing and has no signals ends with an open session. Such a
+leaf exits, and what it has given has to come back to it first.
 
 What usually leads to it:
 - a `close` is missing
+- `signals` is missing at a leaf that is to go on
 
 What to do: `close` each slot that `open` filled.",
         "trade: cli: V14 LinkLeftOpen in main at 2"
@@ -251,18 +253,17 @@ What to do: Write the name of an interface of the scenario, or add the interface
         "MissingSection",
         "a program lacks a section that it needs, or has one too many; the place is 0",
         "\
-A program lacks a section that it needs, or has one too many; the place is 0. A leaf that
-provides nothing has `main` alone. One that provides a service with u upgrades has `main`,
-`open`, `up 1` to `up u`, `call 0` to `call u` and `close 0` to `close u`, none of them missing,
-though they may be empty but for the reply of a call. `on i` is for a signal, and no leaf has
-one.
+A program lacks a section that it needs, or has one too many; the place is 0. Each leaf has
+`main`. One that provides a service with u upgrades has `open`, `up 1` to `up u`, `call 0` to
+`call u` and `close 0` to `close u` as well, none of them missing, though they may be empty but
+for the reply of a call. One with n signals has `on 0` to `on n - 1` as well.
 
 What usually leads to it:
 - `upgrades` got one more entry, and the server no `up`, `call` and `close` for it
 - `provides` is missing at a leaf that has `open`, or stands at one that is no server
-- a section `on i` stands in a program
+- `signals` is missing at a leaf that has `on 0`, or is greater than its sections are many
 
-What to do: Add the section, take it out, or correct `provides` or `upgrades`.",
+What to do: Add the section, take it out, or correct `provides`, `upgrades` or `signals`.",
         "trade: srv: V16 MissingSection in close 0 at 0"
     ),
     entry!(

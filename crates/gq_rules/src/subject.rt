@@ -9,13 +9,14 @@ ghost use Rattle.gq_rules.specs.Flowing.{few_loops};
 use gq_program::{Body, Interface, Interfaces, Program, Section};
 use std::marker::Model;
 
-/// A program, the interface that it provides, if any, all interfaces, and the greatest values of its inputs.
+/// A program, the interface that it provides, if any, all interfaces, the greatest values of its inputs, and the number of its signals.
 #[derive(Drop)]
 pub struct Subject<'a> {
     program: &'a Program,
     provided: Option<&'a Interface>,
     interfaces: &'a Interfaces,
     inputs: &'a [u32],
+    signals: u8,
 }
 
 impl<'a> Model for Subject<'a> {
@@ -28,7 +29,13 @@ impl<'a> Model for Subject<'a> {
 
     ghost coded = { Prim.hlevel (codes, statements_code (Prim.hlevel codes)) };
 
-    ghost view = { λ s. record { program = s.program.now; provided = option_copied s.provided; interfaces = s.interfaces.now; inputs = s.inputs.now } };
+    ghost view = { λ s. record {
+      program = s.program.now;
+      provided = option_copied s.provided;
+      interfaces = s.interfaces.now;
+      inputs = s.inputs.now;
+      signals = s.signals;
+    } };
 }
 
 impl<'a> Subject<'a> {
@@ -38,14 +45,22 @@ impl<'a> Subject<'a> {
         provided: Option<&'a Interface>,
         interfaces: &'a Interfaces,
         inputs: &'a [u32],
+        signals: u8,
     ) -> Subject<'a>
-        ensures { result ≡ record { program = program.now; provided = option_copied provided.entry; interfaces = interfaces.now; inputs = inputs.now } }
+        ensures { result ≡ record {
+          program = program.now;
+          provided = option_copied provided.entry;
+          interfaces = interfaces.now;
+          inputs = inputs.now;
+          signals = signals;
+        } }
     {
         Subject {
             program,
             provided,
             interfaces,
             inputs,
+            signals,
         }
     }
 
@@ -87,6 +102,13 @@ impl<'a> Subject<'a> {
         ensures { result ≡ slice_get self.now.inputs number }
     {
         self.inputs.get(number as usize).copied()
+    }
+
+    /// The number of its signals.
+    pub fn signals(&self) -> u8
+        ensures { result ≡ self.now.signals }
+    {
+        self.signals
     }
 
     /// The bytes of the object of a session of the program's service; 0 where it provides none.

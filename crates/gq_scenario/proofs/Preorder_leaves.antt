@@ -1,15 +1,18 @@
 -- The leaves of a tree in preorder.
 use Rattle.std.proofs.Common.{◌≡◌, ℕ, zero, suc, ◌+◌, ◌<◌, List, [], ◌∷◌, ◌++◌, length, map, get_or, drop, Option, Some, option_map, length-append, codes, refl}
-use Rattle.std.proofs.Common.{sym, ap, ◌∙◌, arith}
+use Rattle.std.proofs.Common.{sym, ap, ◌∙◌, arith, true, nat_le, ◌≤◌}
 use Rattle.std.specs.Prelude.{slice_get}
+use Rattle.std.proofs.lemmas.Bool.{and_parts, and_from, leb-true}
 use Rattle.std.proofs.lemmas.List.{length-map}
 use Rattle.gq_model.specs.machine.Accounts.{leaf_count}
-use Rattle.gq_model.specs.machine.Scenario.{Route, LeafNode, InitNode, Nodes, End, Leaf_node, Init_node, Scenario, Level, level, below, components_of}
-use Rattle.gq_model.specs.machine.Scenario.{components}
-use Rattle.gq_scenario.specs.Sizes.{leaves_in}
+use Rattle.gq_model.specs.machine.Lists.{all_of}
+use Rattle.gq_model.specs.machine.Scenario.{Route, LeafNode, InitNode, Nodes, End, Leaf_node, Init_node, Scenario, Component, Level, level, below}
+use Rattle.gq_model.specs.machine.Scenario.{components_of, components}
+use Rattle.gq_scenario.specs.Sizes.{leaves_in, few_signals}
 use Rattle.gq_scenario.specs.Component_trees.{nodes_of}
 use Rattle.gq_scenario.specs.declared.scenario.Node.{Node}
 use Rattle.gq_scenario.specs.declared.scenario.Node.TheVariants.{Leaf, Init}
+use Rattle.gq_model.proofs.Decoded_operands.{all_of-append}
 use Rattle.gq_scenario.proofs.Tree_counts.{nodes_drop}
 use Rattle.std.proofs.lemmas.Option.{slice_get-map}
 
@@ -44,6 +47,31 @@ components-count s = sym (leaf_count-leaves s.nodes) ∙ (ap length (sym (compon
 pub component_leaf : (s : Scenario) (i : ℕ) (node : LeafNode) → slice_get (leaves_in s.nodes) i ≡ Some node
     → option_map (λ c. c.node) (slice_get (components s) i) ≡ Some node
 component_leaf s i node e = sym (slice_get-map (λ c. c.node) (components s) i) ∙ (ap (λ l. slice_get l i) (components-leaves_in s) ∙ e)
+
+-- SIGNALS
+
+leaf_signals : (nodes : Nodes) → few_signals nodes ≡ true → all_of (λ node. nat_le node.signals 3) (leaves_in nodes) ≡ true
+leaf_signals End e = refl
+leaf_signals (Leaf_node node rest) e =
+    let p = and_parts (nat_le node.signals 3) (few_signals rest) e in and_from (nat_le node.signals 3) _ p.0 (leaf_signals rest p.1)
+leaf_signals (Init_node node children rest) e =
+    let p = and_parts (few_signals children) (few_signals rest) e in
+    all_of-append (λ node. nat_le node.signals 3) (leaves_in children) (leaves_in rest) (leaf_signals children p.0) (leaf_signals rest p.1)
+
+few_at : (nodes : List LeafNode) (x : ℕ) (node : LeafNode) → all_of (λ node. nat_le node.signals 3) nodes ≡ true → slice_get nodes x ≡ Some node
+    → node.signals ≤ 3
+few_at [] x node all e = absurd cc
+few_at (n ∷ nodes) zero node all e =
+    let same : n ≡ node = cc in rw (← same) (leb-true n.signals 3 (and_parts (nat_le n.signals 3) _ all).0)
+few_at (n ∷ nodes) (suc x) node all e = few_at nodes x node (and_parts (nat_le n.signals 3) _ all).1 e
+
+-- no leaf has more than 3 signals
+pub component_signals : (s : Scenario) → few_signals s.nodes ≡ true → (x : ℕ) (c : Component) → slice_get (components s) x ≡ Some c → c.node.signals ≤ 3
+component_signals s few x c e =
+    few_at (leaves_in s.nodes) x c.node (leaf_signals s.nodes few)
+    (ap (λ l. slice_get l x) (sym (components-leaves_in s)) ∙ (slice_get-map (λ c. c.node) (components s) x ∙ ap (option_map (λ c. c.node)) e))
+
+-- PLACES
 
 -- places past a prefix of a list
 past_prefix : (xs ys : List LeafNode) (i left : ℕ) → left + length xs ≡ i → slice_get (xs ++ ys) i ≡ slice_get ys left

@@ -9,7 +9,7 @@ use Rattle.gq_model.specs.machine.Scenario.{Interfaces, Route, Nodes, End, Leaf_
 use Rattle.gq_program.specs.Interfaces.{all_unbounded, unbounded_entry}
 use Rattle.gq_scenario.specs.Document.{has_long_routes, has_too_many, init_count, names_of}
 use Rattle.gq_scenario.specs.Scenario_parts.{IsScenario, scenario_made}
-use Rattle.gq_scenario.specs.Sizes.{depth}
+use Rattle.gq_scenario.specs.Sizes.{depth, few_signals}
 use Rattle.gq_scenario.specs.Component_trees.{before, nodes_of, version_number}
 use Rattle.gq_scenario.specs.Without_quantities.{unsized, without_quanta}
 use Rattle.gq_scenario.specs.declared.scenario.Version.{Version}
@@ -56,6 +56,11 @@ depth_same End = refl
 depth_same (Leaf_node node rest) = simp (depth_same rest)
 depth_same (Init_node node children rest) = simp (depth_same children, depth_same rest)
 
+signals_same : (nodes : Nodes) → few_signals (without_quanta nodes) ≡ few_signals nodes
+signals_same End = refl
+signals_same (Leaf_node node rest) = simp (signals_same rest)
+signals_same (Init_node node children rest) = simp (signals_same children, signals_same rest)
+
 few_same : (s : Scenario) → has_too_many (unsized s) ≡ has_too_many s
 few_same s = simp (leaves_same s.nodes, inits_same s.nodes, routes_same s.nodes, length-map s.interfaces unbounded_entry)
 
@@ -68,6 +73,7 @@ unsized_scenario s is =
       memory = is.memory;
       caps = is.caps;
       shallow = rw (depth_same s.nodes) is.shallow;
+      signals = rw (signals_same s.nodes) is.signals;
     }
 
 -- a scenario of these parts is one without quantities

@@ -2,7 +2,7 @@
 use Rattle.std.specs.Prelude.{◌≡◌, ℕ, List, [], ◌∷◌}
 use Rattle.gq_model.specs.machine.Scenario.{Nodes, End, Leaf_node, Init_node}
 use Rattle.gq_scenario.specs.declared.scenario.Version.{Version}
-use Rattle.gq_scenario.specs.declared.scenario.Version.TheVariants.{One, Two, Three}
+use Rattle.gq_scenario.specs.declared.scenario.Version.TheVariants.{One, Two, Three, Four}
 use Rattle.gq_scenario.specs.declared.scenario.Node.{Node}
 use Rattle.gq_scenario.specs.declared.scenario.Node.TheVariants.{Leaf, Init}
 
@@ -10,6 +10,7 @@ abbrev pub version_number : Version → ℕ
 version_number One = 1
 version_number Two = 2
 version_number Three = 3
+version_number Four = 4
 
 -- a node before others
 abbrev pub before : Node → Nodes → Nodes

@@ -129,6 +129,7 @@ leaf_of entries =
       provides = text_at (codes "provides") entries;
       after = text_at (codes "after") entries;
       inputs = numbers_of (list_at (codes "inputs") entries);
+      signals = number_at (codes "signals") entries;
       routes = routes_at (codes "route") entries;
     }
 

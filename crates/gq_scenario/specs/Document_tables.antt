@@ -11,13 +11,13 @@ use Rattle.gq_scenario.specs.Table_keys.{is_true, is_table, is_list, list_length
 
 abbrev pub version_by : Option ℕ → ℕ
 version_by None = 1
-version_by (Some n) = if n == 2 || n == 3 then n else 1
+version_by (Some n) = if n == 2 || n == 3 || n == 4 then n else 1
 
 abbrev pub version_at : Option Data → ℕ
 version_at None = 1
 version_at (Some d) = version_by (number_of d)
 
--- what is not version 2 or 3 has the tables of version 1
+-- what is not version 2, 3 or 4 has the tables of version 1
 abbrev pub version_of : Members → ℕ
 version_of top = version_at (get_member (codes "version") top)
 
@@ -43,7 +43,7 @@ is_named_tables _ = false
 
 abbrev pub top_keys : ℕ → List KeyRule
 top_keys version =
-    required (codes "version") (is_number 1 3) ∷ required (codes "ram") is_total
+    required (codes "version") (is_number 1 4) ∷ required (codes "ram") is_total
     ∷ since 2 version (required (codes "caps") (is_number 1 greatest_caps))
     ++ optional (codes "default-route") (is_list is_table) ∷ optional (codes "interface") is_named_tables ∷ required (codes "start") (is_list is_table) ∷ []
 
@@ -101,11 +101,16 @@ init_keys version =
 abbrev pub is_inputs : Data → Bool
 is_inputs d = is_list (is_number 0 greatest_number) d && between 0 8 (list_length (items_of d))
 
+-- a leaf handles at most 3 signals
+abbrev pub greatest_signals : ℕ
+greatest_signals = 3
+
 abbrev pub leaf_keys : ℕ → List (List ℕ) → List KeyRule
 leaf_keys version services =
     node_keys version
     ++ optional (codes "provides") (is_declared services) ∷ optional (codes "after") is_name_text
     ∷ since 3 version (optional (codes "inputs") is_inputs)
+    ++ since 4 version (optional (codes "signals") (is_number 0 greatest_signals))
     ++ either (codes "program") (codes "code" ∷ []) is_text ∷ other (codes "code") (codes "program" ∷ []) is_hex ∷ []
 
 abbrev pub route_keys : List KeyRule

@@ -15,7 +15,7 @@ use Rattle.gq_scenario.specs.declared.scenario_fault.ScenarioError.{ScenarioErro
 use Rattle.gq_scenario.specs.declared.scenario_fault.ScenarioError.TheVariants.{Memory, Fault}
 use Rattle.gq_scenario.specs.declared.key.Key.{Key}
 use Rattle.gq_scenario.specs.declared.key.Key.TheVariants.{Version, Ram, Caps, DefaultRoute, Interface, Start, Arg, Reply, Need, NeedCaps, Object, Upgrades}
-use Rattle.gq_scenario.specs.declared.key.Key.TheVariants.{UpgradeCaps, Buffer, Name, Quantum, Route, Provides, After, Inputs, Offers, Program, Code}
+use Rattle.gq_scenario.specs.declared.key.Key.TheVariants.{UpgradeCaps, Buffer, Name, Quantum, Route, Provides, After, Inputs, Signals, Offers, Program, Code}
 use Rattle.gq_scenario.specs.declared.key.Key.TheVariants.{Service, AnyService, Child, AnyChild, Parent}
 
 abbrev pub key_text : Key → List ℕ
@@ -39,6 +39,7 @@ key_text Route = codes "route"
 key_text Provides = codes "provides"
 key_text After = codes "after"
 key_text Inputs = codes "inputs"
+key_text Signals = codes "signals"
 key_text Offers = codes "offers"
 key_text Program = codes "program"
 key_text Code = codes "code"

@@ -4,7 +4,7 @@ use Rattle.std.specs.declared.alloc.Global.{Global}
 use Rattle.gq_model.specs.machine.Amounts.{Amount, counts_caps}
 use Rattle.gq_model.specs.machine.Scenario.{Interfaces, Route, Nodes, Scenario}
 use Rattle.gq_scenario.specs.Document.{has_too_many, names_of, name_twice}
-use Rattle.gq_scenario.specs.Sizes.{depth, IsMemory}
+use Rattle.gq_scenario.specs.Sizes.{depth, few_signals, IsMemory}
 use Rattle.gq_scenario.specs.Component_trees.{version_number}
 use Rattle.gq_scenario.specs.declared.scenario.Version.{Version}
 
@@ -18,11 +18,12 @@ scenario_made version total default_routes interfaces nodes =
       nodes = nodes;
     }
 
--- there are not too many of anything, no name stands twice, the memory is whole pages, capabilities are there where they are counted, and no
--- node stands deeper than 4
+-- there are not too many of anything, no name stands twice, the memory is whole pages, capabilities are there where they are counted, no
+-- node stands deeper than 4, and no leaf has more than 3 signals
 pub record IsScenario (s : Scenario) : Type 0 where
   pub few : has_too_many s ≡ false
   pub single : name_twice (codes "init" ∷ []) (names_of s.nodes) ≡ None
   pub memory : IsMemory s.total.ram
   pub caps : counts_caps s.version ≡ true → 1 ≤ s.total.caps
   pub shallow : depth s.nodes ≤ 4
+  pub signals : few_signals s.nodes ≡ true

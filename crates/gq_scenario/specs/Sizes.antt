@@ -1,5 +1,5 @@
 -- How large trees of components are.
-use Rattle.std.specs.Prelude.{◌≡◌, ℕ, suc, ◌+◌, ◌≤◌, ◌%◌, max, nat_le, if◌then◌else◌, List, [], ◌∷◌, ◌++◌, Option, Some, None}
+use Rattle.std.specs.Prelude.{◌≡◌, ℕ, suc, ◌+◌, ◌≤◌, ◌%◌, max, nat_le, if◌then◌else◌, Bool, true, ◌&&◌, List, [], ◌∷◌, ◌++◌, Option, Some, None}
 use Rattle.gq_model.specs.machine.Scenario.{LeafNode, Nodes, End, Leaf_node, Init_node}
 
 -- the nodes, with those below
@@ -19,6 +19,12 @@ abbrev pub leaves_in : Nodes → List LeafNode
 leaves_in End = []
 leaves_in (Leaf_node node rest) = node ∷ leaves_in rest
 leaves_in (Init_node node children rest) = leaves_in children ++ leaves_in rest
+
+-- no leaf has more than 3 signals
+abbrev pub few_signals : Nodes → Bool
+few_signals End = true
+few_signals (Leaf_node node rest) = nat_le node.signals 3 && few_signals rest
+few_signals (Init_node node children rest) = few_signals children && few_signals rest
 
 -- a number up to the greatest count
 abbrev pub counted : ℕ → Option ℕ

@@ -48,8 +48,8 @@ abbrev pub known_keys : List (List ℕ)
 known_keys =
     codes "version" ∷ codes "ram" ∷ codes "caps" ∷ codes "default-route" ∷ codes "interface" ∷ codes "start" ∷ codes "arg" ∷ codes "reply" ∷ codes "need"
     ∷ codes "need-caps" ∷ codes "object" ∷ codes "upgrades" ∷ codes "upgrade-caps" ∷ codes "buffer" ∷ codes "name" ∷ codes "quantum" ∷ codes "route"
-    ∷ codes "provides" ∷ codes "after" ∷ codes "inputs" ∷ codes "offers" ∷ codes "program" ∷ codes "code" ∷ codes "service" ∷ codes "any-service"
-    ∷ codes "child" ∷ codes "any-child" ∷ codes "parent" ∷ []
+    ∷ codes "provides" ∷ codes "after" ∷ codes "inputs" ∷ codes "signals" ∷ codes "offers" ∷ codes "program" ∷ codes "code" ∷ codes "service"
+    ∷ codes "any-service" ∷ codes "child" ∷ codes "any-child" ∷ codes "parent" ∷ []
 
 -- another key is not printed, and neither is what is no name
 abbrev pub key_word : List ℕ → List ℕ

@@ -30,6 +30,7 @@ pub enum Key {
     Provides,
     After,
     Inputs,
+    Signals,
     Offers,
     Program,
     Code,
@@ -41,7 +42,7 @@ pub enum Key {
 }
 
 /// All of them.
-const KEYS: [Key; 28] = [
+const KEYS: [Key; 29] = [
     Key::Version,
     Key::Ram,
     Key::Caps,
@@ -62,6 +63,7 @@ const KEYS: [Key; 28] = [
     Key::Provides,
     Key::After,
     Key::Inputs,
+    Key::Signals,
     Key::Offers,
     Key::Program,
     Key::Code,
@@ -98,6 +100,7 @@ impl Key {
             Key::Provides => "provides",
             Key::After => "after",
             Key::Inputs => "inputs",
+            Key::Signals => "signals",
             Key::Offers => "offers",
             Key::Program => "program",
             Key::Code => "code",

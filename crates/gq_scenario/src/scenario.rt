@@ -66,6 +66,8 @@ pub enum Version {
     Two,
     /// The same as version 2; leaves may have inputs, and inits may offer services.
     Three,
+    /// The same as version 3; leaves may have signals.
+    Four,
 }
 
 impl Version {
@@ -77,6 +79,7 @@ impl Version {
             Version::One => 1,
             Version::Two => 2,
             Version::Three => 3,
+            Version::Four => 4,
         }
     }
 
@@ -86,7 +89,7 @@ impl Version {
     {
         match self {
             Version::One => false,
-            Version::Two | Version::Three => true,
+            Version::Two | Version::Three | Version::Four => true,
         }
     }
 }
@@ -198,6 +201,9 @@ pub fn reported(routes: &Option<Vec<Route>>) -> Option<&[Route]>
     }
 }
 
+/// The greatest number of signals of a leaf.
+pub const GREATEST_SIGNALS: u8 = 3;
+
 /// The greatest value of each input of a leaf, from input 0 on.
 pub type Inputs = ArrayVec<u32, INPUTS>;
 
@@ -210,6 +216,7 @@ pub struct Leaf {
     provides: Option<Name>,
     after: Option<Name>,
     inputs: Inputs,
+    signals: u8,
     routes: Option<Vec<Route>>,
 }
 
@@ -233,10 +240,11 @@ impl Model for Leaf {
       provides = l.provides;
       after = l.after;
       inputs = l.inputs.items;
+      signals = l.signals;
       routes = option_map (λ r. r.items) l.routes;
     } };
 
-    ghost invariant = { λ l. length l.inputs.items ≤ 8 };
+    ghost invariant = { λ l. (length l.inputs.items ≤ 8) × (l.signals ≤ 3) };
 }
 
 impl Leaf {
@@ -248,8 +256,10 @@ impl Leaf {
         provides: Option<Name>,
         after: Option<Name>,
         inputs: Inputs,
+        signals: u8,
         routes: Option<Vec<Route>>,
     ) -> Leaf
+        requires { signals ≤ 3 }
         ensures { result ≡ record {
           name = name;
           quantum = quantum;
@@ -258,6 +268,7 @@ impl Leaf {
           provides = provides;
           after = after;
           inputs = inputs.items;
+          signals = signals;
           routes = option_map (λ r. r.items) routes;
         } }
     {
@@ -268,6 +279,7 @@ impl Leaf {
             provides,
             after,
             inputs,
+            signals,
             routes,
         }
     }
@@ -325,6 +337,14 @@ impl Leaf {
             Ok(()) => copied,
             Err(_) => unreachable!(),
         }
+    }
+
+    /// The number of its signals, at most 3. In versions 1 to 3 it has none.
+    pub fn signals(&self) -> u8
+        ensures signals { result ≡ self.now.signals }
+        ensures few { result ≤ 3 }
+    {
+        self.signals
     }
 
     /// Its own routes; none are those of its init.
@@ -491,8 +511,8 @@ pub struct Parts {
 }
 
 /// A tree of components, with the interfaces of their services. It has at most 64 leaves, 64 inits below the root, 64
-/// interfaces and 64 routes in a list, and each name stands once; `init` is the root's. No node is deeper than 4, and the whole system has whole
-/// pages, at most 64 MiB.
+/// interfaces and 64 routes in a list, and each name stands once; `init` is the root's. No node is deeper than 4, no leaf has more than 3 signals,
+/// and the whole system has whole pages, at most 64 MiB.
 #[derive(Drop)]
 pub struct Scenario {
     version: Version,
@@ -533,7 +553,7 @@ impl Scenario {
     }
 
     /// What every scenario is. It has at most 64 leaves, 64 inits below the root, 64 interfaces and 64 routes in a list. No name stands twice or is the root's,
-    /// and no node is deeper than 4. The whole system has whole pages. It does nothing.
+    /// and no node is deeper than 4. No leaf has more than 3 signals. The whole system has whole pages. It does nothing.
     pub fn laws(&self)
         ensures { IsScenario self.now }
     {

@@ -74,6 +74,7 @@ fn unsized_leaf(alloc: Global, leaf: &Leaf) -> Result<Leaf, AllocError>
         copied_name(leaf.provides()),
         copied_name(leaf.after()),
         leaf.copied_inputs(),
+        leaf.signals(),
         routes,
     ))
 }

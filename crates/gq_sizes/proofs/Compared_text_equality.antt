@@ -6,7 +6,7 @@ use Rattle.gq_model.specs.machine.Program.{text_eq}
 use Rattle.gq_model.proofs.Small_facts.{text_is, text_self}
 use Rattle.gq_scenario.specs.Component_trees.{version_number}
 use Rattle.gq_scenario.specs.declared.scenario.Version.{Version}
-use Rattle.gq_scenario.specs.declared.scenario.Version.TheVariants.{One, Two, Three}
+use Rattle.gq_scenario.specs.declared.scenario.Version.TheVariants.{One, Two, Three, Four}
 
 -- texts that were found the same are one, by what they were read from
 pub same_is : (same : Bool) (a b x y : List ℕ) → same ≡ text_eq a b → a ≡ x → b ≡ y → IsTrue same → x ≡ y
@@ -26,9 +26,16 @@ pub one_version : (a b : Version) → version_number a ≡ version_number b → 
 one_version One One e = refl
 one_version One Two e = absurd (omega (arith, e))
 one_version One Three e = absurd (omega (arith, e))
+one_version One Four e = absurd (omega (arith, e))
 one_version Two One e = absurd (omega (arith, e))
 one_version Two Two e = refl
 one_version Two Three e = absurd (omega (arith, e))
+one_version Two Four e = absurd (omega (arith, e))
 one_version Three One e = absurd (omega (arith, e))
 one_version Three Two e = absurd (omega (arith, e))
 one_version Three Three e = refl
+one_version Three Four e = absurd (omega (arith, e))
+one_version Four One e = absurd (omega (arith, e))
+one_version Four Two e = absurd (omega (arith, e))
+one_version Four Three e = absurd (omega (arith, e))
+one_version Four Four e = refl

@@ -14,7 +14,8 @@ use Rattle.gq_model.specs.rules.Budgets.{by_link, asks, requests, section_cost, 
 use Rattle.gq_model.specs.rules.Kinds.{AbstractState, Subject, Context, inside, kind_at}
 use Rattle.gq_model.specs.rules.Rules.{judged, link_kind}
 use Rattle.gq_model.specs.rules.Flow.{at, later, flow, state_or, body}
-use Rattle.gq_model.specs.rules.Use.{subject, is_there, from_sections, from_leaves, asked_of, provided_by, times, steps_of, step_budget}
+use Rattle.gq_model.specs.rules.Use.{Cause, The_start, A_signal, subject, is_there, from_sections, from_leaves, asked_of, provided_by, times, steps_of}
+use Rattle.gq_model.specs.rules.Use.{step_budget, steps_for, steps_for_leaves, steps_for_signals}
 use Rattle.gq_model.proofs.Rules_laws.{then_ok, at_ok, later_ok, if_parts, loop_ok}
 use Rattle.gq_model.proofs.Small_facts.{none_some, some_same}
 use Rattle.gq_sizes.specs.Unsized_equality.{ContextsAsOne, StatesAsOne, Along, Allows, ComponentsAsOne, AllComponents}
@@ -140,29 +141,30 @@ module _ (all others : System) (same : AllComponents all.components others.compo
   provided_so (suc x) (c ∷ cs) (d ∷ ds) h = provided_so x cs ds h.1
 
   module _ (ask : AskAsOne all others all.components others.components) where
-    asked_so : (depth x : ℕ) (section : Section) → ((n : ℕ) (q : Section) → times depth all n q ≡ times depth others n q)
-        → asked_of (times depth all) all x section (provided_by (slice_get all.components x))
-        ≡ asked_of (times depth others) others x section (provided_by (slice_get others.components x))
-    asked_so depth x section e =
+    asked_so : (depth : ℕ) (cause : Cause) (x : ℕ) (section : Section) → ((n : ℕ) (q : Section) → times depth cause all n q ≡ times depth cause others n q)
+        → asked_of (times depth cause all) all x section (provided_by (slice_get all.components x))
+        ≡ asked_of (times depth cause others) others x section (provided_by (slice_get others.components x))
+    asked_so depth cause x section e =
         by (provided_by (slice_get all.components x))
-        ∙ ap (asked_of (times depth others) others x section) (provided_so x all.components others.components same)
+        ∙ ap (asked_of (times depth cause others) others x section) (provided_so x all.components others.components same)
       where
-        by : (p : Option (List ℕ)) → asked_of (times depth all) all x section p ≡ asked_of (times depth others) others x section p
+        by : (p : Option (List ℕ)) → asked_of (times depth cause all) all x section p ≡ asked_of (times depth cause others) others x section p
         by None = refl
-        by (Some service) = from_leaves_so (times depth all) (times depth others) x service section 0 all.components others.components e same ask
+        by (Some service) = from_leaves_so (times depth cause all) (times depth cause others) x service section 0 all.components others.components e same ask
 
-    times_so : (depth x : ℕ) (section : Section) → times depth all x section ≡ times depth others x section
-    times_so depth x Main = refl
-    times_so zero x (Reacting i) = refl
-    times_so zero x Opening = refl
-    times_so zero x (Upgrading l) = refl
-    times_so zero x (Calling l) = refl
-    times_so zero x (Closing l) = refl
-    times_so (suc depth) x Opening = asked_so depth x Opening (times_so depth)
-    times_so (suc depth) x (Upgrading l) = asked_so depth x (Upgrading l) (times_so depth)
-    times_so (suc depth) x (Calling l) = asked_so depth x (Calling l) (times_so depth)
-    times_so (suc depth) x (Closing l) = asked_so depth x (Closing l) (times_so depth)
-    times_so (suc depth) x (Reacting i) = refl
+    times_so : (depth : ℕ) (cause : Cause) (x : ℕ) (section : Section) → times depth cause all x section ≡ times depth cause others x section
+    times_so zero cause x Main = refl
+    times_so zero cause x (Reacting i) = refl
+    times_so zero cause x Opening = refl
+    times_so zero cause x (Upgrading l) = refl
+    times_so zero cause x (Calling l) = refl
+    times_so zero cause x (Closing l) = refl
+    times_so (suc depth) cause x Main = refl
+    times_so (suc depth) cause x Opening = asked_so depth cause x Opening (times_so depth cause)
+    times_so (suc depth) cause x (Upgrading l) = asked_so depth cause x (Upgrading l) (times_so depth cause)
+    times_so (suc depth) cause x (Calling l) = asked_so depth cause x (Calling l) (times_so depth cause)
+    times_so (suc depth) cause x (Closing l) = asked_so depth cause x (Closing l) (times_so depth cause)
+    times_so (suc depth) cause x (Reacting i) = refl
 
     steps_so : (f g : Section → ℕ) (pairs : List (Section × Statements)) → ((q : Section) → f q ≡ g q) → steps_of f pairs ≡ steps_of g pairs
     steps_so f g [] e = refl
@@ -174,8 +176,29 @@ module _ (all others : System) (same : AllComponents all.components others.compo
     same_length (c ∷ cs) [] h = absurd h
     same_length (c ∷ cs) (d ∷ ds) h = ap suc (same_length cs ds h.1)
 
+    cause_so : (cause : Cause) (x : ℕ) (c d : Component) → ComponentsAsOne c d → steps_for cause all x c ≡ steps_for cause others x d
+    cause_so cause x c d o =
+        steps_so (times (length all.components) cause all x) (times (length all.components) cause others x) c.node.program.sections
+        (times_so (length all.components) cause x)
+        ∙ ap (λ n. steps_of (times n cause others x) c.node.program.sections) (same_length all.components others.components same)
+        ∙ ap (λ (n : LeafNode). steps_of (times (length others.components) cause others x) n.program.sections) (sym o.node)
+
+    signals_so : (x : ℕ) (c d : Component) → ComponentsAsOne c d → (y i n : ℕ) → steps_for_signals all x c y i n ≡ steps_for_signals others x d y i n
+    signals_so x c d o y i zero = refl
+    signals_so x c d o y i (suc n) = λ k. cause_so (A_signal y i) x c d o k ∷ signals_so x c d o y (suc i) n k
+
+    leaves_so : (x : ℕ) (c d : Component) → ComponentsAsOne c d → (y : ℕ) (cs ds : List Component) → AllComponents cs ds
+        → steps_for_leaves all x c y cs ≡ steps_for_leaves others x d y ds
+    leaves_so x c d o y [] [] h = refl
+    leaves_so x c d o y [] (b ∷ ds) h = absurd h
+    leaves_so x c d o y (a ∷ cs) [] h = absurd h
+    leaves_so x c d o y (a ∷ cs) (b ∷ ds) h =
+        let here = signals_so x c d o y 0 a.node.signals
+        ∙ ap (λ (n : LeafNode). steps_for_signals others x d y 0 n.signals) (sym h.0.node) in
+        (λ k. here k ∷ leaves_so x c d o (suc y) cs ds h.1 k)
+
     pub budget_so : (x : ℕ) (c d : Component) → ComponentsAsOne c d → step_budget all x c ≡ step_budget others x d
     budget_so x c d o =
-        steps_so (times (length all.components) all x) (times (length all.components) others x) c.node.program.sections (times_so (length all.components) x)
-        ∙ ap (λ n. steps_of (times n others x) c.node.program.sections) (same_length all.components others.components same)
-        ∙ ap (λ (n : LeafNode). steps_of (times (length others.components) others x) n.program.sections) (sym o.node)
+        let start = cause_so The_start x c d o in
+        let signals = leaves_so x c d o 0 all.components others.components same in
+        (λ k. record { from_start = start k; for_signals = signals k })

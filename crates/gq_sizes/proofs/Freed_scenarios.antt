@@ -94,6 +94,7 @@ subjects_both all others c d h o = record {
       (ap (λ (n : LeafNode). n.provides) (sym o.node)) (provided_both c.node.provides all.interfaces others.interfaces h);
   interfaces = h;
   inputs = ap (λ (n : LeafNode). n.inputs) (sym o.node);
+  signals = ap (λ (n : LeafNode). n.signals) (sym o.node);
 }
 
 pub none_counted : (zs : Interfaces) (p : Option (List ℕ)) (j : Interface) → service_in p (free zs) ≡ Some j → j.counted ≡ []

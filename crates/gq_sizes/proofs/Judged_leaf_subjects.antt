@@ -9,11 +9,12 @@ use Rattle.gq_verify.specs.Subjects.{subject_of}
 use Rattle.gq_sizes.specs.Needing.{BreakNothing, subjects_by}
 
 pub breaks_now : (interfaces : Interfaces) (xs xs' : List Component) (ys ys' : List Program) (c : Component) (p : Program) → xs ≡ c ∷ xs' → ys ≡ p ∷ ys' →
-    BreakNothing interfaces xs ys → (program_fault (subject_of p c.node.provides interfaces c.node.inputs) ≡ None) × BreakNothing interfaces xs' ys'
+    BreakNothing interfaces xs ys
+    → (program_fault (subject_of p c.node.provides interfaces c.node.inputs c.node.signals) ≡ None) × BreakNothing interfaces xs' ys'
 breaks_now interfaces xs xs' ys ys' c p ex ey h = subst (BreakNothing interfaces (c ∷ xs')) ey (subst (λ l. BreakNothing interfaces l ys) ex h)
 
 pub one_more : (interfaces : Interfaces) (made made' all : List Subject) (xs xs' : List Component) (ys ys' : List Program) (c : Component) (p : Program)
-    (v : Subject) → xs ≡ c ∷ xs' → ys ≡ p ∷ ys' → made' ≡ made ++ v ∷ [] → v ≡ subject_of p c.node.provides interfaces c.node.inputs →
+    (v : Subject) → xs ≡ c ∷ xs' → ys ≡ p ∷ ys' → made' ≡ made ++ v ∷ [] → v ≡ subject_of p c.node.provides interfaces c.node.inputs c.node.signals →
     made ++ subjects_by interfaces xs ys ≡ all → made' ++ subjects_by interfaces xs' ys' ≡ all
 one_more interfaces made made' all xs xs' ys ys' c p v ex ey put is whole =
     ap (λ l. l ++ subjects_by interfaces xs' ys') put

@@ -84,13 +84,14 @@ bare_at x [] c h e = absurd (none_some e)
 bare_at zero (b ∷ cs) c h e = subst (λ (k : Component). k.node.quantum ≡ amount 0 0) (some_same e) h.0
 bare_at (suc x) (b ∷ cs) c h e = bare_at x cs c h.1 e
 
-bare_fits : (before node : LeafNode) → is_some before.provides ≡ false → is_some node.provides ≡ false → node.quantum ≡ amount 0 0 → unfit before node ≡ false
-bare_fits before node e f q =
+bare_fits : (before node : LeafNode) → is_some before.provides ≡ false → nat_lt 0 before.signals ≡ false → is_some node.provides ≡ false
+    → node.quantum ≡ amount 0 0 → unfit before node ≡ false
+bare_fits before node e g f q =
     let ram = ap (λ (n : Amount). n.ram) q in
     let caps = ap (λ (n : Amount). n.caps) q in
     let h : nat_lt before.quantum.ram node.quantum.ram ≡ false = not_less before.quantum.ram node.quantum.ram (omega (arith, ram)) in
     let k : nat_lt before.quantum.caps node.quantum.caps ≡ false = not_less before.quantum.caps node.quantum.caps (omega (arith, caps)) in
-    (λ i. e i || f i || h i || k i)
+    (λ i. e i || g i || f i || h i || k i)
 
 -- THE LAW
 
@@ -136,9 +137,10 @@ module _ (t s : Scenario) (sound : IsSound t) (alike : ScenariosAsOne t s) where
       let known = (starts_after mine.components [] mine.components (afters_fit t sound) x c name p.1 after_c).0 in
       let b = sibling_both name c.levels d.levels p.2.levels known.before known.there in
       let one : is_some b.0.provides ≡ false = ap (λ (n : LeafNode). is_some n.provides) b.2 ∙ known.before_provides in
+      let none : nat_lt 0 b.0.signals ≡ false = ap (λ (n : LeafNode). nat_lt 0 n.signals) b.2 ∙ known.before_signals in
       let two : is_some d.node.provides ≡ false = ap (λ (n : LeafNode). is_some n.provides) p.2.node ∙ known.provides in
       let bare = bare_at x all.components d (all_bare (codes "init") s.default_routes (without_quanta s.nodes) [] s.nodes) at in
-      ap (λ o. unfit_after o d.node) b.1 ∙ bare_fits b.0 d.node one two bare
+      ap (λ o. unfit_after o d.node) b.1 ∙ bare_fits b.0 d.node one none two bare
 
   resolved_none : unresolved (unsized s) ≡ None
   resolved_none =

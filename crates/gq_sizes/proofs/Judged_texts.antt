@@ -10,7 +10,8 @@ use Rattle.gq_scenario.specs.Document.{list_at, described, walk_fault, names_of,
 use Rattle.gq_scenario.specs.Top_table.{ReadFault, Bad_document, described_or, read_from, document_in, scenario_in}
 use Rattle.gq_scenario.specs.Without_quantities.{unsized}
 use Rattle.gq_scenario.proofs.Distinct_leaf_names.{names_differ}
-use Rattle.gq_reader.proofs.Faultless_document_parts.{walked}
+use Rattle.gq_scenario.proofs.Preorder_leaves.{component_signals}
+use Rattle.gq_reader.proofs.Faultless_document_parts.{described_signals, walked}
 use Rattle.gq_load.specs.Load.{LoadRefusal, Unread, source_fault, sources_fault, refused, scenario_fault, loaded_or, loaded_from, loaded}
 use Rattle.gq_load.specs.Unsized_judgement.{unsized_refusal}
 use Rattle.gq_load.proofs.Read_service_resources.{services_fair}
@@ -42,6 +43,7 @@ described_formed top e sources =
       programs = programs_are s (nodes_given 4 (list_at (codes "start") top)) sources;
       counted = λ service j found. (services_fair (version_of top) _ known service j found).0;
       upgrades = λ service j found. (services_fair (version_of top) _ known service j found).1;
+      signals = component_signals s (described_signals top a.0);
     }
 
 described_pages : (top : _) → document_fault top ≡ None → HasWholePages (described top)

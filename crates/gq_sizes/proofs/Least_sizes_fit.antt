@@ -200,7 +200,13 @@ module _ (version : ℕ) (all : System) (gs : List Gift) (is : Interfaces) (h : 
   v = subject all c
 
   abbrev pub w : Subject
-  w = record { program = c.node.program; provided = service_in c.node.provides zs; interfaces = zs; inputs = c.node.inputs }
+  w = record {
+    program = c.node.program;
+    provided = service_in c.node.provides zs;
+    interfaces = zs;
+    inputs = c.node.inputs;
+    signals = c.node.signals;
+  }
 
   abbrev sum : List ℕ → Interface → ℕ → Amount
   sum service i = sum_at version all gs service i
@@ -241,7 +247,7 @@ module _ (version : ℕ) (all : System) (gs : List Gift) (is : Interfaces) (h : 
           subst (ProvideAsOne (Some i)) (sym p.1) p.2
 
   pub subjects : SubjectsAsOne v w
-  subjects = record { program = refl; provided = provide_as_one c.node.provides; interfaces = both_as_one; inputs = refl }
+  subjects = record { program = refl; provided = provide_as_one c.node.provides; interfaces = both_as_one; inputs = refl; signals = refl }
 
   -- what is given for a link is what the least capabilities say
   pub settled_caps : counts_caps version ≡ true → (service : List ℕ) (l : ℕ) → l ≤ levels_for v.interfaces service
@@ -317,10 +323,11 @@ module _ (version : ℕ) (all : System) (gs : List Gift) (is : Interfaces) (h : 
   affords section s t (Call place) o a = tt
   affords section s t (Close place) o a = tt
 
-  -- the level of a section is one that its interface has
+  -- the level of a section of the service is one that its interface has
   abbrev pub HasLevel : Section → Type 0
   HasLevel section =
-      (service : List ℕ) (i : Interface) → c.node.provides ≡ Some service → interface_in service is ≡ Some i → level_of section ≤ length i.upgrades
+      (service : List ℕ) (i : Interface) → c.node.provides ≡ Some service → interface_in service is ≡ Some i → is_up_to (level_of section) section ≡ true
+      → level_of section ≤ length i.upgrades
 
   covers_one : (section : Section) (s t : AbstractState) (service : List ℕ) (i : Interface) → HasLevel section → StatesAsOne v.interfaces zs s t → Fits section
       s
@@ -329,7 +336,7 @@ module _ (version : ℕ) (all : System) (gs : List Gift) (is : Interfaces) (h : 
   covers_one section s t service i known o b provides is_i up =
       let j = least_interface (sum service i) i in
       let level = level_of section in
-      let below = known service i provides is_i in
+      let below = known service i provides is_i up in
       let fits = b service i provides is_i up in
       let rises = sums_rise version all gs service i in
       let ram : kinds.session_cost Ram j t.bank ≤ (need_of j level).ram =

@@ -82,10 +82,10 @@ among (Reacting i) e = three_on i (leb-true i 2 e)
 
 -- one that is there is wanted
 wanted_by : (v : Subject) (section : Section) (list : Statements) (sections : List Section) → first_unwanted v sections ≡ None
-    → any_of (same_section section) sections ≡ true → section_in section v.program.sections ≡ Some list → is_wanted v.provided section ≡ true
+    → any_of (same_section section) sections ≡ true → section_in section v.program.sections ≡ Some list → is_wanted v.provided v.signals section ≡ true
 wanted_by v section list [] e h there = absurd cc
 wanted_by v section list (s ∷ rest) e h there =
-    by (same_truth (is_wanted v.provided s) (is_some (section_in s v.program.sections))) refl e (same_section section s) refl h
+    by (same_truth (is_wanted v.provided v.signals s) (is_some (section_in s v.program.sections))) refl e (same_section section s) refl h
     (λ f g. wanted_by v section list rest f g there)
   where
     both_true : (a b : Bool) → same_truth a b ≡ true → b ≡ true → a ≡ true
@@ -93,30 +93,32 @@ wanted_by v section list (s ∷ rest) e h there =
     both_true false true f g = absurd cc
     both_true false false f g = absurd cc
 
-    by : (t : Bool) → same_truth (is_wanted v.provided s) (is_some (section_in s v.program.sections)) ≡ t
+    by : (t : Bool) → same_truth (is_wanted v.provided v.signals s) (is_some (section_in s v.program.sections)) ≡ t
         → (if◌then◌else◌ t (first_unwanted v rest) (Some s)) ≡ None → (b : Bool) → same_section section s ≡ b
         → (b || any_of (same_section section) rest) ≡ true
-        → (first_unwanted v rest ≡ None → any_of (same_section section) rest ≡ true → is_wanted v.provided section ≡ true) → is_wanted v.provided section ≡ true
+        → (first_unwanted v rest ≡ None → any_of (same_section section) rest ≡ true → is_wanted v.provided v.signals section ≡ true)
+        → is_wanted v.provided v.signals section ≡ true
     by false f g b same k further = absurd (some_none g)
     by true f g false same k further = further g k
     by true f g true same k further =
         let one = same_section_is section s same in
-        ap (is_wanted v.provided) one
-        ∙ both_true (is_wanted v.provided s) (is_some (section_in s v.program.sections)) f
+        ap (is_wanted v.provided v.signals) one
+        ∙ both_true (is_wanted v.provided v.signals s) (is_some (section_in s v.program.sections)) f
         (ap (λ n. is_some (section_in n v.program.sections)) (sym one) ∙ ap is_some there)
 
-level_by : (i : Interface) (section : Section) → is_wanted (Some i) section ≡ true → level_of section ≤ length i.upgrades
-level_by i Main e = omega arith
-level_by i Opening e = omega arith
-level_by i (Upgrading l) e = leb-true l (length i.upgrades) e
-level_by i (Calling l) e = leb-true l (length i.upgrades) e
-level_by i (Closing l) e = leb-true l (length i.upgrades) e
-level_by i (Reacting j) e = absurd cc
+level_by : (i : Interface) (signals : ℕ) (section : Section) → is_wanted (Some i) signals section ≡ true → is_up_to (level_of section) section ≡ true
+    → level_of section ≤ length i.upgrades
+level_by i signals Main e up = omega arith
+level_by i signals Opening e up = omega arith
+level_by i signals (Upgrading l) e up = leb-true l (length i.upgrades) e
+level_by i signals (Calling l) e up = leb-true l (length i.upgrades) e
+level_by i signals (Closing l) e up = leb-true l (length i.upgrades) e
+level_by i signals (Reacting j) e up = absurd cc
 
--- of a program that breaks no rule each section is of a level that its interface has
+-- of a program that breaks no rule each section of the service is of a level that its interface has
 pub level_known : (v : Subject) (i : Interface) (section : Section) (list : Statements) → IsProgram v.program → program_fault v ≡ None → v.provided ≡ Some i
-    → section_in section v.program.sections ≡ Some list → level_of section ≤ length i.upgrades
-level_known v i section list formed fine provided there =
+    → section_in section v.program.sections ≡ Some list → is_up_to (level_of section) section ≡ true → level_of section ≤ length i.upgrades
+level_known v i section list formed fine provided there up =
     let is = section_fits 0 v.program.sections section list (in_order v.program formed) there in
     let wanted = wanted_by v section list all_sections (accepted v fine).0 (among section is) there in
-    level_by i section (ap (λ o. is_wanted o section) (sym provided) ∙ wanted)
+    level_by i v.signals section (ap (λ o. is_wanted o v.signals section) (sym provided) ∙ wanted) up

@@ -180,7 +180,7 @@ module _ (version : ℕ) (all : System) (is : Interfaces) (h : IsFree version al
               (subst (λ (n : List ℕ). (session_cost (λ _ _. 0) Ram i s ≤ ram_sum all gs n i l)
               × (counts_caps version ≡ true → session_cost (least_caps all) Caps i s ≤ least_caps all n l)) same (
                 omega (arith, a, sum_needs all gs service i l),
-                λ two. let settled = h.settled two service i l e (levels section list there service i p e) in
+                λ two. let settled = h.settled two service i l e (levels section list there service i p e up) in
                     omega (arith, b, settled),
               ))) ram caps
 

@@ -185,12 +185,14 @@ module _ (v w : Subject) (h : SubjectsAsOne v w) (fine : program_fault v ≡ Non
   must_so : (a b : Bool) (rule : Rule) (s t last : AbstractState) → (a ≡ true → b ≡ true) → must a rule (Ok s) ≡ Ok last → must b rule (Ok t) ≡ Ok t
   must_so a b rule s t last so e = (λ i. must (so (must_holds a rule (Ok s) last e).0 i) rule (Ok t))
 
-  main_end_so : (p q : Option Interface) (e f last : AbstractState) → ProvideAsOne p q → One e f → main_end p e ≡ Ok last → main_end q f ≡ Ok f
-  main_end_so None None e f last pq o r =
+  main_end_so : (p q : Option Interface) (signals : ℕ) (e f last : AbstractState) → ProvideAsOne p q → One e f → main_end p signals e ≡ Ok last
+      → main_end q signals f ≡ Ok f
+  main_end_so None None (suc n) e f last pq o r = refl
+  main_end_so None None zero e f last pq o r =
       must_so (not (has_link e.own)) (not (has_link f.own)) LinkLeftOpen e f last (λ a. subst (λ b. not b ≡ true) (has_link_alike e.own f.own o.own) a) r
-  main_end_so None (Some j) e f last pq o r = absurd pq
-  main_end_so (Some i) None e f last pq o r = absurd pq
-  main_end_so (Some i) (Some j) e f last pq o r = refl
+  main_end_so None (Some j) signals e f last pq o r = absurd pq
+  main_end_so (Some i) None signals e f last pq o r = absurd pq
+  main_end_so (Some i) (Some j) signals e f last pq o r = refl
 
   opening_end_so : (n m : ℕ) (e f last : AbstractState) → n ≡ m → One e f → opening_end n e ≡ Ok last → opening_end m f ≡ Ok f
   opening_end_so n m e f last same o r = subst (λ k. opening_end k f ≡ Ok f) same (by n r)
@@ -230,10 +232,10 @@ module _ (v w : Subject) (h : SubjectsAsOne v w) (fine : program_fault v ≡ Non
   section_end_so : (section : Section) (e f last : AbstractState) → One e f → section_end v section e ≡ Ok last → (t : AbstractState) ×
       (section_end w section f ≡ Ok t)
   section_end_so Main e f last o r =
-      let p = and_then_so (none_left e) (main_end v.provided) e last r in
+      let p = and_then_so (none_left e) (main_end v.provided v.signals) e last r in
       let n = none_left_so e f p.0 o p.1 in
-      let m = main_end_so v.provided w.provided p.0 f last h.provided (subst (λ x. One x f) (sym n.0) o) p.2 in
-      (f, (λ i. and_then (n.1 i) (main_end w.provided)) ∙ m)
+      let m = main_end_so v.provided w.provided v.signals p.0 f last h.provided (subst (λ x. One x f) (sym n.0) o) p.2 in
+      (f, (λ i. and_then (n.1 i) (main_end w.provided (sym h.signals i))) ∙ m)
   section_end_so Opening e f last o r =
       let p = and_then_so (none_left e) (opening_end (number_of v.provided (λ i. i.buffer))) e last r in
       let n = none_left_so e f p.0 o p.1 in
@@ -253,21 +255,24 @@ module _ (v w : Subject) (h : SubjectsAsOne v w) (fine : program_fault v ≡ Non
 
   -- THE WHOLE PROGRAM
 
-  wanted_alike : (p q : Option Interface) (section : Section) → ProvideAsOne p q → is_wanted p section ≡ is_wanted q section
-  wanted_alike None None section pq = refl
-  wanted_alike None (Some j) section pq = absurd pq
-  wanted_alike (Some i) None section pq = absurd pq
-  wanted_alike (Some i) (Some j) Main pq = refl
-  wanted_alike (Some i) (Some j) Opening pq = refl
-  wanted_alike (Some i) (Some j) (Upgrading l) pq = ap (nat_le l) pq.levels
-  wanted_alike (Some i) (Some j) (Calling l) pq = ap (nat_le l) pq.levels
-  wanted_alike (Some i) (Some j) (Closing l) pq = ap (nat_le l) pq.levels
-  wanted_alike (Some i) (Some j) (Reacting k) pq = refl
+  wanted_alike : (p q : Option Interface) (signals : ℕ) (section : Section) → ProvideAsOne p q → is_wanted p signals section ≡ is_wanted q signals section
+  wanted_alike None None signals section pq = refl
+  wanted_alike None (Some j) signals section pq = absurd pq
+  wanted_alike (Some i) None signals section pq = absurd pq
+  wanted_alike (Some i) (Some j) signals Main pq = refl
+  wanted_alike (Some i) (Some j) signals Opening pq = refl
+  wanted_alike (Some i) (Some j) signals (Upgrading l) pq = ap (nat_le l) pq.levels
+  wanted_alike (Some i) (Some j) signals (Calling l) pq = ap (nat_le l) pq.levels
+  wanted_alike (Some i) (Some j) signals (Closing l) pq = ap (nat_le l) pq.levels
+  wanted_alike (Some i) (Some j) signals (Reacting k) pq = refl
+
+  wanted_same : (section : Section) → is_wanted v.provided v.signals section ≡ is_wanted w.provided w.signals section
+  wanted_same section = wanted_alike v.provided w.provided v.signals section h.provided ∙ ap (λ n. is_wanted w.provided n section) h.signals
 
   unwanted_alike : (sections : List Section) → first_unwanted v sections ≡ first_unwanted w sections
   unwanted_alike [] = refl
   unwanted_alike (s ∷ rest) = λ i.
-      if◌then◌else◌ (same_truth (wanted_alike v.provided w.provided s h.provided i) (is_some (section_in s (h.program i).sections)))
+      if◌then◌else◌ (same_truth (wanted_same s i) (is_some (section_in s (h.program i).sections)))
       (unwanted_alike rest i) (Some s)
 
   module _ (start : (section : Section) (list : Statements) → section_in section v.program.sections ≡ Some list → B section (start_of v section)) where

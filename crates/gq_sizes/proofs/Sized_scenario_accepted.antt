@@ -11,7 +11,7 @@ use Rattle.gq_model.specs.machine.Program.{Statements, section_in, text_eq}
 use Rattle.gq_model.specs.machine.Scenario.{Interface, LeafNode, Nodes, End, Leaf_node, Init_node, Level, Component, Scenario, System, components, system}
 use Rattle.gq_model.specs.machine.Scenario.{service_in}
 use Rattle.gq_model.specs.rules.Accept.{bad_program, program_refusal, not_resolved, own_refusal, steps_refusal, budget, budgets_from, budgets, IsAccepted}
-use Rattle.gq_model.specs.rules.Accept.{Over_own, Over_steps}
+use Rattle.gq_model.specs.rules.Accept.{Over_own, Over_steps, are_small}
 use Rattle.gq_model.specs.rules.Budgets.{own, section_requests}
 use Rattle.gq_model.specs.rules.Kinds.{AbstractState, Subject}
 use Rattle.gq_model.specs.rules.Flow.{context}
@@ -20,7 +20,7 @@ use Rattle.gq_tariff.specs.Prices.{up}
 use Rattle.gq_model.specs.rules.Resolve.{Unresolved, leaf_child, sibling, unfit, unfit_after, offer_fault, after_fault, routes_fault, cycle_fault}
 use Rattle.gq_model.specs.rules.Resolve.{quanta_fault, unresolved}
 use Rattle.gq_model.specs.rules.Use.{subject, step_budget}
-use Rattle.gq_model.specs.rules.Verdict.{Fault, program_fault, greatest_cost}
+use Rattle.gq_model.specs.rules.Verdict.{Fault, program_fault}
 use Rattle.gq_model.specs.texts.Code.{IsProgram}
 use Rattle.gq_model.proofs.Small_facts.{none_some, some_same, or_first_none}
 use Rattle.gq_laws.specs.Names.{NamesDiffer}
@@ -96,16 +96,16 @@ steps_none version all others x [] [] h same e = refl
 steps_none version all others x [] (d ∷ ds) h same e = absurd h
 steps_none version all others x (c ∷ cs) [] h same e = absurd h
 steps_none version all others x (c ∷ cs) (d ∷ ds) h same e =
-    by (nat_le (step_budget all x c) greatest_cost) refl e (steps_none version all others (suc x) cs ds h.1 same)
+    by (are_small (step_budget all x c)) refl e (steps_none version all others (suc x) cs ds h.1 same)
   where
-    by : (b : Bool) → nat_le (step_budget all x c) greatest_cost ≡ b
+    by : (b : Bool) → are_small (step_budget all x c) ≡ b
         → (if◌then◌else◌ b (steps_refusal cs (budgets_from version all (suc x) cs)) (Some (Over_steps c.node.name))) ≡ None
         → (steps_refusal cs (budgets_from version all (suc x) cs) ≡ None → steps_refusal ds (budgets_from version others (suc x) ds) ≡ None)
-        → (if◌then◌else◌ (nat_le (step_budget others x d) greatest_cost) (steps_refusal ds (budgets_from version others (suc x) ds)) (Some (Over_steps
+        → (if◌then◌else◌ (are_small (step_budget others x d)) (steps_refusal ds (budgets_from version others (suc x) ds)) (Some (Over_steps
         d.node.name)))
         ≡ None
     by true f g further =
-        let t : nat_le (step_budget others x d) greatest_cost ≡ true = ap (λ n. nat_le n greatest_cost) (sym (same x c d h.0)) ∙ f in
+        let t : are_small (step_budget others x d) ≡ true = ap are_small (sym (same x c d h.0)) ∙ f in
         (λ i. if◌then◌else◌ (t i) (steps_refusal ds (budgets_from version others (suc x) ds)) (Some (Over_steps d.node.name))) ∙ further g
     by false f g further = absurd (none_some (sym g))
 
@@ -242,10 +242,10 @@ module _ (s : Scenario) (formed : IsWellFormed s) (settled : IsSettled s) (judge
 
     levels : (section : Section) (list : Statements) → section_in section c.node.program.sections ≡ Some list
         → HasLevel s.version all gs s.interfaces unquantified c section
-    levels section list there service i provides known =
+    levels section list there service i provides known up =
         let provided : service_in c.node.provides all.interfaces ≡ Some (unbounded i) =
         ap (λ p. service_in p all.interfaces) provides ∙ found_free s.version all gs s.interfaces service i known in
-        let l = level_known (subject all c) (unbounded i) section list (programs x c at) fine provided there in
+        let l = level_known (subject all c) (unbounded i) section list (programs x c at) fine provided there up in
         let same = map_length (λ (a : Amount). amount 0 a.caps) i.upgrades in omega (arith, l, same)
 
     enough : IsSufficient s.version all gs s.interfaces unquantified c
@@ -288,7 +288,13 @@ module _ (s : Scenario) (formed : IsWellFormed s) (settled : IsSettled s) (judge
     same_subject : (d : Component) → ComponentsAsOne c d → subject others d ≡ w
     same_subject d o =
         ap (λ (n : LeafNode).
-        record { program = n.program; provided = service_in n.provides z.interfaces; interfaces = z.interfaces; inputs = n.inputs }) o.node
+        record {
+          program = n.program;
+          provided = service_in n.provides z.interfaces;
+          interfaces = z.interfaces;
+          inputs = n.inputs;
+          signals = n.signals;
+        }) o.node
 
     has_ram : own_by (least_caps all) Ram v ≤ least_at Ram all x
     has_ram =
@@ -332,10 +338,10 @@ module _ (s : Scenario) (formed : IsWellFormed s) (settled : IsSettled s) (judge
     caps_less s.version (least_at Caps all x) (least_at Caps all y) (after_least u names faults.1 Caps x y c b at there after),
   )
 
-  unfit_none : (before node : LeafNode) → is_some before.provides ≡ false → is_some node.provides ≡ false → node.quantum.ram ≤ before.quantum.ram
-      → node.quantum.caps ≤ before.quantum.caps → unfit before node ≡ false
-  unfit_none before node e f h k =
-      (λ i. e i || f i || not_less before.quantum.ram node.quantum.ram h i || not_less before.quantum.caps node.quantum.caps k i)
+  unfit_none : (before node : LeafNode) → is_some before.provides ≡ false → nat_lt 0 before.signals ≡ false → is_some node.provides ≡ false
+      → node.quantum.ram ≤ before.quantum.ram → node.quantum.caps ≤ before.quantum.caps → unfit before node ≡ false
+  unfit_none before node e g f h k =
+      (λ i. e i || g i || f i || not_less before.quantum.ram node.quantum.ram h i || not_less before.quantum.caps node.quantum.caps k i)
 
   -- who starts after another fits it
   after_fits : (x : ℕ) (d : Component) (name : List ℕ) → slice_get others.components x ≡ Some d → d.node.after ≡ Some name
@@ -359,8 +365,9 @@ module _ (s : Scenario) (formed : IsWellFormed s) (settled : IsSettled s) (judge
       let caps : d.node.quantum.caps ≤ b.0.quantum.caps =
       omega (arith, less.1, ap (λ (n : Amount). n.caps) mine, ap (λ (n : Amount). n.caps) its) in
       let one : is_some b.0.provides ≡ false = ap (λ (n : LeafNode). is_some n.provides) b.2 ∙ known.before_provides in
+      let none : nat_lt 0 b.0.signals ≡ false = ap (λ (n : LeafNode). nat_lt 0 n.signals) b.2 ∙ known.before_signals in
       let two : is_some d.node.provides ≡ false = ap (λ (n : LeafNode). is_some n.provides) p.2.node ∙ known.provides in
-      ap (λ o. unfit_after o d.node) b.1 ∙ unfit_none b.0 d.node one two ram caps
+      ap (λ o. unfit_after o d.node) b.1 ∙ unfit_none b.0 d.node one none two ram caps
 
   -- THE PARTS OF THE VERDICT
 
@@ -418,6 +425,12 @@ module _ (s : Scenario) (formed : IsWellFormed s) (settled : IsSettled s) (judge
         let a = ap (λ (k : Interface). length k.upgrades) p.2 in
         let b = upgrades_length (sum_at s.version all gs service p.0) 0 p.0.upgrades in
         let c = formed.upgrades service p.0 p.1 in omega (arith, a, b, c);
+    signals = λ x d at.
+        let p = pair_of all.components others.components as_sized x d at in
+        let q = pair_of (components s) all.components as_given x p.0 p.1 in
+        let same = ap (λ (n : LeafNode). n.signals) p.2.node in
+        let first = ap (λ (n : LeafNode). n.signals) q.2.node in
+        let few = formed.signals x q.0 q.1 in omega (arith, same, first, few);
   }
 
   pages_sized : HasWholePages z

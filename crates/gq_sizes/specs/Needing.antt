@@ -26,13 +26,14 @@ section_needed given r v i l p = if is_up_to l p.0 then greatest (session_cost g
 abbrev pub subjects_by : Interfaces → List Component → List Program → List Subject
 subjects_by interfaces [] ps = []
 subjects_by interfaces (c ∷ cs) [] = []
-subjects_by interfaces (c ∷ cs) (p ∷ ps) = subject_of p c.node.provides interfaces c.node.inputs ∷ subjects_by interfaces cs ps
+subjects_by interfaces (c ∷ cs) (p ∷ ps) = subject_of p c.node.provides interfaces c.node.inputs c.node.signals ∷ subjects_by interfaces cs ps
 
 -- none of them breaks a rule
 abbrev pub BreakNothing : Interfaces → List Component → List Program → Type 0
 BreakNothing interfaces [] ps = Unit {0}
 BreakNothing interfaces (c ∷ cs) [] = Unit {0}
-BreakNothing interfaces (c ∷ cs) (p ∷ ps) = (program_fault (subject_of p c.node.provides interfaces c.node.inputs) ≡ None) × BreakNothing interfaces cs ps
+BreakNothing interfaces (c ∷ cs) (p ∷ ps) =
+    (program_fault (subject_of p c.node.provides interfaces c.node.inputs c.node.signals) ≡ None) × BreakNothing interfaces cs ps
 
 -- no leaf has a section of a level above 3
 abbrev pub AreLow : List Subject → Type 0

@@ -35,6 +35,7 @@ pub record SubjectsAsOne (v w : Subject) : Type 0 where
   pub provided : ProvideAsOne v.provided w.provided
   pub interfaces : AllAsOne v.interfaces w.interfaces
   pub inputs : v.inputs ≡ w.inputs
+  pub signals : v.signals ≡ w.signals
 
 pub record ContextsAsOne (c d : Context) : Type 0 where
   pub subject : SubjectsAsOne c.subject d.subject

@@ -38,6 +38,7 @@ pub fn same_version(a: Version, b: Version) -> bool
         (Version::One, Version::One) => true,
         (Version::Two, Version::Two) => true,
         (Version::Three, Version::Three) => true,
+        (Version::Four, Version::Four) => true,
         _ => false,
     }
 }

@@ -75,6 +75,7 @@ fn is_leaf_sized(version: Version, made: &Leaf, leaf: &Leaf, least: Least) -> bo
         && same_names(made.provides(), leaf.provides())
         && same_names(made.after(), leaf.after())
         && same_numbers(made.inputs(), leaf.inputs())
+        && made.signals() == leaf.signals()
         && same_routes(made.routes(), leaf.routes())
 }
 

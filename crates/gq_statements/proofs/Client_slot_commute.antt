@@ -10,7 +10,7 @@ use Rattle.gq_statements.proofs.Twice_written_lists.{set_again, set_swap}
 
 module _ (x : ℕ) (g : List ℕ → List ℕ) where
   abbrev on : Leaf → Leaf
-  on leaf = record leaf { phase = resumed leaf.current; operands = g leaf.operands }
+  on leaf = record leaf { phase = resumed leaf.current leaf.reacting; operands = g leaf.operands }
 
   active_sessions : (w : World) (o : Option Leaf) → (active_again w x g o).sessions ≡ w.sessions
   active_sessions w None = refl

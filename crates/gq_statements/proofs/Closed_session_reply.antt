@@ -77,6 +77,7 @@ some_frame = record {
   leaf = λ x. record {
     phase = Running;
     current = None;
+    reacting = None;
     todo = Done;
     loops = [];
     operands = [];
@@ -85,6 +86,7 @@ some_frame = record {
     peaks = [];
     steps = 0;
     inputs = [];
+    signals = [];
   };
 }
 

@@ -110,7 +110,7 @@ module _ (f : Frame) (d : Doing) (s : Slots) (x : ℕ) (is : d.x ≡ x) (h : IsR
       ∙ slots_seen f.leaf (memory_of s) s.own s.heaps x here.0 here.1)
       ∙ no_link_seen (memory_of s x) (own_slots s x)
 
-  pub linked_end : has_no_link (own_slots s x) ≡ false → main_ended d None ≡ Err WrongKind
+  pub linked_end : has_no_link (own_slots s x) ≡ false → main_ended d None 0 ≡ Err WrongKind
   linked_end e = ap (λ b. when b WrongKind (Ok (exit_of d, Finished))) (links ∙ e)
 
   exit_is : exit_of d ≡ bare_in (world_seen f s) x (slice_get (world_seen f s).leaves x)
@@ -119,6 +119,6 @@ module _ (f : Frame) (d : Doing) (s : Slots) (x : ℕ) (is : d.x ≡ x) (h : IsR
       (sym (released_bare name d.system.components d.world.leaves d.x (leaving d.leaf) here.0 there))
       ∙ ((λ i. world.with_leaf (h i) (is i) (bare here.0)) ∙ sym (ap (bare_in (world_seen f s) x) here.1))
 
-  pub free_end : (t : Slots) → has_no_link (own_slots s x) ≡ true → EndsLeaf s t x → main_ended d None ≡ Ok (world_seen f t, Finished)
+  pub free_end : (t : Slots) → has_no_link (own_slots s x) ≡ true → EndsLeaf s t x → main_ended d None 0 ≡ Ok (world_seen f t, Finished)
   free_end t e ends =
       ap (λ b. when b WrongKind (Ok (exit_of d, Finished))) (links ∙ e) ∙ ap (λ w. Ok (w, Finished)) (exit_is ∙ sym (ends.seen_so f))

@@ -17,18 +17,19 @@ pub struct Current {
     pub section: Section,
 }
 
-/// The section that a leaf is in: `main` where it has no current request.
+/// The section that a leaf is in: that of its current request. Without one it is that of the signal that the leaf reacts to, else `main`.
 #[inline(always)]
-pub fn section_of(current: Option<Current>) -> Section
-    ensures { result ≡ world.section_of (current_seen current) }
+pub fn section_of(current: Option<Current>, reacting: Option<u8>) -> Section
+    ensures { result ≡ world.section_of (current_seen current) reacting }
 {
-    match current {
-        None => Section::Main,
-        Some(current) => current.section,
+    match (current, reacting) {
+        (Some(current), _) => current.section,
+        (None, Some(signal)) => Section::Reacting(signal),
+        (None, None) => Section::Main,
     }
 }
 
-/// A leaf that does a statement, with its current request: nothing in `main`.
+/// A leaf that does a statement, with its current request: none in `main` or in the section for a signal.
 #[derive(Clone, Copy)]
 pub struct Actor {
     pub leaf: usize,

@@ -13,13 +13,14 @@ use gq_model::fault::Wrong;
 use gq_slots::{Slots, ending_leaves};
 use gq_trade::SlotId;
 
-/// The end of `main` of a leaf that provides no service: it holds nothing from now on, its account is closed, and who starts after it has its quantum.
+/// The end of `main` of a leaf that provides no service and has no signals. It holds nothing from now on, its account is closed, and who starts after it
+/// has its quantum.
 ///
 /// `WrongKind` where a slot of its own is a link: it has not closed the session. Then nothing changes.
 pub fn exit(slots: &mut Slots, leaf: usize) -> Result<(), Wrong>
     requires live { IsLive slots.old.trades leaf }
     requires alone { IsAloneWithoutLinks slots.old leaf }
-    ensures ended { (f : Frame) (d : Doing) → d.x ≡ leaf → IsReleased d f slots.old → step.main_ended d None ≡ finished result (world_seen f slots.new) }
+    ensures ended { (f : Frame) (d : Doing) → d.x ≡ leaf → IsReleased d f slots.old → step.main_ended d None 0 ≡ finished result (world_seen f slots.new) }
     ensures ends { OnOk result (EndsLeaf slots.old slots.new leaf) }
     ensures unchanged { OnErr result (slots.new ≡ slots.old) }
 {

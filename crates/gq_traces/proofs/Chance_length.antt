@@ -1,5 +1,6 @@
--- The text of turns by chance is short enough to be read, and is read as the turns.
-use Rattle.std.proofs.Common.{◌≡◌, ℕ, zero, suc, ◌+◌, ◌-◌, ◌*◌, ◌≤◌, ◌^◌, min, Bool, true, false, List, [], ◌∷◌, ◌++◌, length, Some, Ok, arith, sym, subst}
+-- The lines of turns by chance have room in a text that is read.
+use Rattle.std.proofs.Common.{ℕ, zero, suc, ◌-◌, ◌*◌, ◌≤◌, min, List, [], ◌∷◌, ◌++◌, length, Some, arith}
+use Rattle.std.specs.Prelude.{map}
 use Rattle.std.proofs.lemmas.Bool.Decides.{nat_tests}
 use Rattle.std.proofs.lemmas.Fmt.{length-decimal-le}
 use Rattle.std.proofs.lemmas.Nat.{mod_below}
@@ -8,14 +9,14 @@ use Rattle.rand_pcg.specs.Lcg.{Lcg}
 use Rattle.rand_pcg.specs.Pcg.{pcg32, pcg32_of_seed}
 use Rattle.gq_model.specs.machine.Scenario.{Component, Scenario, System, components, system}
 use Rattle.gq_model.specs.machine.World.{World, start}
-use Rattle.gq_model.specs.texts.Turns.{greatest_turns, turned}
+use Rattle.gq_model.specs.machine.Rest.{greatest_turns, Taken, reported_turns, while_can}
 use Rattle.gq_laws.specs.Names.{NamesDiffer}
-use Rattle.gq_views.specs.Listing.{joined}
-use Rattle.gq_traces.specs.Schedule.{Taken, able, as_acts, choice, choices, chosen, drawn, greatest_choices, no_turns, schedule_lines, schedule_text, some_can}
-use Rattle.gq_traces.specs.Schedule.{reported_turns, turn_line, where_some, while_can}
-use Rattle.gq_traces.proofs.Schedule_runs.{AreNames, all_chosen, reported_back}
+use Rattle.gq_traces.specs.Schedule.{able, as_lines, choice, choices, drawn, given_line, greatest_choices, greatest_text, no_turns, rest_by, scheduled_by}
+use Rattle.gq_traces.specs.Schedule.{where_some}
+use Rattle.gq_traces.proofs.Fitting_lines.{bytes}
+use Rattle.gq_traces.proofs.Schedule_runs.{AreNames, taken_by}
 use Rattle.gq_traces.proofs.Scheduled_turn_runs.{while_few}
-use Rattle.gq_traces.proofs.Text_length.{cut_short, joined_both, line_short}
+use Rattle.gq_traces.proofs.Text_length.{joined_both, line_short, turn_line}
 use Rattle.gq_traces.proofs.Turned_back.{AreTurns}
 
 -- at most k lines, of at most 16 turns each
@@ -68,29 +69,27 @@ module _ (system : System) where
       let after = (choice g (leaves n w g)).generator in
       choice_short n w g k (choices k system (suc n - t.0) t.1 after) (choices_short k (suc n - t.0) t.1 after) (leaves n w g)
 
-lines_short : (cs : List Component) (k : ℕ) (ts : List (ℕ × ℕ)) (cut : Bool) (n : ℕ) → n ≤ greatest_turns → AreTurns cs ts → AreShort k ts
-    → length (joined (schedule_lines cs ts cut n)) ≤ 20 * k + 26
-lines_short cs k [] true n most h few = let cut = cut_short n most in omega (arith, cut)
-lines_short cs k [] false n most h few = omega arith
-lines_short cs zero (t ∷ ts) cut n most h few = absurd few
-lines_short cs (suc k) (t ∷ ts) cut n most h few =
+lines_short : (cs : List Component) (k : ℕ) (ts : List (ℕ × ℕ)) → AreTurns cs ts → AreShort k ts → bytes cs (as_lines ts) ≤ 20 * k
+lines_short cs k [] h few = omega arith
+lines_short cs zero (t ∷ ts) h few = absurd few
+lines_short cs (suc k) (t ∷ ts) h few =
     omega (
       arith,
-      joined_both (turn_line cs t) (schedule_lines cs ts cut n),
+      joined_both (turn_line cs t) (map (given_line cs) (as_lines ts)),
       line_short cs t h.0,
       length-decimal-le 2 t.1 (omega arith) (omega (arith, few.0)) (omega (arith, few.0)),
-      lines_short cs k ts cut n most h.2 few.1,
+      lines_short cs k ts h.2 few.1,
     )
 
-chosen_short : (seed : ℕ) (s : Scenario) → AreShort greatest_choices (chosen seed s).turns
-unfolding chosen
+chosen_short : (seed : ℕ) (s : Scenario) → AreShort greatest_choices (scheduled_by (Some seed) s).turns
+unfolding rest_by
 chosen_short seed s = choices_short (system s) greatest_choices greatest_turns (start (system s)) (pcg32_of_seed (pcg32_seed 16 seed))
 
-pub chosen_printed : (seed : ℕ) (s : Scenario) → NamesDiffer s → AreNames s
-    → turned s (schedule_text (Some seed) s) ≡ Ok (as_acts (chosen seed s).turns)
-unfolding greatest_choices
-chosen_printed seed s differ names =
-    let t = chosen seed s in
-    let text = lines_short (components s) greatest_choices t.turns (some_can (system s) t.world 0 (components s)) (greatest_turns - t.left) (omega arith)
-    (all_chosen seed s differ names).turns (chosen_short seed s) in
-    reported_back (Some seed) s differ names (omega (arith, text))
+pub chance_short : (seed : ℕ) (s : Scenario) → NamesDiffer s → AreNames s
+    → bytes (components s) (as_lines (scheduled_by (Some seed) s).turns) ≤ greatest_text
+unfolding greatest_choices greatest_text
+chance_short seed s differ names =
+    let t = scheduled_by (Some seed) s in
+    let text = lines_short (components s) greatest_choices t.turns (taken_by (Some seed) s greatest_turns (start (system s)) differ names).turns
+    (chosen_short seed s) in
+    omega (arith, text)

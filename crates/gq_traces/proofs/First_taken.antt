@@ -1,16 +1,16 @@
 -- The first turns of a list, entry by entry, and move by move.
-use Rattle.std.proofs.Common.{◌≡◌, ◌∙◌, ℕ, ◌+◌, ◌-◌, ◌≤◌, zero, suc, List, [], ◌∷◌, ◌++◌, length, take, Option, Some, None, refl, ap, sym, arith}
+use Rattle.std.proofs.Common.{◌≡◌, ◌∙◌, ℕ, ◌+◌, ◌-◌, zero, suc, List, [], ◌∷◌, ◌++◌, take, Option, Some, None, refl, ap, sym, arith}
 use Rattle.std.specs.Prelude.{min, replicate, slice_get}
 use Rattle.std.proofs.lemmas.Bool.Decides.{nat_tests}
 use Rattle.gq_model.specs.declared.act.Act.{Act}
-use Rattle.gq_model.specs.declared.act.Act.TheVariants.{Turns, Sets}
+use Rattle.gq_model.specs.declared.act.Act.TheVariants.{Turns, Sets, Submits}
 use Rattle.gq_model.specs.machine.Run.{Acts}
 use Rattle.gq_model.specs.machine.Scenario.{System}
 use Rattle.gq_model.specs.texts.Turns.{turns_given}
 use Rattle.gq_model.proofs.Small_facts.{none_some, some_same}
 use Rattle.gq_traces.specs.First_turns.{AreFirst, first_moves, first_of, first_turns, some_turns, turns_in}
 use Rattle.gq_traces.specs.Trace.{Traced, after_act, after_all}
-use Rattle.gq_laws.specs.Progress.{Move, Turn_of, Setting_of, each_move, moves_of}
+use Rattle.gq_laws.specs.Progress.{Move, Turn_of, Setting_of, Signal_of, each_move, moves_of}
 
 -- WHAT IS LEFT
 
@@ -27,6 +27,8 @@ less_by : (left : ℕ) (a : Act) → left - turns_given (first_of left a) ≡ le
 less_by left (Turns m) = grind (arith, nat_tests)
 less_by zero (Sets i v) = refl
 less_by (suc n) (Sets i v) = refl
+less_by zero (Submits i) = refl
+less_by (suc n) (Submits i) = refl
 
 pub left_then : (n : ℕ) (acts : Acts) (i : ℕ) (p : ℕ × Act) (left : ℕ) → slice_get acts i ≡ Some p → left ≡ n - turns_in (take i acts)
     → left - turns_given (first_of left p.1) ≡ n - turns_in (take (i + 1) acts)
@@ -87,6 +89,9 @@ act_over zero x (Sets i v) [] = refl
 act_over zero x (Sets i v) (m ∷ rest) = refl
 act_over (suc n) x (Sets i v) rest =
     let all : suc n - 0 ≡ suc n = omega arith in ap (λ m. Setting_of x i v ∷ first_moves m rest) all
+act_over zero x (Submits i) [] = refl
+act_over zero x (Submits i) (m ∷ rest) = refl
+act_over (suc n) x (Submits i) rest = let all : suc n - 0 ≡ suc n = omega arith in ap (λ m. Signal_of x i ∷ first_moves m rest) all
 
 each_first : (n : ℕ) (acts : Acts) → each_move (first_turns n acts) ≡ first_moves n (each_move acts)
 each_first zero [] = refl

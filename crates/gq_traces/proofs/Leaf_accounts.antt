@@ -1,5 +1,5 @@
 -- The account of a leaf, by the place of its node.
-use Rattle.std.proofs.Common.{◌≡◌, ◌∙◌, ◌<◌, ◌+◌, ◌==◌, ◌⊎◌, ℕ, zero, suc, inl, inr, cond, List, [], ◌∷◌, ◌++◌, length, codes, Option, Some}
+use Rattle.std.proofs.Common.{◌≡◌, ◌∙◌, ◌<◌, ◌+◌, ◌⊎◌, ℕ, zero, suc, inl, inr, cond, List, [], ◌∷◌, ◌++◌, length, codes, Option, Some}
 use Rattle.std.proofs.Common.{IfSome, refl, ap, sym, subst, arith}
 use Rattle.std.specs.Prelude.{slice_get, slice_index, true}
 use Rattle.gq_model.specs.machine.Accounts.{Account, accounts, leaf_account, leaf_count}

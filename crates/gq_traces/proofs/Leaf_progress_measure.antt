@@ -1,41 +1,41 @@
 -- What the leaves of a world are worth, and what a step makes of it: how often leaves take turns about.
 use Rattle.std.proofs.Common.{◌≡◌, ◌∙◌, ℕ, zero, suc, ◌+◌, ◌<◌, ◌≤◌, ◌⊎◌, inl, inr, Bool, true, false, List, [], ◌∷◌, length, map, Option, Some, None, Ok}
 use Rattle.std.proofs.Common.{refl, ap, ap₂, sym, subst, cond, arith, true≢false, is_some}
-use Rattle.std.specs.Prelude.{if◌then◌else◌, nat_lt, slice_get, slice_set, sum_by, option_map}
+use Rattle.std.specs.Prelude.{◌||◌, if◌then◌else◌, nat_lt, slice_get, slice_set, sum_by, option_map}
 use Rattle.std.proofs.lemmas.List.Sums.{sum_by-cons}
 use Rattle.std.proofs.lemmas.Option.{slice_get-map}
 use Rattle.gq_model.specs.declared.phase.Phase.{Phase}
 use Rattle.gq_model.specs.declared.phase.Phase.TheVariants.{Pending, Running, Blocked, Serving, Handling, Exited}
 use Rattle.gq_model.specs.machine.Scenario.{System, Component}
-use Rattle.gq_model.specs.machine.World.{Empty, Current, Leaf, Link, Request, Round, Session, Slot, SlotId, World, session_at, with_leaf, with_slot}
+use Rattle.gq_model.specs.machine.World.{Empty, Current, Leaf, Link, Request, Round, Session, Signal, Slot, SlotId, World, session_at, with_leaf, with_slot}
 use Rattle.gq_model.specs.machine.Doing.{Doing, Event, Quiet, settled, standing}
 use Rattle.gq_model.specs.machine.Sums.{paid}
 use Rattle.gq_model.specs.declared.fault.Wrong.TheVariants.{WrongKind, ExceededQuota}
 use Rattle.gq_model.specs.declared.section.Section.{Section}
 use Rattle.gq_model.specs.declared.section.Section.TheVariants.{Main, Opening, Upgrading, Calling, Closing, Reacting}
-use Rattle.gq_model.specs.machine.Step.{accept, accept_oldest, active_again, body_ended, oldest, next, perform, step_in, step_of, all_empty, all_released}
+use Rattle.gq_model.specs.machine.Step.{accept, accept_oldest, active_again, body_ended, first_signal, oldest, next, perform, step_in, step_of, all_empty}
+use Rattle.gq_model.specs.machine.Step.{all_released, reacting_to, serve, take_signal}
 use Rattle.gq_model.specs.machine.Step.{exited, instruct, is_named, main_ended, released, replied, reply, reply_close, resumed, section_ended, serving}
 use Rattle.gq_model.specs.machine.Step.{unblocked}
 use Rattle.gq_model.proofs.Small_facts.{equal_self, none_some, some_same}
 use Rattle.gq_model.specs.declared.program.Instruction.{Instruction}
 use Rattle.gq_model.specs.machine.Program.{Statements, Done, Do, If, Loop}
 use Rattle.gq_laws.specs.Session_links.{Fits, IsLinkedWorld, Stance, at_current, one_if, outline, outline_in, stance, stance_in}
-use Rattle.gq_laws.specs.Turn_effects.{can_run, runs, runs_as}
+use Rattle.gq_model.specs.machine.Rest.{can_run, runs, runs_as}
 use Rattle.gq_laws.proofs.step_shapes.Step_end_shapes.{Ends, fails, gives, need_found, pop_ends, when_ends}
 use Rattle.gq_laws.proofs.step_shapes.Step_end_worlds.{begun, closed}
 use Rattle.gq_laws.proofs.step_shapes.Step_change_shapes.{accept_by, plain_instruct_by, slot_by}
 
-abbrev pub worth_of : Phase → Option Current → ℕ
-worth_of Pending current = 0
-worth_of Running current = 0
-worth_of Blocked None = 1
-worth_of Blocked (Some current) = 2
-worth_of Serving current = 3
-worth_of Handling current = 1
-worth_of Exited current = 3
+abbrev pub worth_of : Phase → ℕ
+worth_of Pending = 1
+worth_of Running = 1
+worth_of Blocked = 2
+worth_of Serving = 3
+worth_of Handling = 1
+worth_of Exited = 3
 
 abbrev pub value : Stance → ℕ
-value t = worth_of t.phase t.current
+value t = worth_of t.phase
 
 abbrev pub stances : World → List Stance
 stances w = map (λ (l : Leaf). stance l.phase l.current) w.leaves
@@ -113,20 +113,17 @@ pub record Gains (n x : ℕ) (ts : List Stance) : Type 0 where
   pub least : n ≤ sum_by value ts + 2
   pub more : IsGoing x ts ⊎ (n < sum_by value ts)
 
--- a leaf that runs or handles is worth one more when it is blocked
-blocked_more : (phase : Phase) (current : Option Current) → Fits phase current → goes phase ≡ true → worth_of Blocked current ≡ suc (worth_of phase current)
-blocked_more Pending current fits g = absurd (true≢false (sym g))
-blocked_more Running None fits g = refl
-blocked_more Running (Some current) fits g = absurd fits
-blocked_more Blocked current fits g = absurd (true≢false (sym g))
-blocked_more Serving current fits g = absurd (true≢false (sym g))
-blocked_more Handling None fits g = absurd fits
-blocked_more Handling (Some current) fits g = refl
-blocked_more Exited current fits g = absurd (true≢false (sym g))
+-- what a leaf is worth that runs or handles; it is worth one more when it is blocked
+going_worth : (phase : Phase) → goes phase ≡ true → worth_of phase ≡ 1
+going_worth Pending g = refl
+going_worth Running g = refl
+going_worth Blocked g = absurd (true≢false (sym g))
+going_worth Serving g = absurd (true≢false (sym g))
+going_worth Handling g = refl
+going_worth Exited g = absurd (true≢false (sym g))
 
 -- a step of a leaf that runs or handles
-module _ (d : Doing) (there : slice_get (stances d.world) d.x ≡ Some (stance d.leaf.phase d.leaf.current)) (fits : Fits d.leaf.phase d.leaf.current)
-    (going : goes d.leaf.phase ≡ true) where
+module _ (d : Doing) (there : slice_get (stances d.world) d.x ≡ Some (stance d.leaf.phase d.leaf.current)) (going : goes d.leaf.phase ≡ true) where
   stays : Gains (sum_by value (stances d.world)) d.x (stances d.world)
   stays = record { least = omega arith; more = inl (record { found = stance d.leaf.phase d.leaf.current; there = there; goes = going }) }
 
@@ -146,7 +143,7 @@ module _ (d : Doing) (there : slice_get (stances d.world) d.x ≡ Some (stance d
   blocks w operands same =
       subst (Gains (sum_by value (stances d.world)) d.x) (sym (stands_anew w (record d.leaf { operands = operands; phase = Blocked }) same)) (
       let sum = sum_set (stances d.world) d.x (stance d.leaf.phase d.leaf.current) (stance Blocked d.leaf.current) there in
-      let one = blocked_more d.leaf.phase d.leaf.current fits going in
+      let one = going_worth d.leaf.phase going in
       record { least = omega (arith, sum, one); more = inr (omega (arith, sum, one)) })
 
   instruct_gains : (i : Instruction) → Ends (λ w. Gains (sum_by value (stances d.world)) d.x (stances w)) (instruct d i)
@@ -165,7 +162,7 @@ module _ (d : Doing) (there : slice_get (stances d.world) d.x ≡ Some (stance d
 
 -- a leaf that is blocked goes on
 resumed_stances : (w : World) (ts : List Stance) (y : ℕ) (h : Option Current) (f : List ℕ → List ℕ) → stances w ≡ ts → slice_get ts y ≡ Some (stance Blocked h)
-    → stances (unblocked w y f) ≡ slice_set ts y (stance (resumed h) h)
+    → (r : Option ℕ) × (stances (unblocked w y f) ≡ slice_set ts y (stance (resumed h r) h))
 resumed_stances w ts y h f same there = by (slice_get w.leaves y) refl
   where
     seen : slice_get (stances w) y ≡ option_map (λ (l : Leaf). stance l.phase l.current) (slice_get w.leaves y)
@@ -175,17 +172,21 @@ resumed_stances w ts y h f same there = by (slice_get w.leaves y) refl
     current_of None = None
     current_of (Some t) = t.current
 
-    by : (o : Option Leaf) → slice_get w.leaves y ≡ o → stances (active_again w y f o) ≡ slice_set ts y (stance (resumed h) h)
+    by : (o : Option Leaf) → slice_get w.leaves y ≡ o → (r : Option ℕ) × (stances (active_again w y f o) ≡ slice_set ts y (stance (resumed h r) h))
     by None e = absurd (none_some (sym (ap (option_map (λ (l : Leaf). stance l.phase l.current)) e) ∙ (sym seen ∙ (ap (λ us. slice_get us y) same ∙ there))))
     by (Some leaf) e =
-        let found = sym (ap (option_map (λ (l : Leaf). stance l.phase l.current)) e) ∙ (sym seen ∙ (ap (λ us. slice_get us y) same ∙ there)) in
-        map_set (λ (l : Leaf). stance l.phase l.current) w.leaves y (record leaf { phase = resumed leaf.current; operands = f leaf.operands })
-        ∙ ap (λ us. slice_set us y (stance (resumed leaf.current) leaf.current)) same
-        ∙ ap (λ (g : Option Current). slice_set ts y (stance (resumed g) g)) (ap current_of found)
+        let found = sym (ap (option_map (λ (l : Leaf). stance l.phase l.current)) e) ∙ (sym seen ∙ (ap (λ us. slice_get us y) same ∙ there)) in (
+          leaf.reacting,
+          map_set (λ (l : Leaf). stance l.phase l.current) w.leaves y
+              (record leaf { phase = resumed leaf.current leaf.reacting; operands = f leaf.operands })
+              ∙ ap (λ us. slice_set us y (stance (resumed leaf.current leaf.reacting) leaf.current)) same
+              ∙ ap (λ (g : Option Current). slice_set ts y (stance (resumed g leaf.reacting) g)) (ap current_of found),
+        )
 
-resumed_less : (h : Option Current) → suc (worth_of (resumed h) h) ≡ worth_of Blocked h
-resumed_less None = refl
-resumed_less (Some current) = refl
+resumed_less : (h : Option Current) (r : Option ℕ) → suc (worth_of (resumed h r)) ≡ worth_of Blocked
+resumed_less None None = refl
+resumed_less None (Some i) = refl
+resumed_less (Some current) r = refl
 
 -- a leaf that handles a request replies to a client that is blocked
 module _ (d : Doing) (mine : Current) (there : slice_get (stances d.world) d.x ≡ Some (stance Handling (Some mine)))
@@ -204,9 +205,10 @@ module _ (d : Doing) (mine : Current) (there : slice_get (stances d.world) d.x �
   reply_stances w f same =
       let sees : slice_get served s.client ≡ Some (stance Blocked h) = get_other (stances d.world) d.x s.client (stance Serving None) other ∙ client in
       let first = sum_set (stances d.world) d.x (stance Handling (Some mine)) (stance Serving None) there in
-      let second = sum_set served s.client (stance Blocked h) (stance (resumed h) h) sees in
-      let less = resumed_less h in
-      subst (Gains (sum_by value (stances d.world)) d.x) (sym (resumed_stances w served s.client h f same sees))
+      let after = resumed_stances w served s.client h f same sees in
+      let second = sum_set served s.client (stance Blocked h) (stance (resumed h after.0) h) sees in
+      let less = resumed_less h after.0 in
+      subst (Gains (sum_by value (stances d.world)) d.x) (sym after.1)
       (record { least = omega (arith, first, second, less); more = inr (omega (arith, first, second, less)) })
 
   serves : stances (standing d (serving d.leaf)) ≡ served
@@ -235,7 +237,20 @@ module _ (d : Doing) (mine : Current) (there : slice_get (stances d.world) d.x �
   reply_gains k (Closing l) = close_gains k
   reply_gains k (Reacting i) = fails _
 
--- REQUESTS THAT ARE ACCEPTED
+-- REQUESTS THAT ARE ACCEPTED, AND SIGNALS THAT ARE TAKEN
+
+signal_gains : (d : Doing) (current : Option Current) → slice_get (stances d.world) d.x ≡ Some (stance Serving current) → (i : ℕ) (signals : List Signal)
+    → Ends (λ w. Gains (sum_by value (stances d.world)) d.x (stances w)) (take_signal d i signals)
+signal_gains d current there i signals =
+    need_found (λ w. Gains (sum_by value (stances d.world)) d.x (stances w)) _ _ _ (λ body e.
+    let leaf = reacting_to d.leaf i signals body in
+    let new = stance leaf.phase leaf.current in
+    let sum = sum_set (stances d.world) d.x (stance Serving current) new there in
+    gives _ _ (subst (Gains (sum_by value (stances d.world)) d.x) (sym (map_set (λ (l : Leaf). stance l.phase l.current) d.world.leaves d.x leaf))
+    (record {
+      least = omega (arith, sum);
+      more = inl (record { found = new; there = get_set (stances d.world) d.x (stance Serving current) new there; goes = refl });
+    })))
 
 accept_gains : (d : Doing) (current : Option Current) → slice_get (stances d.world) d.x ≡ Some (stance Serving current) → (r : Request) (rest : List Request)
     → Ends (λ w. Gains (sum_by value (stances d.world)) d.x (stances w)) (accept d r rest)
@@ -256,18 +271,17 @@ accept_gains d current there r rest =
 
 -- THE END OF `main`
 
-released_worth : (name : List ℕ) (after : Option (List ℕ)) (phase : Phase) (current : Option Current) → worth_of (released name after phase) current
-    ≡ worth_of phase current
-released_worth name after Pending current = by (is_named name after)
+released_worth : (name : List ℕ) (after : Option (List ℕ)) (phase : Phase) → worth_of (released name after phase) ≡ worth_of phase
+released_worth name after Pending = by (is_named name after)
   where
-    by : (b : Bool) → worth_of (if b then Running else Pending) current ≡ 0
+    by : (b : Bool) → worth_of (if b then Running else Pending) ≡ 1
     by true = refl
     by false = refl
-released_worth name after Running current = refl
-released_worth name after Blocked current = refl
-released_worth name after Serving current = refl
-released_worth name after Handling current = refl
-released_worth name after Exited current = refl
+released_worth name after Running = refl
+released_worth name after Blocked = refl
+released_worth name after Serving = refl
+released_worth name after Handling = refl
+released_worth name after Exited = refl
 
 all_released_worth : (name : List ℕ) (components : List Component) (leaves : List Leaf)
     → sum_by value (map (λ (l : Leaf). stance l.phase l.current) (all_released name components leaves)) ≡ sum_by value (map (λ
@@ -275,7 +289,7 @@ all_released_worth : (name : List ℕ) (components : List Component) (leaves : L
 all_released_worth name [] leaves = refl
 all_released_worth name (c ∷ components) [] = refl
 all_released_worth name (c ∷ components) (leaf ∷ leaves) =
-    let one = released_worth name c.node.after leaf.phase leaf.current in
+    let one = released_worth name c.node.after leaf.phase in
     omega (
       arith,
       sum_by-cons value (stance (released name c.node.after leaf.phase) leaf.current)
@@ -285,30 +299,28 @@ all_released_worth name (c ∷ components) (leaf ∷ leaves) =
       all_released_worth name components leaves,
     )
 
-module _ (d : Doing) (there : slice_get (stances d.world) d.x ≡ Some (stance Running None)) where
-  main_gains : (provides : Option (List ℕ)) → Ends (λ w. Gains (sum_by value (stances d.world)) d.x (stances w)) (main_ended d provides)
-  main_gains (Some service) =
-      let sum = sum_set (stances d.world) d.x (stance Running None) (stance Serving None) there in
+module _ (d : Doing) (there : slice_get (stances d.world) d.x ≡ Some (stance d.leaf.phase d.leaf.current)) (going : goes d.leaf.phase ≡ true) where
+  -- a leaf that runs or handles serves then
+  serves_then : Ends (λ w. Gains (sum_by value (stances d.world)) d.x (stances w)) (Ok (standing d (serving d.leaf), Quiet))
+  serves_then =
+      let sum = sum_set (stances d.world) d.x (stance d.leaf.phase d.leaf.current) (stance Serving None) there in
+      let one = going_worth d.leaf.phase going in
       gives _ _ (subst (Gains (sum_by value (stances d.world)) d.x) (sym (map_set (λ (l : Leaf). stance l.phase l.current) d.world.leaves d.x (serving d.leaf)))
-      (record { least = omega (arith, sum); more = inr (omega (arith, sum)) }))
-  main_gains None =
-      let sum = sum_set (stances d.world) d.x (stance Running None) (stance Exited d.leaf.current) there in
+      (record { least = omega (arith, sum, one); more = inr (omega (arith, sum, one)) }))
+
+  main_gains : (provides : Option (List ℕ)) (signals : ℕ) → Ends (λ w. Gains (sum_by value (stances d.world)) d.x (stances w)) (main_ended d provides signals)
+  main_gains (Some service) signals = serves_then
+  main_gains None (suc n) = serves_then
+  main_gains None zero =
+      let sum = sum_set (stances d.world) d.x (stance d.leaf.phase d.leaf.current) (stance Exited d.leaf.current) there in
+      let one = going_worth d.leaf.phase going in
       let w = standing d (exited d.leaf) in
       let same = ap (sum_by value) (map_set (λ (l : Leaf). stance l.phase l.current) d.world.leaves d.x (exited d.leaf)) in
       let all = all_released_worth d.component.node.name d.system.components w.leaves in
       when_ends (λ w. Gains (sum_by value (stances d.world)) d.x (stances w)) _ _ _
-      (gives _ _ (record { least = omega (arith, sum, same, all); more = inr (omega (arith, sum, same, all)) }))
+      (gives _ _ (record { least = omega (arith, sum, same, all, one); more = inr (omega (arith, sum, same, all, one)) }))
 
 -- STEPS
-
-running_at : (phase : Phase) (current : Option Current) → Fits phase current → goes phase ≡ true → current ≡ None → phase ≡ Running
-running_at Pending current fits g e = absurd (true≢false (sym g))
-running_at Running current fits g e = refl
-running_at Blocked current fits g e = absurd (true≢false (sym g))
-running_at Serving current fits g e = absurd (true≢false (sym g))
-running_at Handling None fits g e = absurd fits
-running_at Handling (Some current) fits g e = absurd (none_some (sym e))
-running_at Exited current fits g e = absurd (true≢false (sym g))
 
 handling_at : (phase : Phase) (current : Option Current) (mine : Current) → Fits phase current → goes phase ≡ true → current ≡ Some mine → phase ≡ Handling
 handling_at Pending current mine fits g e = absurd (true≢false (sym g))
@@ -326,10 +338,11 @@ IsBlockedAt w s = (h : Option Current) × (slice_get (stances w) s.client ≡ So
 section_gains : (d : Doing) → slice_get (stances d.world) d.x ≡ Some (stance d.leaf.phase d.leaf.current) → Fits d.leaf.phase d.leaf.current → goes d.leaf.phase
     ≡ true
     → ((mine : Current) → d.leaf.current ≡ Some mine → (s : Session) → session_at d.world mine.session ≡ Some s → IsBlockedAt d.world s)
-    → (o : Option Current) → d.leaf.current ≡ o → Ends (λ w. Gains (sum_by value (stances d.world)) d.x (stances w)) (section_ended d o)
-section_gains d there fits going clients None e =
-    main_gains d (there ∙ ap₂ (λ p h. Some (stance p h)) (running_at d.leaf.phase d.leaf.current fits going e) e) d.component.node.provides
-section_gains d there fits going clients (Some mine) e =
+    → (o : Option Current) (reacting : Option ℕ) → d.leaf.current ≡ o
+    → Ends (λ w. Gains (sum_by value (stances d.world)) d.x (stances w)) (section_ended d o reacting)
+section_gains d there fits going clients None None e = main_gains d there going d.component.node.provides d.component.node.signals
+section_gains d there fits going clients None (Some i) e = serves_then d there going
+section_gains d there fits going clients (Some mine) reacting e =
     need_found (λ w. Gains (sum_by value (stances d.world)) d.x (stances w)) (session_at d.world mine.session) WrongKind _ (λ s found.
     let c = clients mine e s found in
     reply_gains d mine (there ∙ ap₂ (λ p h. Some (stance p h)) (handling_at d.leaf.phase d.leaf.current mine fits going e) e) s c.0 c.1 mine.session
@@ -339,8 +352,8 @@ module _ (d : Doing) (there : slice_get (stances d.world) d.x ≡ Some (stance d
     (going : goes d.leaf.phase ≡ true)
     (clients : (mine : Current) → d.leaf.current ≡ Some mine → (s : Session) → session_at d.world mine.session ≡ Some s → IsBlockedAt d.world s) where
   body_gains : (loops : List Round) → Ends (λ w. Gains (sum_by value (stances d.world)) d.x (stances w)) (body_ended d loops)
-  body_gains [] = section_gains d there fits going clients d.leaf.current refl
-  body_gains (r ∷ loops) = gives _ _ (moves_on d there fits going _ (by_round (nat_lt (suc r.round) r.count)))
+  body_gains [] = section_gains d there fits going clients d.leaf.current d.leaf.reacting refl
+  body_gains (r ∷ loops) = gives _ _ (moves_on d there going _ (by_round (nat_lt (suc r.round) r.count)))
     where
       next_round : Bool → Leaf
       next_round b =
@@ -354,10 +367,10 @@ module _ (d : Doing) (there : slice_get (stances d.world) d.x ≡ Some (stance d
 
   perform_gains : (todo : Statements) → Ends (λ w. Gains (sum_by value (stances d.world)) d.x (stances w)) (perform d todo)
   perform_gains Done = body_gains d.leaf.loops
-  perform_gains (Do i rest) = instruct_gains (record d { leaf = record d.leaf { todo = rest } }) there fits going i
+  perform_gains (Do i rest) = instruct_gains (record d { leaf = record d.leaf { todo = rest } }) there going i
   perform_gains (If arm other rest) = pop_ends (λ w. Gains (sum_by value (stances d.world)) d.x (stances w)) _ _
-      (λ a below. gives _ _ (moves_on d there fits going _ refl))
-  perform_gains (Loop count body rest) = gives _ _ (moves_on d there fits going _ refl)
+      (λ a below. gives _ _ (moves_on d there going _ refl))
+  perform_gains (Loop count body rest) = gives _ _ (moves_on d there going _ refl)
 
 oldest_gains : (d : Doing) (current : Option Current) → slice_get (stances d.world) d.x ≡ Some (stance Serving current)
     → (found : Option (Request × List Request))
@@ -365,15 +378,21 @@ oldest_gains : (d : Doing) (current : Option Current) → slice_get (stances d.w
 oldest_gains d current there None waits = absurd (true≢false (sym waits))
 oldest_gains d current there (Some p) waits = accept_gains d current there p.0 p.1
 
+serve_gains : (d : Doing) (current : Option Current) → slice_get (stances d.world) d.x ≡ Some (stance Serving current)
+    → (f : Option (ℕ × List Signal)) → is_some f || is_some (oldest d.world d.x d.world.requests) ≡ true
+    → Ends (λ w. Gains (sum_by value (stances d.world)) d.x (stances w)) (serve d f)
+serve_gains d current there None waits = oldest_gains d current there (oldest d.world d.x d.world.requests) waits
+serve_gains d current there (Some p) waits = signal_gains d current there p.0 p.1
+
 step_gains : (d : Doing) → slice_get (stances d.world) d.x ≡ Some (stance d.leaf.phase d.leaf.current) → Fits d.leaf.phase d.leaf.current
     → ((mine : Current) → d.leaf.current ≡ Some mine → (s : Session) → session_at d.world mine.session ≡ Some s → IsBlockedAt d.world s)
-    → (phase : Phase) → d.leaf.phase ≡ phase → runs d.world d.x phase ≡ true
+    → (phase : Phase) → d.leaf.phase ≡ phase → runs d.world d.x d.leaf phase ≡ true
     → Ends (λ w. Gains (sum_by value (stances d.world)) d.x (stances w)) (step_in d phase)
 step_gains d there fits clients Pending e can = absurd (true≢false (sym can))
 step_gains d there fits clients Running e can = perform_gains d there fits (ap goes e) clients d.leaf.todo
 step_gains d there fits clients Blocked e can = absurd (true≢false (sym can))
 step_gains d there fits clients Serving e can =
-    oldest_gains d d.leaf.current (there ∙ ap (λ p. Some (stance p d.leaf.current)) e) (oldest d.world d.x d.world.requests) can
+    serve_gains d d.leaf.current (there ∙ ap (λ p. Some (stance p d.leaf.current)) e) (first_signal d.leaf.signals) can
 step_gains d there fits clients Handling e can = perform_gains d there fits (ap goes e) clients d.leaf.todo
 step_gains d there fits clients Exited e can = absurd (true≢false (sym can))
 

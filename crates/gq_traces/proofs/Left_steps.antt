@@ -3,15 +3,17 @@ use Rattle.std.proofs.Common.{◌≡◌, ◌∙◌, ℕ, zero, suc, ◌+◌, Boo
 use Rattle.std.proofs.Common.{subst}
 use Rattle.std.specs.Prelude.{Ok, slice_get, slice_set}
 use Rattle.gq_model.specs.declared.program.Instruction.{Instruction}
+use Rattle.gq_model.specs.declared.section.Section.TheVariants.{Reacting}
 use Rattle.gq_model.specs.declared.phase.Phase.{Phase}
 use Rattle.gq_model.specs.declared.phase.Phase.TheVariants.{Pending, Running, Blocked, Serving, Handling, Exited}
 use Rattle.gq_model.specs.machine.Doing.{Doing, Quiet, pop, settled, standing}
-use Rattle.gq_model.specs.machine.Program.{Statements, Done, Do, If, Loop, ◌then◌, size}
+use Rattle.gq_model.specs.machine.Program.{Statements, Done, Do, If, Loop, ◌then◌, body_of, size}
 use Rattle.gq_model.specs.machine.Scenario.{Component, System}
 use Rattle.gq_model.specs.machine.Step.{accept, accept_oldest, accepted_as, active_again, all_released, body_ended, exited, instruct, main_ended}
-use Rattle.gq_model.specs.machine.Step.{chosen, level_then, oldest, perform, section_ended, section_for, serving, step_in, unblocked}
-use Rattle.gq_model.specs.machine.World.{Ask, Ask_call, Ask_close, Ask_open, Ask_upgrade, Current, Leaf, Request, Round, Session, Slot, SlotId, World}
-use Rattle.gq_model.specs.machine.World.{session_at}
+use Rattle.gq_model.specs.machine.Step.{chosen, first_signal, level_then, oldest, perform, reacting_to, section_ended, section_for, serve, serving}
+use Rattle.gq_model.specs.machine.Step.{step_in, unblocked}
+use Rattle.gq_model.specs.machine.World.{Ask, Ask_call, Ask_close, Ask_open, Ask_upgrade, Current, Leaf, Request, Round, Session, Signal, Slot, SlotId}
+use Rattle.gq_model.specs.machine.World.{World, session_at}
 use Rattle.gq_model.specs.machine.World.{with_leaf, with_slot}
 use Rattle.gq_model.proofs.Small_facts.{none_some, some_same}
 use Rattle.gq_laws.proofs.step_shapes.Step_end_shapes.{Ends as Ended, fails, gives, need_found, when_ends}
@@ -21,7 +23,7 @@ use Rattle.gq_machine.specs.Readers.{level_in, requested}
 use Rattle.gq_views.specs.Listing.{instruction_text}
 use Rattle.gq_traces.specs.Remaining_text.{left_in, left_loop, left_to, unnumbered, unnumbered_loop, without_numbers}
 use Rattle.gq_traces.specs.Step_positions.{Ahead, Chooses, Does, Ends, Entered, NumberedStatements, StepPosition, Repeats, after_round, ahead, at_request}
-use Rattle.gq_traces.specs.Step_positions.{body_in, entered}
+use Rattle.gq_traces.specs.Step_positions.{at_signal, body_in, entered, signal_place}
 use Rattle.gq_traces.specs.Step_positions.{first_request, numbered, past, place_in, request_place, stepped}
 
 -- STATEMENTS
@@ -127,18 +129,19 @@ module _ (d : Doing) where
       (same_slot (slice_set (left_in d.world) d.x a)) (λ w operands locals e h. stands_in a w _ h same) (λ w operands h. stands_in a w _ h same)
       (λ w requests h. h) (same_settled (slice_set (left_in d.world) d.x a) d.system d.x) (λ w sessions h. h) i
 
-  main_ends : (provides : Option (List ℕ)) → Ended (Now nothing) (main_ended d provides)
-  main_ends (Some service) = gives _ _ (stands nothing (serving d.leaf) refl)
-  main_ends None =
+  main_ends : (provides : Option (List ℕ)) (signals : ℕ) → Ended (Now nothing) (main_ended d provides signals)
+  main_ends (Some service) signals = gives _ _ (stands nothing (serving d.leaf) refl)
+  main_ends None (suc n) = gives _ _ (stands nothing (serving d.leaf) refl)
+  main_ends None zero =
       when_ends (Now nothing) _ _ _ (gives _ _ (same_released d.component.node.name d.system.components (standing d (exited d.leaf)).leaves
       ∙ stands nothing (exited d.leaf) refl))
 
-  section_ends : (current : Option Current) → Ended (Now nothing) (section_ended d current)
-  section_ends current = section_by d (Now nothing) (same_slot (slice_set (left_in d.world) d.x nothing)) (stands nothing (serving d.leaf) refl)
-      (same_active (slice_set (left_in d.world) d.x nothing)) (λ w k h. h) (main_ends d.component.node.provides) current
+  section_ends : (current : Option Current) (reacting : Option ℕ) → Ended (Now nothing) (section_ended d current reacting)
+  section_ends current reacting = section_by d (Now nothing) (same_slot (slice_set (left_in d.world) d.x nothing)) (stands nothing (serving d.leaf) refl)
+      (same_active (slice_set (left_in d.world) d.x nothing)) (λ w k h. h) (main_ends d.component.node.provides d.component.node.signals) current reacting
 
   body_ends : (loops : List Round) → Ended (Now (past d.leaf.operands Ends (map left_loop loops))) (body_ended d loops)
-  body_ends [] = section_ends d.leaf.current
+  body_ends [] = section_ends d.leaf.current d.leaf.reacting
   body_ends (r ∷ loops) = gives _ _ (stands _ _ (by (nat_lt (suc r.round) r.count)))
     where
       by : (b : Bool) → left_to (cond b (record d.leaf { todo = r.body; loops = record r { round = suc r.round } ∷ loops })
@@ -225,10 +228,18 @@ module _ (system : System) (w : World) (x : ℕ) (c : Component) (leaf : Leaf) (
   takes None p e = absurd (none_some e)
   takes (Some r) p e = accept_ends doing r.0 r.1
 
+  serves : (f : Option (ℕ × List Signal)) (p : StepPosition) → signal_place f (request_place w (first_request (oldest w x w.requests))) ≡ Some p
+      → Ended (Left (slice_set (left_in w) x (without_numbers (at_signal c f (at_request c w (first_request (oldest w x w.requests))))))) (serve doing f)
+  serves None p e = takes (oldest w x w.requests) p e
+  serves (Some q) p e =
+      need_found (Left (slice_set (left_in w) x (without_numbers (ahead (body_in c (Reacting q.0)))))) _ _ _
+      (λ body found. gives _ _ (stands doing (without_numbers (ahead (body_in c (Reacting q.0)))) (reacting_to doing.leaf q.0 q.1 body)
+      (ap (λ o. without_numbers (ahead (body_of o))) (sym found))))
+
   pub step_left : (phase : Phase) (p : StepPosition) → place_in w x c leaf a phase ≡ Some p → Ended (Goes phase) (step_in doing phase)
   step_left Pending p e = absurd (none_some e)
   step_left Running p e = acts
   step_left Blocked p e = absurd (none_some e)
-  step_left Serving p e = takes (oldest w x w.requests) p e
+  step_left Serving p e = serves (first_signal leaf.signals) p e
   step_left Handling p e = acts
   step_left Exited p e = absurd (none_some e)

@@ -4,16 +4,17 @@ use Rattle.std.specs.Prelude.{slice_get, slice_set}
 use Rattle.std.proofs.lemmas.Option.{slice_get-map}
 use Rattle.gq_model.proofs.Small_facts.{some_same}
 use Rattle.gq_model.specs.declared.act.Act.{Act}
-use Rattle.gq_model.specs.declared.act.Act.TheVariants.{Turns, Sets}
-use Rattle.gq_model.specs.machine.Run.{Acts}
-use Rattle.gq_laws.proofs.input_settings.Setting_keeps_invariants.{of_setting}
+use Rattle.gq_model.specs.declared.act.Act.TheVariants.{Turns, Sets, Submits}
+use Rattle.gq_model.specs.machine.Run.{Acts, signals_with}
+use Rattle.gq_laws.proofs.input_settings.Setting_keeps_invariants.{of_setting, of_submit}
 use Rattle.gq_model.specs.machine.Doing.{Stepped}
 use Rattle.gq_model.specs.machine.Scenario.{Component, System}
 use Rattle.gq_model.specs.machine.Step.{next, step_of}
-use Rattle.gq_model.specs.machine.World.{Leaf, start_leaf, start_leaves}
+use Rattle.gq_model.specs.machine.World.{Leaf, Signal, start_leaf, start_leaves}
 use Rattle.gq_traces.specs.Remaining_text.{GoesWith, left_in, left_to, without_numbers}
 use Rattle.gq_traces.specs.Step_positions.{start_aheads}
-use Rattle.gq_traces.specs.Trace.{Due, Traced, after_act, after_all, after_due, after_setting, after_step, after_turn, after_turns, due, start_traced}
+use Rattle.gq_traces.specs.Trace.{Due, Traced, after_act, after_all, after_due, after_setting, after_step, after_submission, after_turn, after_turns, due}
+use Rattle.gq_traces.specs.Trace.{start_traced}
 use Rattle.gq_traces.proofs.Left_steps.{map_set, step_left}
 use Rattle.gq_traces.proofs.Printed_run.{IsDue, is_due}
 
@@ -62,9 +63,22 @@ module _ (system : System) where
       same (l ∷ rest) zero leaf inputs e = ap (λ (m : Leaf). left_to m ∷ map left_to rest) (sym (some_same e))
       same (l ∷ rest) (suc x) leaf inputs e = ap (λ t. left_to l ∷ t) (same rest x leaf inputs e)
 
+  -- nor is a signal
+  submission_goes : (x i : ℕ) (t : Traced) → GoesWith t → GoesWith (after_submission x i t)
+  submission_goes x i t h =
+      h ∙ sym (of_submit (λ w. left_in w ≡ left_in t.world) t.world x i
+      (λ leaf there. same t.world.leaves x leaf (signals_with leaf.signals i) there) refl)
+    where
+      same : (leaves : List Leaf) (x : ℕ) (leaf : Leaf) (signals : List Signal) → slice_get leaves x ≡ Some leaf
+          → map left_to (slice_set leaves x (record leaf { signals = signals })) ≡ map left_to leaves
+      same [] x leaf signals e = refl
+      same (l ∷ rest) zero leaf signals e = ap (λ (m : Leaf). left_to m ∷ map left_to rest) (sym (some_same e))
+      same (l ∷ rest) (suc x) leaf signals e = ap (λ t. left_to l ∷ t) (same rest x leaf signals e)
+
   act_goes : (x : ℕ) (a : Act) (t : Traced) → GoesWith t → GoesWith (after_act system x a t)
   act_goes x (Turns n) t h = turns_go x n t h
   act_goes x (Sets i n) t h = set_goes x i n t h
+  act_goes x (Submits i) t h = submission_goes x i t h
 
   all_go : (acts : Acts) (t : Traced) → GoesWith t → GoesWith (after_all system acts t)
   all_go [] t h = h

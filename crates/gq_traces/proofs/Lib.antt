@@ -22,9 +22,15 @@ mod Position_after_step
 mod Leaves_standing
 mod Leaf_next_step
 mod Leaf_labels
+mod Accounts_by_budgets
 mod Sequential_text_writes
 mod Printed_accounts
 mod Chance_length
+mod Fitting_lines
+mod Signal_runs
+mod Listed_signals
+mod Reactions_left
+mod Lines_written
 mod Random_turn_schedule
 mod Printed_changes
 mod Renewed_trace_notes
@@ -32,6 +38,7 @@ mod Printed_step
 mod Printed_turns
 mod Turns_going
 mod Turns_few
+mod Lines_printed
 mod Traced_whole
 mod Printed_items
 mod So_far
@@ -52,6 +59,12 @@ mod Printed_own_slots
 mod Own_turns
 mod Straight_line_statements
 mod Steps_taken_alone
+mod Steps_when_able
+mod Lines_taken
+mod Next_taken
+mod First_able
+mod Way_taken
+mod Rest_by_leaves
 mod Still_noted
 mod Printed_leaves
 mod Printed_afters
@@ -76,4 +89,5 @@ mod Printed_peaks
 mod Peaks_shown
 mod Same_use
 mod Printed_setting
+mod Printed_submission
 mod Still_set

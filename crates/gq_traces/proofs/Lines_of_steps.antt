@@ -1,20 +1,22 @@
 -- The lines that are reported of a step.
 use Rattle.std.proofs.Common.{◌≡◌, ◌∙◌, ℕ, zero, suc, ◌+◌, Bool, true, false, List, [], ◌∷◌, ◌++◌, length, Option, Some, None, refl, sym, arith}
 use Rattle.std.proofs.Common.{append-nil, append_assoc}
-use Rattle.std.specs.Prelude.{◌==◌, if◌then◌else◌, decimal, codes, slice_get, map, max}
+use Rattle.std.specs.Prelude.{if◌then◌else◌, decimal, codes, slice_get, map, max}
 use Rattle.gq_model.specs.declared.phase.Phase.{Phase}
 use Rattle.gq_model.specs.declared.phase.Phase.TheVariants.{Pending, Running, Blocked, Serving, Handling, Exited}
-use Rattle.gq_model.specs.machine.Accounts.{Account, LeafAccount, account_line, account_lines, accounts, entry, leaf_entries}
-use Rattle.gq_model.specs.machine.Accounts.{phase_word, reported, used_entry}
+use Rattle.gq_model.specs.machine.Accounts.{Account, LeafAccount, account_line, account_lines, entry, leaf_entries}
+use Rattle.gq_model.specs.machine.Accounts.{phase_word, reported, shown, used_entry}
 use Rattle.gq_model.specs.machine.Amounts.{Amount, counts_caps}
 use Rattle.gq_model.specs.machine.Doing.{Event, Idle, Quiet, Finished, Line}
 use Rattle.gq_model.specs.machine.Run.{line_of, label_at}
 use Rattle.gq_model.specs.machine.Scenario.{Component, Scenario, System, system}
+use Rattle.gq_model.specs.machine.Step_budgets.{StepBudget}
 use Rattle.gq_model.specs.machine.World.{World}
 use Rattle.gq_model.specs.machine.Sections.{section_word}
 use Rattle.gq_traces.specs.Lines_of.{begins}
 use Rattle.gq_traces.specs.Step_positions.{StepPosition}
-use Rattle.gq_traces.specs.Trace.{Standing, PrintedSession, account_change, account_changes, amount_text, changes, head_line, leaf_label, parties_text}
+use Rattle.gq_traces.specs.Trace.{Standing, PrintedSession, account_change, account_changes, accounts_in, amount_text, changes, head_line, leaf_label}
+use Rattle.gq_traces.specs.Trace.{parties_text}
 use Rattle.gq_traces.specs.Trace.{requested_text}
 use Rattle.gq_traces.specs.Trace.{same_standing, same_printed, session_change, session_changes, session_line, standing_of, printed_session, printed_step}
 use Rattle.gq_traces.specs.declared.session_lines.Requested.{Requested}
@@ -52,10 +54,12 @@ used_printed word f (Some a) h = entry_printed word (f a.used) h
 leaf_printed : (leaf : Option LeafAccount) → IsPrinted (leaf_entries leaf)
 leaf_printed None = refl
 leaf_printed (Some a) =
-    let steps = entry (codes "steps") a.steps in
-    both (steps ++ codes "/" ++ decimal a.budget ++ codes " ") (phase_word a.phase)
-    (both (steps ++ codes "/" ++ decimal a.budget) (codes " ")
-    (both (steps ++ codes "/") (decimal a.budget) (both steps (codes "/") (entry_printed (codes "steps") a.steps refl) refl) (number_printed a.budget)) refl)
+    let steps = entry (codes "steps") (shown a.steps) in
+    let budget = shown a.budget in
+    both (steps ++ codes "/" ++ decimal budget ++ codes " ") (phase_word a.phase)
+    (both (steps ++ codes "/" ++ decimal budget) (codes " ")
+    (both (steps ++ codes "/") (decimal budget) (both steps (codes "/") (entry_printed (codes "steps") (shown a.steps) refl) refl) (number_printed budget))
+    refl)
     (phase_printed a.phase)
 
 account_is : (version : ℕ) (a : Account) → IsPrinted a.label → IsLine (account_line version a)
@@ -167,6 +171,7 @@ pub record Reports (prefix : List ℕ) (says heads : Bool) : Type 0 where
   pub accounts : (rest : List ℕ) → begins prefix (codes "account " ++ rest) ≡ false
   pub sessions : (rest : List ℕ) → begins prefix (codes "session " ++ rest) ≡ false
   pub inputs : (rest : List ℕ) → begins prefix (codes "input " ++ rest) ≡ false
+  pub signals : (rest : List ℕ) → begins prefix (codes "signal " ++ rest) ≡ false
   pub ends : (rest : List ℕ) → begins prefix (codes "end after " ++ rest) ≡ false
   pub lines : (rest : List ℕ) → begins prefix (codes "[" ++ rest) ≡ says
   pub turns : (rest : List ℕ) → begins prefix (codes "turn " ++ rest) ≡ heads
@@ -178,6 +183,7 @@ of_lines = record {
   accounts = λ rest. refl;
   sessions = λ rest. refl;
   inputs = λ rest. refl;
+  signals = λ rest. refl;
   ends = λ rest. refl;
   lines = λ rest. refl;
   turns = λ rest. refl;
@@ -190,6 +196,7 @@ of_turns = record {
   accounts = λ rest. refl;
   sessions = λ rest. refl;
   inputs = λ rest. refl;
+  signals = λ rest. refl;
   ends = λ rest. refl;
   lines = λ rest. refl;
   turns = λ rest. refl;
@@ -275,11 +282,12 @@ module _ (prefix : List ℕ) (says heads : Bool) (reports : Reports prefix says 
       (session_gives version system old new k texts (h k)) (sessions_give version system old new (suc k) n texts h)
 
   -- what a step changes
-  pub changes_give : (s : Scenario) (budgets label : List ℕ) (old new : World) (event : Event) → HasTexts (system s) → IsPrinted label → IsShown event
-      → AreLabelled (accounts s new budgets) → ((k : ℕ) → IsNamed (printed_session new k))
+  pub changes_give : (s : Scenario) (budgets : List StepBudget) (label : List ℕ) (old new : World) (event : Event) → HasTexts (system s) → IsPrinted label →
+      IsShown event
+      → AreLabelled (accounts_in s new budgets) → ((k : ℕ) → IsNamed (printed_session new k))
       → Gives prefix (changes s budgets label old new event) (kept_if says (line_of label event)) (count_if says (lines_shown event))
   changes_give s budgets label old new event texts h g labelled named =
-      let one = account_changes s.version (map standing_of (accounts s old budgets)) (accounts s new budgets) in
+      let one = account_changes s.version (map standing_of (accounts_in s old budgets)) (accounts_in s new budgets) in
       let two = session_changes s.version (system s) old new 0 (max (length old.sessions) (length new.sessions)) in
       let kept = kept_if says (line_of label event) in
       let count = count_if says (lines_shown event) in
@@ -287,7 +295,7 @@ module _ (prefix : List ℕ) (says heads : Bool) (reports : Reports prefix says 
       (omega arith)
       (gives_both prefix (line_of label event ++ one) two (kept ++ []) [] (count + 0) 0
       (gives_both prefix (line_of label event) one kept [] count 0 (event_gives label event h g)
-      (accounts_give s.version (map standing_of (accounts s old budgets)) (accounts s new budgets) labelled))
+      (accounts_give s.version (map standing_of (accounts_in s old budgets)) (accounts_in s new budgets) labelled))
       (sessions_give s.version (system s) old new 0 (max (length old.sessions) (length new.sessions)) texts named))
 
 -- a step is reported with its head or not: the head's line does not begin so

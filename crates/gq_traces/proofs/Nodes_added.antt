@@ -1,5 +1,5 @@
 -- The text of `state` is that of its nodes, and the items of each add up.
-use Rattle.std.proofs.Common.{◌≡◌, ◌∙◌, ◌==◌, ℕ, zero, suc, ◌+◌, Bool, true, false, cond, List, [], ◌∷◌, ◌++◌, Option, Some, None, Ok, Err, refl, ap, sym}
+use Rattle.std.proofs.Common.{◌≡◌, ◌∙◌, ℕ, zero, suc, ◌+◌, Bool, true, false, cond, List, [], ◌∷◌, ◌++◌, Option, Some, None, Ok, Err, refl, ap, sym}
 use Rattle.std.proofs.Common.{subst, add-one, append-nil, arith}
 use Rattle.std.specs.Prelude.{Result, codes, slice_get, slice_index}
 use Rattle.gq_model.proofs.Small_facts.{none_some, some_same}
@@ -9,6 +9,7 @@ use Rattle.gq_model.specs.machine.Run.{Acts, run}
 use Rattle.gq_model.specs.machine.Scenario.{Component, Nodes, End, Leaf_node, Init_node, Scenario, below, components, system}
 use Rattle.gq_model.specs.machine.Sums.{held, quota}
 use Rattle.gq_model.specs.machine.World.{Leaf, World}
+use Rattle.gq_model.specs.machine.Step_budgets.{all_steps_in}
 use Rattle.gq_model.specs.rules.Accept.{budgets, step_budgets}
 use Rattle.gq_model.specs.texts.Turns.{Turned, turned}
 use Rattle.gq_model.specs.Promises.{EachOf}
@@ -22,7 +23,7 @@ use Rattle.gq_reports.specs.Whole.{Written, with_scenario}
 use Rattle.gq_traces.specs.Made_of.{AddsUp, LeafAddsUp, Shown, ShowsSums, after, all_shown, shown_below, shown_leaf}
 use Rattle.gq_traces.specs.Made_of.{shown_node, shown_nodes, shown_text, sum_of}
 use Rattle.gq_traces.specs.Account_state.{Lent, init_items, items_text, leaf_items, leaf_text, node_text, nodes_text, state_text}
-use Rattle.gq_traces.specs.Trace.{Traced}
+use Rattle.gq_traces.specs.Trace.{Traced, accounts_in}
 use Rattle.gq_traces.specs.First_turns.{some_turns}
 use Rattle.gq_traces.specs.Traces_written.{state_from, state_written, with_turns}
 use Rattle.gq_traces.proofs.First_taken.{are_first}
@@ -188,7 +189,7 @@ module _ (s : Scenario) (t : Traced) (leaves : LeavesAdd s t.world) where
   pub all_add : ((x : ℕ) (c : Component) → slice_get (components s) x ≡ Some c → (leaf : Leaf) × (slice_get t.world.leaves x ≡ Some leaf))
       → InitsAdd s t.world → Each Adds (all_shown s t)
   all_add there inits =
-      let b = step_budgets (budgets s) in
+      let b = all_steps_in t.world (step_budgets (budgets s)) in
       nodes_add 0 (accounts s t.world b) (node_rows s) (λ i node a e f. (
       let first : i ≡ 0 + i = omega arith in
       subst (λ k. Adds (shown_node s t k a node node.leaf)) first
@@ -223,7 +224,7 @@ shows_sums first scenario turns text world adds e = from (loaded scenario) refl 
           taken = taken;
           first_of_all = are_first first all;
           shows = sym (same_text (state_text s taken) text f)
-              ∙ nodes_shown s (after s taken) 0 (accounts s (after s taken).world (step_budgets (budgets s))) (node_rows s);
+              ∙ nodes_shown s (after s taken) 0 (accounts_in s (after s taken).world (step_budgets (budgets s))) (node_rows s);
           world = world s loads taken;
           adds = adds s loads taken;
         }

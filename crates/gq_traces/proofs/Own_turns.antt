@@ -49,7 +49,7 @@ module _ (w : World) (x : ℕ) (u : Use) (is : IsUse w.scenario w.world x u) (ow
     abbrev own_step : Due
     own_step = record {
       component = p.component;
-      place = next_place p.component (section_of p.leaf.current) p.ahead.todo p.ahead.loops;
+      place = next_place p.component (section_of p.leaf.current p.leaf.reacting) p.ahead.todo p.ahead.loops;
       ahead = past p.leaf.operands p.ahead.todo p.ahead.loops;
     }
 
@@ -77,7 +77,7 @@ module _ (w : World) (x : ℕ) (u : Use) (is : IsUse w.scenario w.world x u) (ow
 
   -- it is reported, by its section
   pub own_due : (due : stated.Due) (section : Section) → PlacePrinted programs stands x section due
-      → ((l : Leaf) → slice_get w.world.leaves x ≡ Some l → section ≡ section_of l.current)
+      → ((l : Leaf) → slice_get w.world.leaves x ≡ Some l → section ≡ section_of l.current l.reacting)
       → PrintsDue programs stands w.scenario w.world x (Some due)
   own_due due section reported at ts aheads =
       let q = p ts aheads in

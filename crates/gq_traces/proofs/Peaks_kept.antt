@@ -1,20 +1,18 @@
 -- Peaks that go on through the turns of a run.
 use Rattle.std.proofs.Common.{◌≡◌, ◌∙◌, ◌<◌, ◌≤◌, ◌+◌, ℕ, zero, suc, inl, inr, List, [], ◌∷◌, ◌++◌, length, get_or, Option, Some, None, Ok}
 use Rattle.std.proofs.Common.{refl, ap, sym, subst, arith}
-use Rattle.std.specs.Prelude.{slice_get, slice_set, true}
+use Rattle.std.specs.Prelude.{slice_get, slice_set, true, false}
 use Rattle.std.proofs.lemmas.Bool.Decides.{eqb_tells}
 use Rattle.std.proofs.lemmas.Option.{slice_get_within}
 use Rattle.gq_bytecode.specs.Alones.{LocalState}
 use Rattle.gq_bytecode.specs.Nexts.{GoesAlone, leaf_with}
 use Rattle.gq_laws.proofs.session_links.Written_world_links.{set_else, set_here}
 use Rattle.gq_model.proofs.Small_facts.{none_some, some_same}
-use Rattle.gq_model.specs.declared.act.Act.{Act}
-use Rattle.gq_model.specs.declared.act.Act.TheVariants.{Turns, Sets}
+use Rattle.gq_model.specs.declared.act.Act.TheVariants.{Sets, Submits}
 use Rattle.gq_model.specs.declared.fault.Wrong.{Wrong}
 use Rattle.gq_model.specs.machine.Amounts.{Resource, Ram, Caps, counts_caps}
 use Rattle.gq_model.specs.machine.Doing.{Event, Quiet}
-use Rattle.gq_model.specs.machine.Run.{Ran, Acts, act_on, run_on, set_from, set_input, turn_from, turns_of}
-use Rattle.gq_model.specs.texts.Turns.{turns_given}
+use Rattle.gq_model.specs.machine.Run.{Ran, act_on, set_from, set_input, submit, submit_from, turn_from, turns_of}
 use Rattle.gq_model.specs.machine.Scenario.{Scenario, System, system}
 use Rattle.gq_model.specs.machine.Step.{next}
 use Rattle.gq_model.specs.machine.World as model
@@ -24,13 +22,12 @@ use Rattle.gq_traces.specs.Account_peaks.{first_greatest, held_by, peak_at, peak
 use Rattle.gq_traces.specs.declared.noted.Use.{Use}
 use Rattle.gq_traces.specs.declared.peaks.LeafPeaks.{LeafPeaks}
 use Rattle.gq_traces.specs.declared.peaks.Peak.{Peak}
-use Rattle.gq_traces.specs.internal.Peaking.{AllNow, AllPeaks, ArePeaksNow, AreRaised, Comes, HasAct, HasAll, HasTurns, IsIn, IsRaised, Peaked, SameUse}
+use Rattle.gq_traces.specs.internal.Peaking.{AllNow, AllPeaks, ArePeaksNow, AreRaised, Comes, HasAct, HasTurns, IsIn, IsRaised, Peaked, SameUse}
 use Rattle.gq_traces.specs.internal.Peaking.{higher, peak_now}
 use Rattle.gq_traces.specs.internal.Noted.{IsUse}
 use Rattle.gq_traces.proofs.First_greatest.{no_higher, over_more, stays}
-use Rattle.gq_traces.specs.First_turns.{turns_in}
-use Rattle.gq_traces.proofs.Runs_on.{first_part, goes_to, item_parts, last_part, run_more, turns_sum}
-use Rattle.gq_traces.proofs.Same_use.{same_both, set_same}
+use Rattle.gq_traces.proofs.Runs_on.{first_part, goes_to, last_part, turns_sum}
+use Rattle.gq_traces.proofs.Same_use.{same_both, set_same, submit_same}
 use Rattle.gq_traces.proofs.Sound_world_leaves.{there_is}
 
 -- STEPS OF A LEAF ALONE
@@ -75,10 +72,13 @@ alone_stays system x runs (suc m) n now w v has at goes =
           (then.same.used r y ∙ (alone_used r y w x goes.0 goes.1 goes.2 ∙ sym (at.same.used r y)));
     })
 
-pub alone_peaked : (w v : World) (x n m : ℕ) (peaks : List LeafPeaks) → v.scenario ≡ w.scenario → GoesAlone (system w.scenario) x m w.world v.world
-    → Peaked (λ runs now. HasTurns (system w.scenario) x runs n now m) (turns_of (system w.scenario) x m) n (n + m) w v peaks peaks
-alone_peaked w v x n m peaks same goes = record {
+pub alone_peaked : (w v : World) (x n m : ℕ) (peaks : List LeafPeaks) → v.scenario ≡ w.scenario → v.stopped ≡ false → v.signals ≡ w.signals
+    → GoesAlone (system w.scenario) x m w.world v.world
+    → Peaked 0 (λ runs now. HasTurns (system w.scenario) x runs n now m) (turns_of (system w.scenario) x m) n (n + m) w v peaks peaks
+alone_peaked w v x n m peaks same running signals goes = record {
   scenario = same;
+  running = running;
+  signals = omega (arith, signals);
   long = refl;
   comes = λ runs now has at. (
       let s = w.scenario in
@@ -105,11 +105,14 @@ raised_on all runs n y v r old new same was is =
     is ∙ ((λ i. higher (was i) (now_at all runs (suc n) y v r same i))
     ∙ over_more (λ k. used_in r y (runs k).world) (λ k. quota_in all r y (runs k).world) n)
 
-pub step_peaked : (w v : World) (x n turn : ℕ) (olds news : List LeafPeaks) (event : Event) → v.scenario ≡ w.scenario
+pub step_peaked : (w v : World) (x n turn : ℕ) (olds news : List LeafPeaks) (event : Event) → v.scenario ≡ w.scenario → v.stopped ≡ false
+    → v.signals ≡ w.signals
     → next (system w.scenario) w.world x ≡ Ok (v.world, event) → turn ≡ suc n → AreRaised v.scenario v.world turn olds news
-    → Peaked (λ runs now. HasTurns (system w.scenario) x runs n now 1) (turns_of (system w.scenario) x 1) n (suc n) w v olds news
-step_peaked w v x n turn olds news event same goes is raised = record {
+    → Peaked 0 (λ runs now. HasTurns (system w.scenario) x runs n now 1) (turns_of (system w.scenario) x 1) n (suc n) w v olds news
+step_peaked w v x n turn olds news event same running signals goes is raised = record {
   scenario = same;
+  running = running;
+  signals = omega (arith, signals);
   long = raised.long;
   comes = λ runs now has at. (
       let s = w.scenario in
@@ -131,15 +134,18 @@ step_peaked w v x n turn olds news event same goes is raised = record {
       });
 }
 
--- A SETTING
+-- A SETTING, OR A SIGNAL
 
-pub set_peaked : (w v : World) (x i k n : ℕ) (peaks : List LeafPeaks) → v.scenario ≡ w.scenario → v.world ≡ set_input (system w.scenario) w.world x i k
-    → Peaked (λ runs now. HasAct (system w.scenario) x runs n now (Sets i k)) (act_on (system w.scenario) x (Sets i k)) n (n + 0) w v peaks peaks
-set_peaked w v x i k n peaks same is =
+pub set_peaked : (w v : World) (x i k n : ℕ) (peaks : List LeafPeaks) → v.scenario ≡ w.scenario → v.stopped ≡ false → v.signals ≡ w.signals
+    → v.world ≡ set_input (system w.scenario) w.world x i k
+    → Peaked 1 (λ runs now. HasAct (system w.scenario) x runs n now (Sets i k)) (act_on (system w.scenario) x (Sets i k)) n (n + 0) w v peaks peaks
+set_peaked w v x i k n peaks same running signals is =
     let all = system w.scenario in
     let none : n ≡ n + 0 = omega arith in
-    subst (λ m. Peaked (λ runs now. HasAct all x runs n now (Sets i k)) (act_on all x (Sets i k)) n m w v peaks peaks) none (record {
+    subst (λ m. Peaked 1 (λ runs now. HasAct all x runs n now (Sets i k)) (act_on all x (Sets i k)) n m w v peaks peaks) none (record {
       scenario = same;
+      running = running;
+      signals = omega (arith, signals);
       long = refl;
       comes = λ runs now has at. record {
         at = subst (λ (o : Option (ℕ × Wrong)). IsIn all runs n (set_from all x i k now o) v.world) (sym at.right) (record {
@@ -152,28 +158,70 @@ set_peaked w v x i k n peaks same is =
       };
     })
 
+pub submit_peaked : (w v : World) (x i n : ℕ) (peaks : List LeafPeaks) → v.scenario ≡ w.scenario → v.stopped ≡ false → v.signals ≤ w.signals + 1
+    → v.world ≡ submit w.world x i
+    → Peaked 1 (λ runs now. HasAct (system w.scenario) x runs n now (Submits i)) (act_on (system w.scenario) x (Submits i)) n (n + 0) w v peaks peaks
+submit_peaked w v x i n peaks same running signals is =
+    let all = system w.scenario in
+    let none : n ≡ n + 0 = omega arith in
+    subst (λ m. Peaked 1 (λ runs now. HasAct all x runs n now (Submits i)) (act_on all x (Submits i)) n m w v peaks peaks) none (record {
+      scenario = same;
+      running = running;
+      signals = signals;
+      long = refl;
+      comes = λ runs now has at. record {
+        at = subst (λ (o : Option (ℕ × Wrong)). IsIn all runs n (submit_from x i now o) v.world) (sym at.right) (record {
+          world = ap (λ (u : model.World). submit u x i) at.world ∙ sym is;
+          right = at.right;
+          same = subst (SameUse all (runs n).world) (sym is) (same_both all (runs n).world w.world (submit w.world x i) at.same
+              (submit_same all w.world x i));
+        });
+        peaks = λ h. h;
+      };
+    })
+
 -- SOME TURNS AND THEN OTHERS
 
-pub peaked_none : (has : (ℕ → Ran) → Ran → Type 0) (go : Ran → Ran) (n : ℕ) (w : World) (peaks : List LeafPeaks) → ((now : Ran) → go now ≡ now)
-    → Peaked has go n n w w peaks peaks
-peaked_none has go n w peaks stands = record {
+pub peaked_none : (has : (ℕ → Ran) → Ran → Type 0) (go : Ran → Ran) (n : ℕ) (w : World) (peaks : List LeafPeaks) → w.stopped ≡ false
+    → ((now : Ran) → go now ≡ now) → Peaked 0 has go n n w w peaks peaks
+peaked_none has go n w peaks running stands = record {
   scenario = refl;
+  running = running;
+  signals = omega arith;
   long = refl;
   comes = λ runs now h at. record { at = subst (λ r. IsIn (system w.scenario) runs n r w.world) (sym (stands now)) at; peaks = λ all. all };
 }
 
-pub peaked_both : (first second both : (ℕ → Ran) → Ran → Type 0) (f g go : Ran → Ran) (n m k : ℕ) (u v w : World) (ps qs rs : List LeafPeaks)
-    → ((runs : ℕ → Ran) (now : Ran) → both runs now → first runs now × second runs (f now)) → ((now : Ran) → g (f now) ≡ go now)
-    → Peaked first f n m u v ps qs → Peaked second g m k v w qs rs → Peaked both go n k u w ps rs
-peaked_both first second both f g go n m k u v w ps qs rs parts same p q = record {
+pub peaked_both : (a b : ℕ) (first second both : (ℕ → Ran) → Ran → Type 0) (f g go : Ran → Ran) (n m k : ℕ) (u v w : World) (ps qs rs : List LeafPeaks)
+    → ((runs : ℕ → Ran) (now : Ran) → both runs now → first runs now × ((f now).world ≡ v.world → second runs (f now)))
+    → ((now : Ran) → (f now).world ≡ v.world → g (f now) ≡ go now)
+    → Peaked a first f n m u v ps qs → Peaked b second g m k v w qs rs → Peaked (a + b) both go n k u w ps rs
+peaked_both a b first second both f g go n m k u v w ps qs rs parts same p q = record {
   scenario = q.scenario ∙ p.scenario;
+  running = q.running;
+  signals = (let one = p.signals in let two = q.signals in omega (arith, one, two));
   long = q.long ∙ p.long;
   comes = λ runs now has at. (
       let h = parts runs now has in
       let a = p.comes runs now h.0 at in
-      let b = subst (λ (t : Scenario). Comes t runs m k (g (f now)) w.world qs rs) p.scenario (q.comes runs (f now) h.1
+      let b = subst (λ (t : Scenario). Comes t runs m k (g (f now)) w.world qs rs) p.scenario (q.comes runs (f now) (h.1 a.at.world)
       (subst (λ (t : Scenario). IsIn (system t) runs m (f now) v.world) (sym p.scenario) a.at)) in
-      record { at = subst (λ r. IsIn (system u.scenario) runs k r w.world) (same now) b.at; peaks = λ all. b.peaks (a.peaks all) });
+      record { at = subst (λ r. IsIn (system u.scenario) runs k r w.world) (same now a.at.world) b.at; peaks = λ all. b.peaks (a.peaks all) });
+}
+
+-- with more signals at most, and by other names of the same
+pub peaked_like : (most more : ℕ) (has other : (ℕ → Ran) → Ran → Type 0) (go way : Ran → Ran) (n m k : ℕ) (u v : World) (ps qs : List LeafPeaks)
+    → most ≤ more → ((runs : ℕ → Ran) (now : Ran) → now.world ≡ u.world → other runs now → has runs now)
+    → ((now : Ran) → now.world ≡ u.world → go now ≡ way now) → m ≡ k
+    → Peaked most has go n m u v ps qs → Peaked more other way n k u v ps qs
+peaked_like most more has other go way n m k u v ps qs few like same at p = record {
+  scenario = p.scenario;
+  running = p.running;
+  signals = (let signals = p.signals in omega (arith, signals, few));
+  long = p.long;
+  comes = λ runs now h is. (let c = p.comes runs now (like runs now is.world h) is in
+      subst (λ j. Comes u.scenario runs n j (way now) v.world ps qs) at
+      (subst (λ r. Comes u.scenario runs n m r v.world ps qs) (same now is.world) c));
 }
 
 -- AT THE START
@@ -252,48 +300,29 @@ raised_more s w turn n k olds news d new at less here all others x p q below was
 
 -- turns of a leaf and more of them
 pub turns_then : (u v w : World) (x n a b c : ℕ) (ps qs rs : List LeafPeaks) → c ≡ a + b
-    → Peaked (λ runs now. HasTurns (system u.scenario) x runs n now a) (turns_of (system u.scenario) x a) n (n + a) u v ps qs
-    → Peaked (λ runs now. HasTurns (system v.scenario) x runs (n + a) now b) (turns_of (system v.scenario) x b) (n + a) (n + a + b) v w qs rs
-    → Peaked (λ runs now. HasTurns (system u.scenario) x runs n now c) (turns_of (system u.scenario) x c) n (n + c) u w ps rs
+    → Peaked 0 (λ runs now. HasTurns (system u.scenario) x runs n now a) (turns_of (system u.scenario) x a) n (n + a) u v ps qs
+    → Peaked 0 (λ runs now. HasTurns (system v.scenario) x runs (n + a) now b) (turns_of (system v.scenario) x b) (n + a) (n + a + b) v w qs rs
+    → Peaked 0 (λ runs now. HasTurns (system u.scenario) x runs n now c) (turns_of (system u.scenario) x c) n (n + c) u w ps rs
 turns_then u v w x n a b c ps qs rs is p q =
     let s = system u.scenario in
     let sum : n + c ≡ n + a + b = omega (arith, is) in
-    let second = subst (λ (t : Scenario). Peaked (λ runs now. HasTurns (system t) x runs (n + a) now b) (turns_of (system t) x b) (n + a) (n + a + b) v w qs rs)
-    p.scenario q in
-    subst (λ t. Peaked (λ runs now. HasTurns s x runs n now c) (turns_of s x c) n t u w ps rs) (sym sum)
-    (peaked_both (λ runs now. HasTurns s x runs n now a) (λ runs now. HasTurns s x runs (n + a) now b) (λ runs now. HasTurns s x runs n now c)
+    let second = subst (λ (t : Scenario). Peaked 0 (λ runs now. HasTurns (system t) x runs (n + a) now b) (turns_of (system t) x b) (n + a) (n + a + b) v w
+    qs rs) p.scenario q in
+    subst (λ t. Peaked 0 (λ runs now. HasTurns s x runs n now c) (turns_of s x c) n t u w ps rs) (sym sum)
+    (peaked_both 0 0 (λ runs now. HasTurns s x runs n now a) (λ runs now. HasTurns s x runs (n + a) now b) (λ runs now. HasTurns s x runs n now c)
     (turns_of s x a) (turns_of s x b) (turns_of s x c) n (n + a) (n + a + b) u v w ps qs rs
-    (λ runs now has. (first_part s x runs a b n c now is has, last_part s x runs a b n c now is has))
-    (λ now. turns_sum s x (λ k. now) a b now ∙ ap (λ m. turns_of s x m now) (sym is)) p second)
+    (λ runs now has. (first_part s x runs a b n c now is has, λ at. last_part s x runs a b n c now is has))
+    (λ now at. turns_sum s x (λ k. now) a b now ∙ ap (λ m. turns_of s x m now) (sym is)) p second)
 
 -- turns that a leaf takes alone, and one more
-pub alone_then : (u v w : World) (x n m k : ℕ) (olds news : List LeafPeaks) (event : Event) → k ≡ m + 1 → v.scenario ≡ u.scenario → w.scenario ≡ v.scenario
+pub alone_then : (u v w : World) (x n m k : ℕ) (olds news : List LeafPeaks) (event : Event) → k ≡ m + 1 → v.scenario ≡ u.scenario → v.stopped ≡ false
+    → v.signals ≡ u.signals → w.scenario ≡ v.scenario → w.stopped ≡ false → w.signals ≡ v.signals
     → GoesAlone (system u.scenario) x m u.world v.world → next (system v.scenario) v.world x ≡ Ok (w.world, event)
     → AreRaised w.scenario w.world (n + k) olds news
-    → Peaked (λ runs now. HasTurns (system u.scenario) x runs n now k) (turns_of (system u.scenario) x k) n (n + k) u w olds news
-alone_then u v w x n m k olds news event is first second alone step raised =
+    → Peaked 0 (λ runs now. HasTurns (system u.scenario) x runs n now k) (turns_of (system u.scenario) x k) n (n + k) u w olds news
+alone_then u v w x n m k olds news event is first first_running first_signals second running signals alone step raised =
     let sum : n + k ≡ suc (n + m) = omega (arith, is) in
-    turns_then u v w x n m 1 k olds olds news is (alone_peaked u v x n m olds first alone)
+    turns_then u v w x n m 1 k olds olds news is (alone_peaked u v x n m olds first first_running first_signals alone)
     (let one : suc (n + m) ≡ n + m + 1 = omega arith in
-    subst (λ t. Peaked (λ runs now. HasTurns (system v.scenario) x runs (n + m) now 1) (turns_of (system v.scenario) x 1) (n + m) t v w olds news) one
-    (step_peaked v w x (n + m) (n + k) olds news event second step sum raised))
-
--- a list up to an item, and the item
-pub items_then : (u v w : World) (acts more : Acts) (i : ℕ × Act) (n x : ℕ) (a : Act) (ps qs rs : List LeafPeaks) → acts ++ i ∷ [] ≡ more
-    → n ≡ turns_in acts → x ≡ i.0 → a ≡ i.1
-    → Peaked (λ runs now. HasAll (system u.scenario) acts runs 0 now) (run_on (system u.scenario) acts) 0 n u v ps qs
-    → Peaked (λ runs now. HasAct (system v.scenario) x runs n now a) (act_on (system v.scenario) x a) n (n + turns_given a) v w qs rs
-    → Peaked (λ runs now. HasAll (system u.scenario) more runs 0 now) (run_on (system u.scenario) more) 0 (n + turns_given a) u w ps rs
-items_then u v w acts more i n x a ps qs rs is at leaf same p q =
-    let s = system u.scenario in
-    let second = subst (λ (t : Scenario). Peaked (λ runs now. HasAct (system t) x runs n now a) (act_on (system t) x a) n (n + turns_given a) v w qs rs)
-    p.scenario q in
-    peaked_both (λ runs now. HasAll s acts runs 0 now) (λ runs now. HasAct s x runs n now a) (λ runs now. HasAll s more runs 0 now)
-    (run_on s acts) (act_on s x a) (run_on s more) 0 n (n + turns_given a) u v w ps qs rs
-    (λ runs now has. (
-    let h = item_parts s runs acts more i n now is at has in (
-      h.0,
-      subst (λ y. HasAct s y runs n (run_on s acts now) a) (sym leaf) (subst (HasAct s i.0 runs n (run_on s acts now)) (sym same) h.1),
-    )))
-    (λ now. (λ k. act_on s (leaf k) (same k) (run_on s acts now)) ∙ run_more s acts more i now is)
-    p second
+    subst (λ t. Peaked 0 (λ runs now. HasTurns (system v.scenario) x runs (n + m) now 1) (turns_of (system v.scenario) x 1) (n + m) t v w olds news) one
+    (step_peaked v w x (n + m) (n + k) olds news event second running signals step sum raised))

@@ -1,14 +1,14 @@
 -- No world of a run has a greater use than its peaks, and some world has each of them.
-use Rattle.std.proofs.Common.{◌≡◌, ◌∙◌, ◌<◌, ◌≤◌, ◌⊎◌, ℕ, suc, inl, inr, List, [], ◌∷◌, length, Result, Ok, Err, refl, ap, sym, arith}
+use Rattle.std.proofs.Common.{◌≡◌, ◌∙◌, ◌<◌, ◌≤◌, ◌⊎◌, ℕ, suc, inl, inr, List, [], ◌∷◌, Result, Ok, Err, refl, sym, arith}
 use Rattle.gq_model.specs.machine.Amounts.{Resource, Ram, Caps}
-use Rattle.gq_model.specs.machine.Run.{Acts, run}
+use Rattle.gq_model.specs.machine.Run.{Acts}
 use Rattle.gq_model.specs.machine.Scenario.{Component, Scenario, components, system}
 use Rattle.gq_model.specs.texts.Turns.{Turned, turned}
 use Rattle.gq_load.specs.Load.{LoadRefusal, loaded}
 use Rattle.gq_reports.specs.Whole.{Written, with_scenario}
 use Rattle.gq_traces.specs.First_turns.{turns_in}
 use Rattle.gq_traces.specs.Greatest.{AreGreatest, IsGreatest, ShowsPeaks, used_after}
-use Rattle.gq_traces.specs.Account_peaks.{peak_in, peaks_from, peaks_of, peaks_text, used_in, world_after}
+use Rattle.gq_traces.specs.Account_peaks.{peak_in, peaks_from, peaks_of, peaks_text, world_after}
 use Rattle.gq_traces.specs.internal.Peaking.{SameUse}
 use Rattle.gq_traces.specs.Traces_written as written
 use Rattle.gq_traces.specs.Traces_written.{peaks_written, with_turns}

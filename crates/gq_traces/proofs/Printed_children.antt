@@ -12,7 +12,7 @@ use Rattle.gq_views.specs.Listing.{indent}
 use Rattle.gq_tariff.specs.Prices.{classes}
 use Rattle.gq_model.specs.declared.program.OperandSlot.TheVariants.{Own}
 use Rattle.gq_traces.specs.Account_state.{Given, Handed, child_items, handed_items, has_quantum, init_items, inputs_behind, inputs_of, is_at, item, items_text}
-use Rattle.gq_traces.specs.Account_state.{live_items, places_items, sessions_items, slots_items}
+use Rattle.gq_traces.specs.Account_state.{live_items, places_items, sessions_items, signals_behind, slots_items}
 use Rattle.gq_traces.specs.internal.Slot_items.{Prints_items}
 use Rattle.gq_traces.specs.internal.Printed_steps.{Goes}
 use Rattle.gq_traces.proofs.Sequential_text_writes.{goes_both, goes_text}
@@ -64,22 +64,23 @@ module _ {W : Type 0} (contents : W → Option (List ℕ)) where
       (items_both m.scenario.version (item 1 Given r.quantum [] ∷ []) (handed_items m.world n (node_rows m.scenario)))
       (goes_both contents a b c x y z _ _ g h)
 
-  -- what a leaf is given, and the values of its inputs
+  -- what a leaf is given, the values of its inputs, and how often its signals were taken
   pub given_with : (m : Machine) (s : Scenario) (x : ℕ) (c : Component) (l : Leaf) (node : ℕ) (q : Amount) (rest : List ℕ) (a b : Counted W) (y z : Bool)
       → s ≡ m.scenario → slice_get (components m.scenario) x ≡ Some c → IfSome (slice_get (components s) x) (λ d. IsNodeOf (node_rows s) node d)
-      → IfSome (slice_get (node_rows s) node) (λ r. q ≡ r.quantum) → rest ≡ inputs_behind (inputs_of c l)
+      → IfSome (slice_get (node_rows s) node) (λ r. q ≡ r.quantum) → rest ≡ inputs_behind (inputs_of c l) ++ signals_behind l.signals
       → Goes contents a b y z (put_line s.version (indent 1) (codes "quantum") q rest)
-      → Prints_items contents a b y z m (item 1 Given c.node.quantum (inputs_behind (inputs_of c l)) ∷ [])
+      → Prints_items contents a b y z m (item 1 Given c.node.quantum (inputs_behind (inputs_of c l) ++ signals_behind l.signals) ∷ [])
   given_with m s x c l node q rest a b y z same named is_node quantum line g =
       let there : slice_get (components s) x ≡ Some c = ap (λ (t : Scenario). slice_get (components t) x) same ∙ named in
       let k = subst (λ (o : Option Component). IfSome o (λ d. IsNodeOf (node_rows s) node d)) there is_node in
       let is = subst (λ (o : Option NodeRow). IfSome o (λ r. q ≡ r.quantum)) k.1 quantum in
       goes_text contents a b y z _ _
-      (amount_is_printed s m.scenario same 1 Given q c.node.quantum (is ∙ k.3) (indent 1) rest (inputs_behind (inputs_of c l)) refl line) g
+      (amount_is_printed s m.scenario same 1 Given q c.node.quantum (is ∙ k.3) (indent 1) rest (inputs_behind (inputs_of c l) ++ signals_behind l.signals)
+      refl line) g
 
   pub live_printed : (m : Machine) (x : ℕ) (c : Component) (l : Leaf) (v0 v1 v2 v3 v4 : Counted W) (g0 g1 g2 g3 g4 : Bool)
       → slice_get m.world.leaves x ≡ Some l
-      → Prints_items contents v0 v1 g0 g1 m (item 1 Given c.node.quantum (inputs_behind (inputs_of c l)) ∷ [])
+      → Prints_items contents v0 v1 g0 g1 m (item 1 Given c.node.quantum (inputs_behind (inputs_of c l) ++ signals_behind l.signals) ∷ [])
       → IfSome (slice_get m.world.leaves x)
       (λ l. Prints_items contents v1 v2 g1 g2 m (slots_items (system m.scenario) m.world Own 0 l.slots))
       → IfSome (slice_get m.world.leaves x) (λ l. Prints_items contents v2 v3 g2 g3 m (places_items classes l.peaks))
@@ -92,6 +93,7 @@ module _ {W : Type 0} (contents : W → Option (List ℕ)) where
       let own = subst (λ (o : Option Leaf). IfSome o (λ l. Prints_items contents v1 v2 g1 g2 m (slots_items all w Own 0 l.slots))) there slots in
       let heap = subst (λ (o : Option Leaf). IfSome o (λ l. Prints_items contents v2 v3 g2 g3 m (places_items classes l.peaks))) there places in
       goes_text contents v0 v4 g0 g4 _ _
-      (four_items version (item 1 Given c.node.quantum (inputs_behind (inputs_of c l)) ∷ []) (slots_items all w Own 0 l.slots) (places_items classes l.peaks)
+      (four_items version (item 1 Given c.node.quantum (inputs_behind (inputs_of c l) ++ signals_behind l.signals) ∷ []) (slots_items all w Own 0 l.slots)
+      (places_items classes l.peaks)
       (sessions_items all w x w.sessions))
       (goes_both contents v0 v3 v4 g0 g3 g4 _ _ (goes_both contents v0 v2 v3 g0 g2 g3 _ _ (goes_both contents v0 v1 v2 g0 g1 g2 _ _ given own) heap) sessions)

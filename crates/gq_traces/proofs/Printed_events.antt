@@ -1,5 +1,5 @@
 -- A line that a step writes is printed, where the leaf's next statement has its operands in range.
-use Rattle.std.proofs.Common.{◌≡◌, ℕ, suc, Bool, true, false, List, [], ◌∷◌, Option, Some, None, Ok, Err, refl, ap, subst}
+use Rattle.std.proofs.Common.{◌≡◌, ℕ, zero, suc, Bool, true, false, List, [], ◌∷◌, Option, Some, None, Ok, Err, refl, ap, subst}
 use Rattle.std.specs.Prelude.{decimal, slice_get}
 use Rattle.std.proofs.lemmas.Bool.{and_parts}
 use Rattle.gq_model.specs.declared.fault.Wrong.{Wrong}
@@ -17,9 +17,10 @@ use Rattle.gq_model.specs.machine.Program.{Statements, Done, Do, If, Loop, secti
 use Rattle.gq_model.specs.machine.Requests.{asked, link_in}
 use Rattle.gq_model.specs.machine.Scenario.{Component, System}
 use Rattle.gq_model.specs.machine.Step.{accept, accept_oldest, body_ended, instruct, main_ended, next, oldest, perform, replied, reply, section_ended}
-use Rattle.gq_model.specs.machine.Step.{all_empty, step_in, step_of}
+use Rattle.gq_model.specs.machine.Step.{all_empty, first_signal, serve, step_in, step_of}
 use Rattle.gq_model.specs.machine.Sums.{paid, with_peaks}
-use Rattle.gq_model.specs.machine.World.{Slot, Empty, Bytes, Pool, Link, Ask, Current, Leaf, Request, Round, Session, SlotId, World, session_at, with_leaf}
+use Rattle.gq_model.specs.machine.World.{Slot, Empty, Bytes, Pool, Link, Ask, Current, Leaf, Request, Round, Session, Signal, SlotId, World, session_at}
+use Rattle.gq_model.specs.machine.World.{with_leaf}
 use Rattle.gq_model.specs.texts.Letters.{is_said}
 use Rattle.gq_model.specs.texts.Operands.{in_range, operands}
 use Rattle.gq_laws.proofs.step_shapes.Step_end_worlds.{closed, section_taken, taken}
@@ -133,16 +134,18 @@ reply_shows d k (Calling l) s = pop_shows _ _ (λ a rest. replied_shows d k s _)
 reply_shows d k (Closing l) s = when_shows (all_empty s.slots) WrongKind _ (when_shows (paid d.system (closed d k s)) ExceededQuota _ (quiet (closed d k s)))
 reply_shows d k (Reacting i) s = fails _
 
-main_shows : (d : Doing) (provides : Option (List ℕ)) → Shows (main_ended d provides)
-main_shows d None = when_shows _ _ _ (gives _ Finished tt)
-main_shows d (Some service) = quiet _
+main_shows : (d : Doing) (provides : Option (List ℕ)) (signals : ℕ) → Shows (main_ended d provides signals)
+main_shows d None zero = when_shows _ _ _ (gives _ Finished tt)
+main_shows d None (suc n) = quiet _
+main_shows d (Some service) signals = quiet _
 
-section_shows : (d : Doing) (current : Option Current) → Shows (section_ended d current)
-section_shows d None = main_shows d d.component.node.provides
-section_shows d (Some current) = need_shows _ _ _ (λ s. reply_shows d current.session current.section s)
+section_shows : (d : Doing) (current : Option Current) (reacting : Option ℕ) → Shows (section_ended d current reacting)
+section_shows d None None = main_shows d d.component.node.provides d.component.node.signals
+section_shows d None (Some i) = quiet _
+section_shows d (Some current) reacting = need_shows _ _ _ (λ s. reply_shows d current.session current.section s)
 
 ended_shows : (d : Doing) (loops : List Round) → Shows (body_ended d loops)
-ended_shows d [] = section_shows d d.leaf.current
+ended_shows d [] = section_shows d d.leaf.current d.leaf.reacting
 ended_shows d (r ∷ loops) = quiet _
 
 -- the operands of the next statement are in range
@@ -166,10 +169,14 @@ oldest_shows : (d : Doing) (o : Option (Request × List Request)) → Shows (acc
 oldest_shows d None = gives d.world Idle tt
 oldest_shows d (Some p) = accept_shows d p.0 p.1
 
+serve_shows : (d : Doing) (f : Option (ℕ × List Signal)) → Shows (serve d f)
+serve_shows d None = oldest_shows d (oldest d.world d.x d.world.requests)
+serve_shows d (Some p) = need_shows _ _ _ (λ body. quiet _)
+
 step_shows : (d : Doing) (phase : Phase) → IsNextInRange d.leaf.todo → Shows (step_in d phase)
 step_shows d Running h = perform_shows d d.leaf.todo h
 step_shows d Handling h = perform_shows d d.leaf.todo h
-step_shows d Serving h = oldest_shows d (oldest d.world d.x d.world.requests)
+step_shows d Serving h = serve_shows d (first_signal d.leaf.signals)
 step_shows d Pending h = gives d.world Idle tt
 step_shows d Blocked h = gives d.world Idle tt
 step_shows d Exited h = gives d.world Idle tt

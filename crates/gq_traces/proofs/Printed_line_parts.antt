@@ -5,7 +5,7 @@ use Rattle.std.proofs.lemmas.Bool.{and_parts, leb-true}
 use Rattle.std.proofs.lemmas.Fmt.{length-decimal-le}
 use Rattle.gq_model.specs.machine.Lists.{all_of, between}
 use Rattle.gq_model.specs.texts.Letters.{is_name, is_name_byte}
-use Rattle.gq_model.specs.texts.Turns.{greatest_turns}
+use Rattle.gq_model.specs.machine.Rest.{greatest_turns}
 
 pub short_name : (name : List ℕ) → is_name name ≡ true → length name ≤ 16
 short_name name good =

@@ -2,20 +2,20 @@
 use Rattle.std.proofs.Common.{◌≡◌, ◌∙◌, ◌<◌, ◌≤◌, ◌+◌, ℕ, suc, Bool, List, ◌++◌, length, drop, Option, Some, IfSome, ap}
 use Rattle.std.proofs.Common.{sym, subst, arith}
 use Rattle.std.specs.Prelude.{slice_get}
-use Rattle.gq_model.specs.machine.Accounts.{Account, account_line, accounts}
+use Rattle.gq_model.specs.machine.Accounts.{Account, account_line}
 use Rattle.gq_model.specs.machine.World as model
-use Rattle.gq_model.specs.rules.Accept.{budgets, step_budgets}
 use Rattle.gq_output.specs.declared.counted.Counted.{Counted}
 use Rattle.gq_machine.specs.Machines.{Machine}
 use Rattle.gq_resolve.specs.NodeTables.{NodeRow, node_rows}
-use Rattle.gq_world.specs.Account_lines.{accounts_by, all_accounts}
+use Rattle.gq_world.specs.Account_lines.{all_accounts}
 use Rattle.gq_world.specs.World_between_turns.{World}
 use Rattle.gq_traces.specs.Account_state.{Item, child_items, handed_items, items_text, node_text, nodes_text, text_in}
-use Rattle.gq_traces.specs.Trace.{Traced}
+use Rattle.gq_traces.specs.Trace.{Traced, accounts_in}
 use Rattle.gq_traces.specs.internal.Follows.{IsAt}
 use Rattle.gq_traces.specs.internal.Slot_items.{Prints_items}
-use Rattle.gq_traces.specs.internal.Printed_steps.{Goes}
+use Rattle.gq_traces.specs.internal.Printed_steps.{Goes, budgets_of}
 use Rattle.gq_traces.specs.declared.follow.Followed.{Followed}
+use Rattle.gq_traces.proofs.Accounts_by_budgets.{all_seen, nodes_same_text}
 use Rattle.gq_traces.proofs.Printed_items.{items_both}
 use Rattle.gq_traces.proofs.So_far.{So_far, next_one, none_left, reported_end, printed_first, printed_next}
 
@@ -88,13 +88,11 @@ module _ {W : Type 0} (contents : W → Option (List ℕ)) where
       (drop (n + 1) (node_rows s))) one)
       (so_far t at) (reported t j.here i.here at j.is i.is)
 
-  all_of : (w : World) (v : model.World) → v ≡ w.world → all_accounts w ≡ accounts w.scenario v (step_budgets (budgets w.scenario))
-  unfolding all_accounts accounts_by
-  all_of w v e = ap (λ (u : model.World). accounts w.scenario u (step_budgets (budgets w.scenario))) (sym e)
-
   pub nodes_end : (w : World) (f : Followed) (a b : Counted W) (y z : Bool) (n : ℕ) → length (all_accounts w) ≤ n → Nodes_so_far w f a b y z n
       → (t : Traced) → IsAt f w t → Goes contents a b y z (text_in w.scenario t)
   nodes_end w f a b y z n least so_far t at =
-      subst (λ all. Goes contents a b y z (nodes_text w.scenario t 0 all (node_rows w.scenario))) (all_of w t.world at.world)
+      subst (Goes contents a b y z)
+      (nodes_same_text w.scenario t 0 (all_accounts w) (accounts_in w.scenario w.world (budgets_of w.scenario)) (node_rows w.scenario) (all_seen w)
+      ∙ ap (λ (v : model.World). nodes_text w.scenario t 0 (accounts_in w.scenario v (budgets_of w.scenario)) (node_rows w.scenario)) (sym at.world))
       (reported_end contents a b y z _ _
       (ap (λ l. nodes_text w.scenario t n l (drop n (node_rows w.scenario))) (none_left (all_accounts w) n least)) (so_far t at))

@@ -1,5 +1,5 @@
 -- The lines of peaks.
-use Rattle.std.proofs.Common.{◌≡◌, ◌∙◌, ◌<◌, ◌≤◌, ◌+◌, ◌==◌, ℕ, zero, suc, inl, inr, Bool, cond, List, [], ◌∷◌, ◌++◌, length, drop, codes, decimal}
+use Rattle.std.proofs.Common.{◌≡◌, ◌∙◌, ◌<◌, ◌≤◌, ◌+◌, ℕ, zero, suc, inl, inr, Bool, cond, List, [], ◌∷◌, ◌++◌, length, drop, codes, decimal}
 use Rattle.std.proofs.Common.{Option, Some, append_assoc, get_or, refl, ap, sym, subst, arith}
 use Rattle.std.specs.Prelude.{slice_get, true}
 use Rattle.std.proofs.lemmas.Bool.{cases_Bool}
@@ -9,7 +9,7 @@ use Rattle.gq_model.specs.machine.Accounts.{entry}
 use Rattle.gq_model.specs.machine.Run.{Ran, Acts, label_at, run}
 use Rattle.gq_model.specs.machine.Scenario.{Component, Scenario, components, system}
 use Rattle.gq_traces.specs.First_turns.{first_turns, turns_in}
-use Rattle.gq_traces.specs.Account_peaks.{peak_line, peak_lines, peaks_at, peaks_from, peaks_text, world_after}
+use Rattle.gq_traces.specs.Account_peaks.{peak_line, peak_lines, peaks_at, peaks_from, peaks_text}
 use Rattle.gq_traces.specs.declared.peaks.LeafPeaks.{LeafPeaks}
 use Rattle.gq_traces.specs.declared.peaks.Peak.{Peak}
 use Rattle.gq_traces.specs.internal.Peaking.{AllPeaks, ArePeaks}

@@ -10,16 +10,16 @@ use Rattle.gq_model.specs.machine.Lists.{all_of}
 use Rattle.gq_model.specs.machine.Program.{Statements, Done, Do, If, Loop, body_of, section_in, size}
 use Rattle.gq_model.specs.machine.Sections.{same_section, section_word}
 use Rattle.gq_model.specs.machine.Scenario.{Component}
-use Rattle.gq_model.specs.machine.Step.{oldest}
-use Rattle.gq_model.specs.machine.World.{Leaf, Request, World, section_of}
+use Rattle.gq_model.specs.machine.Step.{first_signal, oldest}
+use Rattle.gq_model.specs.machine.World.{Leaf, Request, Signal, World, section_of}
 use Rattle.gq_model.specs.texts.Operands.{in_range, operands}
 use Rattle.gq_laws.specs.Shapes.{Each}
 use Rattle.gq_laws.specs.internal.Remaining_instructions.{AllAre}
 use Rattle.gq_machine.specs.Readers.{requested}
 use Rattle.gq_views.specs.Listing.{loop_text}
 use Rattle.gq_traces.specs.Step_positions.{Ahead, Entered, NumberedStatements, Ends, Does, Chooses, Repeats, StepPosition, after_body, after_round, ahead}
-use Rattle.gq_traces.specs.Step_positions.{at_request, body_in, chosen}
-use Rattle.gq_traces.specs.Step_positions.{end_place, first_request, next_place, numbered, past, place_in, request_place, start_aheads, stepped}
+use Rattle.gq_traces.specs.Step_positions.{at_request, at_signal, body_in, chosen}
+use Rattle.gq_traces.specs.Step_positions.{end_place, first_request, next_place, numbered, past, place_in, request_place, signal_place, start_aheads, stepped}
 use Rattle.gq_traces.proofs.Printed_instructions.{instruction_printed}
 use Rattle.gq_traces.proofs.Printed_numbers.{IsPrinted, both, number_printed}
 
@@ -101,11 +101,17 @@ request_texts : (c : Component) (w : World) (o : Option Request) → AreSections
 request_texts c w None h = record { todo = tt; loops = tt }
 request_texts c w (Some r) h = section_texts c (requested w r) h
 
+signal_texts : (c : Component) (f : Option (ℕ × List Signal)) (other : Ahead) → AreSections c → AreAhead other → AreAhead (at_signal c f other)
+signal_texts c None other h g = g
+signal_texts c (Some p) other h g = section_texts c (Reacting p.0) h
+
 pub stepped_texts : (w : World) (x : ℕ) (c : Component) (leaf : Leaf) (a : Ahead) (phase : Phase) → AreSections c → AreAhead a
     → AreAhead (stepped w x c leaf a phase)
 stepped_texts w x c leaf a Running h g = past_texts leaf.operands a.todo a.loops g.todo g.loops
 stepped_texts w x c leaf a Handling h g = past_texts leaf.operands a.todo a.loops g.todo g.loops
-stepped_texts w x c leaf a Serving h g = request_texts c w (first_request (oldest w x w.requests)) h
+stepped_texts w x c leaf a Serving h g =
+    signal_texts c (first_signal leaf.signals) (at_request c w (first_request (oldest w x w.requests))) h
+    (request_texts c w (first_request (oldest w x w.requests)) h)
 stepped_texts w x c leaf a Pending h g = g
 stepped_texts w x c leaf a Blocked h g = g
 stepped_texts w x c leaf a Exited h g = g
@@ -140,10 +146,16 @@ request_printed : (w : World) (o : Option Request) → IsPlace (request_place w 
 request_printed w None = tt
 request_printed w (Some r) = refl
 
+signal_printed : (f : Option (ℕ × List Signal)) (other : Option StepPosition) → IsPlace other → IsPlace (signal_place f other)
+signal_printed None other h = h
+signal_printed (Some p) other h = refl
+
 pub place_printed : (w : World) (x : ℕ) (c : Component) (leaf : Leaf) (a : Ahead) (phase : Phase) → AreAhead a → IsPlace (place_in w x c leaf a phase)
-place_printed w x c leaf a Running h = next_printed c (section_of leaf.current) a.todo a.loops h.todo
-place_printed w x c leaf a Handling h = next_printed c (section_of leaf.current) a.todo a.loops h.todo
-place_printed w x c leaf a Serving h = request_printed w (first_request (oldest w x w.requests))
+place_printed w x c leaf a Running h = next_printed c (section_of leaf.current leaf.reacting) a.todo a.loops h.todo
+place_printed w x c leaf a Handling h = next_printed c (section_of leaf.current leaf.reacting) a.todo a.loops h.todo
+place_printed w x c leaf a Serving h =
+    signal_printed (first_signal leaf.signals) (request_place w (first_request (oldest w x w.requests)))
+    (request_printed w (first_request (oldest w x w.requests)))
 place_printed w x c leaf a Pending h = tt
 place_printed w x c leaf a Blocked h = tt
 place_printed w x c leaf a Exited h = tt

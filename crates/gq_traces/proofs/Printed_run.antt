@@ -2,38 +2,41 @@
 use Rattle.std.proofs.Common.{◌≡◌, ◌∙◌, ℕ, zero, suc, ◌+◌, ◌<◌, Bool, true, false, List, [], ◌∷◌, ◌++◌, length, Option, Some, None, Ok, refl, ap, sym}
 use Rattle.std.proofs.Common.{subst, arith, append_assoc, append-nil, length-set, true≢false, ap₂}
 use Rattle.std.proofs.lemmas.List.{length-map}
-use Rattle.std.specs.Prelude.{◌==◌, ◌||◌, not, if◌then◌else◌, codes, decimal, is_some, map, slice_get, slice_index, slice_set, sum_by}
+use Rattle.std.specs.Prelude.{◌==◌, ◌||◌, ◌&&◌, not, if◌then◌else◌, codes, decimal, is_some, map, slice_get, slice_index, slice_set, sum_by}
 use Rattle.std.proofs.lemmas.List.Sums.{sum_by-cons}
 use Rattle.std.proofs.lemmas.Option.{slice_get_within}
 use Rattle.gq_model.proofs.Small_facts.{none_some, some_same}
 use Rattle.gq_model.specs.declared.act.Act.{Act}
-use Rattle.gq_model.specs.declared.act.Act.TheVariants.{Turns, Sets}
+use Rattle.gq_model.specs.declared.act.Act.TheVariants.{Turns, Sets, Submits}
 use Rattle.gq_model.specs.declared.fault.Wrong.{Wrong}
 use Rattle.gq_model.specs.declared.phase.Phase.{Phase}
 use Rattle.gq_model.specs.declared.phase.Phase.TheVariants.{Pending, Running, Blocked, Serving, Handling, Exited}
-use Rattle.gq_model.specs.machine.Accounts.{account_lines, accounts, text_of}
+use Rattle.gq_model.specs.machine.Accounts.{account_lines, text_of}
 use Rattle.gq_model.specs.machine.Doing.{Event, Idle, Stepped}
 use Rattle.gq_model.specs.machine.Program.{Do, Statements}
 use Rattle.gq_model.specs.machine.Run.{Ran, Acts, act_on, after_step as ran_on, label_at as ran_label, line_of, run, run_on, set_from, set_input, turn_from}
-use Rattle.gq_model.specs.machine.Run.{turns_of}
+use Rattle.gq_model.specs.machine.Run.{submit, submit_from, turns_of}
 use Rattle.gq_model.specs.machine.Scenario.{Component, Scenario, System, system}
-use Rattle.gq_model.specs.machine.Step.{next, oldest, step_of}
-use Rattle.gq_model.specs.machine.World.{Leaf, Request, Session, World, session_at, start, start_leaves}
+use Rattle.gq_model.specs.machine.Step.{first_signal, next, oldest, step_of}
+use Rattle.gq_model.specs.machine.Step_budgets.{StepBudget, all_steps_in}
+use Rattle.gq_model.specs.machine.World.{Leaf, Request, Session, Signal, World, session_at, start, start_leaves}
 use Rattle.gq_model.specs.Promises.{IsUpheld}
 use Rattle.gq_model.specs.rules.Accept.{budgets, step_budgets}
 use Rattle.gq_laws.specs.Reached_worlds.{IsReached}
 use Rattle.gq_laws.specs.Shapes.{Each}
 use Rattle.gq_laws.specs.Sound_scenarios.{IsSound}
-use Rattle.gq_laws.specs.Turn_effects.{CountsSteps, can_run, runs, runs_as, steps_of}
+use Rattle.gq_model.specs.machine.Rest.{can_run, runs, runs_as}
+use Rattle.gq_laws.specs.Turn_effects.{CountsSteps, steps_of}
 use Rattle.gq_laws.specs.Typing.{IsTyped}
 use Rattle.gq_laws.specs.internal.Remaining_instructions.{AllAre, AreLeft}
 use Rattle.gq_laws.proofs.remaining_work.Program_statements_valid.{program_good}
 use Rattle.gq_laws.proofs.remaining_work.Remaining_program_statements.{kept_left, start_left}
-use Rattle.gq_laws.proofs.input_settings.Setting_keeps_invariants.{set_left}
-use Rattle.gq_laws.proofs.input_settings.Setting_counts_nothing.{set_steps}
+use Rattle.gq_laws.proofs.input_settings.Setting_keeps_invariants.{set_left, submit_left}
+use Rattle.gq_laws.proofs.input_settings.Setting_counts_nothing.{set_steps, submit_steps}
 use Rattle.gq_traces.specs.Lines_of.{PrintsRun, PrintsSteps, last_accounts}
-use Rattle.gq_traces.specs.Step_positions.{Ahead, StepPosition, first_request, place_in, request_place, start_aheads, stepped}
-use Rattle.gq_traces.specs.Trace.{Due, Traced, act_text, after_act, after_all, after_due, after_setting, after_step, after_turn, after_turns, all_text, changes}
+use Rattle.gq_traces.specs.Step_positions.{Ahead, StepPosition, first_request, place_in, request_place, signal_place, start_aheads, stepped}
+use Rattle.gq_traces.specs.Trace.{Due, Traced, accounts_in, act_text, after_act, after_all, after_due, after_setting, after_step, after_submission, after_turn}
+use Rattle.gq_traces.specs.Trace.{after_turns, all_text, changes, flag_at, signal_line, submission_text}
 use Rattle.gq_traces.specs.Trace.{due, due_by, due_in, due_text, end_text, input_line, leaf_label, setting_text, value_at}
 use Rattle.gq_traces.specs.Trace.{head_line, idle_turn, start_traced, step_text, reported_in, printed_session, printed_step, trace_text, turn_text, turns_text}
 use Rattle.gq_traces.proofs.Printed_lines.{Gives, IsLine, given, gives_as, gives_both, gives_none, gives_nothing}
@@ -43,7 +46,7 @@ use Rattle.gq_traces.proofs.Printed_numbers.{IsPrinted, both, number_printed}
 use Rattle.gq_traces.proofs.Printed_places.{AreAhead, AreSections, IsInRange, IsPlace, place_printed, set_texts, start_texts, stepped_texts}
 use Rattle.gq_traces.proofs.Scheduled_turn_runs.{IsAt}
 use Rattle.gq_traces.proofs.Lines_of_steps.{HasTexts, IsNamed, Reports, all_give, changes_give, head_gives, lines_shown, of_lines, of_turns, printed_gives}
-use Rattle.gq_traces.proofs.Text_length.{Reaches, reaches_next, reaches_set}
+use Rattle.gq_traces.proofs.Text_length.{Reaches, reaches_next, reaches_set, reaches_submit}
 
 -- WHAT IS DUE
 
@@ -85,6 +88,10 @@ not_due system x t long e = by (slice_get system.components x) refl (slice_get t
     waits None e = refl
     waits (Some p) e = absurd (none_some (sym e))
 
+    no_signal : (f : Option (ℕ × List Signal)) (other : Option StepPosition) → signal_place f other ≡ None → (f ≡ None) × (other ≡ None)
+    no_signal None other e = (refl, e)
+    no_signal (Some p) other e = absurd (none_some (sym e))
+
     none_by : (c : Component) (a : Ahead) (o : Option StepPosition) → due_by c a o ≡ None → o ≡ None
     none_by c a None e = refl
     none_by c a (Some p) e = absurd (none_some (sym e))
@@ -94,7 +101,9 @@ not_due system x t long e = by (slice_get system.components x) refl (slice_get t
     of c leaf a Pending p e = rw p refl
     of c leaf a Running p e = absurd (none_some (sym e))
     of c leaf a Blocked p e = rw p refl
-    of c leaf a Serving p e = rw (p, waits (oldest t.world x t.world.requests) e) refl
+    of c leaf a Serving p e =
+        let none = no_signal (first_signal leaf.signals) (request_place t.world (first_request (oldest t.world x t.world.requests))) e in
+        rw (p, none.0, waits (oldest t.world x t.world.requests) none.1) refl
     of c leaf a Handling p e = absurd (none_some (sym e))
     of c leaf a Exited p e = rw p refl
 
@@ -120,11 +129,16 @@ can system x t d h = ap₂ (runs_as t.world x) h.there h.stands ∙ of h.leaf.ph
     some None e = absurd (none_some e)
     some (Some p) e = refl
 
-    of : (phase : Phase) → place_in t.world x d.component h.leaf h.old phase ≡ Some d.place → runs t.world x phase ≡ true
+    either : (f : Option (ℕ × List Signal)) (o : Option (Request × List Request)) → signal_place f (request_place t.world (first_request o)) ≡ Some d.place
+        → is_some f || is_some o ≡ true
+    either None o e = some o e
+    either (Some p) o e = refl
+
+    of : (phase : Phase) → place_in t.world x d.component h.leaf h.old phase ≡ Some d.place → runs t.world x h.leaf phase ≡ true
     of Pending e = absurd (none_some e)
     of Running e = refl
     of Blocked e = absurd (none_some e)
-    of Serving e = some (oldest t.world x t.world.requests) e
+    of Serving e = either (first_signal h.leaf.signals) (oldest t.world x t.world.requests) e
     of Handling e = refl
     of Exited e = absurd (none_some e)
 
@@ -149,7 +163,7 @@ total_more (n ∷ rest) (suc x) less = let more = total_more rest x (omega (arit
 
 module _ (s : Scenario) (sound : IsSound s) (named : AllNamed s) (upheld : (w : World) → IsReached s w → IsUpheld s w)
     (typed : (w : World) → IsReached s w → IsTyped (system s) w) (counts : (w : World) (x : ℕ) → CountsSteps (system s) w x) (all : Bool) where
-  abbrev b : List ℕ
+  abbrev b : List StepBudget
   b = step_budgets (budgets s)
 
   sections : (x : ℕ) (c : Component) → slice_get (system s).components x ≡ Some c → AreSections c
@@ -237,7 +251,8 @@ module _ (s : Scenario) (sound : IsSound s) (named : AllNamed s) (upheld : (w : 
     lines = lines_shown p.1;
     says = printed_gives (codes "[") all head reported (line_of label p.1) (lines_shown p.1)
         (head_gives (codes "[") true false of_lines (suc t.turns) label d.place labelled placed)
-        (changes_give (codes "[") true false of_lines s b label t.world p.0 p.1 texts labelled shown (accounts_labelled s p.0 b named.nodes) sessions);
+        (changes_give (codes "[") true false of_lines s b label t.world p.0 p.1 texts labelled shown (accounts_labelled s p.0 (all_steps_in p.0 b)
+        named.nodes) sessions);
     added = ap (λ l. ran.text ++ line_of l p.1) (ap ran_label due.there);
     heads = head;
     steps = 1;
@@ -295,7 +310,8 @@ module _ (s : Scenario) (sound : IsSound s) (named : AllNamed s) (upheld : (w : 
           gives_as (codes "turn ") (head ++ reported) (head ++ []) head (1 + 0) 1 (append-nil head) refl
           (gives_both (codes "turn ") head reported head [] 1 0
           (head_gives (codes "turn ") false true of_turns (suc t.turns) label d.place labelled placed)
-          (changes_give (codes "turn ") false true of_turns s b label t.world p.0 p.1 texts labelled shown (accounts_labelled s p.0 b named.nodes) sessions))
+          (changes_give (codes "turn ") false true of_turns s b label t.world p.0 p.1 texts labelled shown (accounts_labelled s p.0 (all_steps_in p.0 b)
+          named.nodes) sessions))
 
   -- TURNS
 
@@ -397,10 +413,56 @@ module _ (s : Scenario) (sound : IsSound s) (named : AllNamed s) (upheld : (w : 
         counted = (let same = ap total (set_steps (system s) t.world x i n) in omega (arith, same));
       })
 
+  -- SIGNALS
+
+  signal_is : (x i : ℕ) → IsLine (signal_line (leaf_label (system s) x) i)
+  signal_is x i =
+      let label = leaf_label (system s) x in
+      let prefix = codes "signal " ++ label ++ codes "!" in
+      record {
+        line = prefix ++ decimal i;
+        printed = both prefix (decimal i) (both (codes "signal " ++ label) (codes "!") (both (codes "signal ") label refl (input_printed x)) refl)
+            (number_printed i);
+        is = refl;
+      }
+
+  submission_gives : (prefix : List ℕ) (says heads : Bool) (reports : Reports prefix says heads) (x i : ℕ) (t : Traced)
+      → Gives prefix (submission_text all (system s) x i t) [] 0
+  submission_gives prefix says heads reports x i t =
+      by (all || flag_at (submit t.world x i) x i && not (flag_at t.world x i))
+    where
+      by : (c : Bool) → Gives prefix (if c then signal_line (leaf_label (system s) x) i else []) [] 0
+      by true = gives_none prefix reports.plain (signal_line (leaf_label (system s) x) i) (signal_is x i) (reports.signals _)
+      by false = gives_nothing prefix
+
+  submission_goes : (x i : ℕ) (t : Traced) (ran : Ran) → Both t ran
+      → Goes t (after_submission x i t) ran (submit_from x i ran ran.wrong) (submission_text all (system s) x i t)
+  submission_goes x i t ran h =
+      subst (λ (o : Option (ℕ × Wrong)). Goes t (after_submission x i t) ran (submit_from x i ran o) (submission_text all (system s) x i t))
+      (sym h.at.right)
+      (record {
+        both = record {
+          at = record { world = ap (λ (w : World). submit w x i) h.at.world; right = h.at.right };
+          reached = reaches_submit s t.world x i h.reached;
+          left = submit_left (λ c. IsInRange) (system s) t.world x i h.left;
+          aheads = h.aheads;
+          long = h.long;
+        };
+        said = [];
+        lines = 0;
+        says = submission_gives (codes "[") true false of_lines x i t;
+        added = sym (append-nil ran.text);
+        heads = [];
+        steps = 0;
+        turns = λ f. submission_gives (codes "turn ") false true of_turns x i t;
+        counted = (let same = ap total (submit_steps t.world x i) in omega (arith, same));
+      })
+
   act_goes : (x : ℕ) (a : Act) (t : Traced) (ran : Ran) → Both t ran
       → Goes t (after_act (system s) x a t) ran (act_on (system s) x a ran) (act_text all s b x a t)
   act_goes x (Turns n) t ran h = turns_go x n t ran h
   act_goes x (Sets i n) t ran h = setting_goes x i n t ran h
+  act_goes x (Submits i) t ran h = submission_goes x i t ran h
 
   all_go : (acts : Acts) (t : Traced) (ran : Ran) → Both t ran
       → Goes t (after_all (system s) acts t) ran (run_on (system s) acts ran) (all_text all s b acts t)
@@ -433,7 +495,7 @@ module _ (s : Scenario) (sound : IsSound s) (named : AllNamed s) (upheld : (w : 
   end_gives : (prefix : List ℕ) (says heads : Bool) (reports : Reports prefix says heads) (t : Traced) → Gives prefix (end_text s b t) [] 0
   end_gives prefix says heads reports t =
       let end = codes "end after " ++ decimal t.turns ++ codes " turns\n" in
-      let lines = account_lines s.version (accounts s t.world b) in
+      let lines = account_lines s.version (accounts_in s t.world b) in
       (gives_both prefix end lines [] [] 0 0
       (gives_none prefix reports.plain end
       (record {
@@ -443,7 +505,7 @@ module _ (s : Scenario) (sound : IsSound s) (named : AllNamed s) (upheld : (w : 
         is = sym (append_assoc (codes "end after " ++ decimal t.turns) (codes " turns") (10 ∷ []));
       })
       (reports.ends (decimal t.turns ++ codes " turns\n")))
-      (all_give prefix says heads reports s.version (accounts s t.world b) (accounts_labelled s t.world b named.nodes)))
+      (all_give prefix says heads reports s.version (accounts_in s t.world b) (accounts_labelled s t.world (all_steps_in t.world b) named.nodes)))
 
   module _ (turns : Acts) where
     abbrev trace : List ℕ
@@ -465,8 +527,8 @@ module _ (s : Scenario) (sound : IsSound s) (named : AllNamed s) (upheld : (w : 
     pub last_reached : IsReached s last.world
     last_reached = reached_so last.world go.both.reached
 
-    last_are : account_lines s.version (accounts s last.world b) ≡ last_accounts s turns
-    last_are = ap (λ (w : World). account_lines s.version (accounts s w b)) (sym go.both.at.world)
+    last_are : account_lines s.version (accounts_in s last.world b) ≡ last_accounts s turns
+    last_are = ap (λ (w : World). account_lines s.version (accounts_in s w b)) (sym go.both.at.world)
 
     pub prints_run : PrintsRun s turns (trace_text all s turns)
     prints_run = record {

@@ -1,5 +1,5 @@
 -- A setting that is reported, or not.
-use Rattle.std.proofs.Common.{◌≡◌, ◌∙◌, ◌+◌, ◌<◌, ℕ, Bool, true, false, List, [], Option, length, refl, ap, sym, subst, arith}
+use Rattle.std.proofs.Common.{◌≡◌, ◌∙◌, ◌<◌, ℕ, Bool, true, false, List, [], Option, length, ap, sym, subst, arith}
 use Rattle.std.specs.Prelude.{◌==◌, ◌||◌, not, if◌then◌else◌, slice_get}
 use Rattle.gq_output.specs.declared.counted.Counted.{Counted}
 use Rattle.gq_model.specs.machine.Run.{label_at, set_input}
@@ -10,12 +10,13 @@ use Rattle.gq_traces.specs.Trace.{Traced, after_setting, input_line, leaf_label,
 use Rattle.gq_traces.specs.declared.trace.Tracing.{Tracing}
 use Rattle.gq_traces.specs.internal.Flat.{ArePrograms, programs_of}
 use Rattle.gq_traces.specs.internal.Noted.{AreNoted}
-use Rattle.gq_traces.specs.internal.Printed_steps.{CanTrace, Goes, IsOn, PrintsTurns}
+use Rattle.gq_traces.specs.internal.Printed_steps.{CanTrace, Goes, PrintsTurns}
 use Rattle.gq_traces.proofs.Sequential_text_writes.{goes_nothing, goes_text}
 use Rattle.gq_traces.proofs.Still_set.{set_noted}
 
 module _ {W : Type 0} (contents : W → Option (List ℕ)) (all : Bool) (x i n : ℕ) (old new : World) (t : Tracing) (same : new.scenario ≡ old.scenario)
-    (set : new.world ≡ set_input (system old.scenario) old.world x i n) (less : x < length old.world.leaves) (can : CanTrace old t) where
+    (running : new.stopped ≡ false) (signals : new.signals ≡ old.signals) (set : new.world ≡ set_input (system old.scenario) old.world x i n) (less : x <
+    length old.world.leaves) (can : CanTrace old t) where
   abbrev text : Traced → List ℕ
   text = setting_text all (system old.scenario) x i n
 
@@ -27,12 +28,14 @@ module _ {W : Type 0} (contents : W → Option (List ℕ)) (all : Bool) (x i n :
     noted = subst (λ (w : model.World). AreNoted new.scenario w t.notes) (sym set)
         (subst (λ (s : Scenario). AreNoted s (set_input (system old.scenario) old.world x i n) t.notes) (sym same)
         (set_noted old.scenario old.world x i n t.notes less can.noted));
+    running = running;
   }
 
   reports : (turns : ℕ) (a b : Counted W) (was now : Bool) → ((u : Traced) → u.world ≡ old.world → Goes contents a b was now (text u))
-      → PrintsTurns contents text (after_setting (system old.scenario) x i n) turns 0 old new t t a b was now
+      → PrintsTurns 0 contents text (after_setting (system old.scenario) x i n) turns 0 old new t t a b was now
   reports turns a b was now goes = record {
     scenario = same;
+    signals = omega (arith, signals);
     can = can_go;
     written = λ u on. goes u on.world;
     on = λ u on. record {
@@ -58,7 +61,7 @@ module _ {W : Type 0} (contents : W → Option (List ℕ)) (all : Bool) (x i n :
       new.world x i
       → reported ≡ (all || not (after == before)) → reported ≡ true
       → Goes contents a b was now (input_line (label_at (slice_get (components new.scenario) x)) i n)
-      → PrintsTurns contents text (after_setting (system old.scenario) x i n) turns 0 old new t t a b was now
+      → PrintsTurns 0 contents text (after_setting (system old.scenario) x i n) turns 0 old new t t a b was now
   setting_printed turns a b was now reported before after first is e shown goes =
       reports turns a b was now (λ u at.
       goes_text contents a b was now (input_line (label_at (slice_get (components new.scenario) x)) i n) (text u)
@@ -68,7 +71,7 @@ module _ {W : Type 0} (contents : W → Option (List ℕ)) (all : Bool) (x i n :
   pub setting_unprinted : (turns : ℕ) (a : Counted W) (was reported : Bool) (before after : ℕ) → before ≡ value_at old.world x i → after ≡ value_at new.world x
       i
       → reported ≡ (all || not (after == before)) → reported ≡ false
-      → PrintsTurns contents text (after_setting (system old.scenario) x i n) turns 0 old new t t a a was was
+      → PrintsTurns 0 contents text (after_setting (system old.scenario) x i n) turns 0 old new t t a a was was
   setting_unprinted turns a was reported before after first is e hidden =
       reports turns a a was was (λ u at.
       goes_text contents a a was was [] (text u)

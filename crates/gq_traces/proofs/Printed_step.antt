@@ -2,38 +2,39 @@
 use Rattle.std.proofs.Common.{◌≡◌, ◌∙◌, ℕ, Bool, true, false, List, [], ◌++◌, length, map, Option, None, get_or, refl, ap, sym, subst}
 use Rattle.std.proofs.lemmas.List.{length-map}
 use Rattle.std.specs.Prelude.{if◌then◌else◌, max, slice_get}
-use Rattle.gq_model.specs.machine.Accounts.{accounts}
 use Rattle.gq_model.specs.machine.Doing.{Event}
 use Rattle.gq_model.specs.machine.Run.{line_of, label_at}
 use Rattle.gq_model.specs.machine.Scenario.{Scenario, components, system}
 use Rattle.gq_model.specs.machine.World as model
 use Rattle.gq_resolve.specs.NodeTables.{node_rows}
 use Rattle.gq_output.specs.declared.counted.Counted.{Counted}
-use Rattle.gq_world.specs.Account_lines.{accounts_by, all_accounts}
+use Rattle.gq_world.specs.Account_lines.{all_accounts}
 use Rattle.gq_world.specs.World_between_turns.{World}
-use Rattle.gq_traces.specs.Trace.{account_changes, changes, session_changes, standing_of, printed_step}
+use Rattle.gq_traces.specs.Trace.{account_changes, accounts_in, changes, session_changes, standing_of, printed_step}
 use Rattle.gq_traces.specs.declared.noted.PrintedState.{PrintedState}
 use Rattle.gq_traces.specs.declared.step_lines.Head.{Head}
 use Rattle.gq_traces.specs.declared.step_output.Progress.{Progress}
 use Rattle.gq_traces.specs.internal.Noted.{AreKnown, AreNoted, WasNoted, standing_in}
 use Rattle.gq_traces.specs.internal.Printed_steps.{Goes, Reports, budgets_of, head_text, more_printed}
+use Rattle.gq_traces.proofs.Accounts_by_budgets.{all_long, all_seen, changes_same}
 use Rattle.gq_traces.proofs.Sequential_text_writes.{goes_both, goes_text, reports_both}
 
 -- the accounts that are reported
 pub accounts_are : (s : Scenario) (old : model.World) (new : World) (notes : PrintedState) → new.scenario ≡ s → AreNoted s old notes
     → account_changes new.scenario.version (map standing_in notes.accounts.items) (all_accounts new)
-    ≡ account_changes s.version (map standing_of (accounts s old (budgets_of s))) (accounts s new.world (budgets_of s))
-unfolding all_accounts accounts_by
+    ≡ account_changes s.version (map standing_of (accounts_in s old (budgets_of s))) (accounts_in s new.world (budgets_of s))
 accounts_are s old new notes same noted =
-    (λ i. account_changes (same i).version (noted.accounts i) (accounts (same i) new.world (budgets_of (same i))))
+    changes_same new.scenario.version (map standing_in notes.accounts.items) (all_accounts new)
+    (accounts_in new.scenario new.world (budgets_of new.scenario)) (all_seen new)
+    ∙ (λ i. account_changes (same i).version (noted.accounts i) (accounts_in (same i) new.world (budgets_of (same i))))
 
 -- as many are noted as there are
 pub noted_count : (s : Scenario) (old : model.World) (w : World) (notes : PrintedState) → w.scenario ≡ s → w.world ≡ old → AreNoted s old notes
     → length (all_accounts w) ≡ length (node_rows w.scenario) → length notes.accounts.items ≡ length (node_rows s)
-unfolding all_accounts accounts_by
 noted_count s old w notes same at noted count =
-    sym (length-map notes.accounts.items standing_in) ∙ ap length noted.accounts ∙ length-map (accounts s old (budgets_of s)) standing_of
-    ∙ (λ i. length (accounts (sym same i) (sym at i) (budgets_of (sym same i)))) ∙ count ∙ ap (λ (r : Scenario). length (node_rows r)) same
+    sym (length-map notes.accounts.items standing_in) ∙ ap length noted.accounts ∙ length-map (accounts_in s old (budgets_of s)) standing_of
+    ∙ (λ i. length (accounts_in (sym same i) (sym at i) (budgets_of (sym same i)))) ∙ sym (all_long w) ∙ count
+    ∙ ap (λ (r : Scenario). length (node_rows r)) same
 
 -- what was noted of a world can be noted anew of another one of its scenario
 pub was_noted : (old new : World) (n : PrintedState) → new.scenario ≡ old.scenario → AreNoted old.scenario old.world n
@@ -75,7 +76,7 @@ module _ {W : Type 0} (contents : W → Option (List ℕ)) where
   step_changes s h old new notes event b c d e p q r t same noted line of_accounts sessions =
       let head = head_text s h in
       let accounts_now = subst (Reports contents c d q r (head_text new.scenario h)) (accounts_are s old new notes same noted) of_accounts in
-      let reported = account_changes s.version (map standing_of (accounts s old (budgets_of s))) (accounts s new.world (budgets_of s)) in
+      let reported = account_changes s.version (map standing_of (accounts_in s old (budgets_of s))) (accounts_in s new.world (budgets_of s)) in
       let accounts_then : Reports contents c d q r head reported = subst (λ (x : Scenario). Reports contents c d q r (head_text x h) reported) same
       accounts_now in
       let sessions_then = subst (λ (x : Scenario). Reports contents d e r t (head_text x h) (session_changes x.version (system x) old new.world 0

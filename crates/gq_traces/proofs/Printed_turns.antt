@@ -10,6 +10,7 @@ use Rattle.gq_model.specs.texts.Turns.{turns_given}
 use Rattle.gq_traces.specs.First_turns.{turns_in}
 use Rattle.gq_model.specs.machine.Scenario.{Component, Scenario, System, components, system}
 use Rattle.gq_model.specs.machine.Step.{next}
+use Rattle.gq_model.specs.machine.Step_budgets.{StepBudget}
 use Rattle.gq_model.specs.machine.World as model
 use Rattle.gq_model.proofs.Small_facts.{none_some, some_same}
 use Rattle.gq_machine.specs.Machines.{Machine}
@@ -54,7 +55,7 @@ label_is s w x ts d e = by (slice_get (components s) x) (slice_get w.leaves x) (
     by (Some c) None a e = absurd (none_some e)
     by (Some c) (Some l) None e = absurd (none_some e)
 
-module _ (all : Bool) (s : Scenario) (b : List ℕ) (x : ℕ) where
+module _ (all : Bool) (s : Scenario) (b : List StepBudget) (x : ℕ) where
   module _ (programs : List Entries) (stands : List places.Ahead) (old : World) (turns : ℕ) (t : Traced) (on : IsOn programs stands old turns t) where
     module _ (none : IsDue None (due_of s old.world x t.aheads)) where
       idle_is : due (system s) x t ≡ None
@@ -116,7 +117,7 @@ module _ (all : Bool) (s : Scenario) (b : List ℕ) (x : ℕ) where
 
 -- MANY TURNS
 
-pub turns_more : (all : Bool) (s : Scenario) (b : List ℕ) (x n : ℕ) (t : Traced)
+pub turns_more : (all : Bool) (s : Scenario) (b : List StepBudget) (x n : ℕ) (t : Traced)
     → turns_text all s b x n t ++ turn_text all s b x (after_turns (system s) x n t) ≡ turns_text all s b x (suc n) t
 turns_more all s b x zero t = sym (append-nil (turn_text all s b x t))
 turns_more all s b x (suc n) t =
@@ -127,7 +128,7 @@ pub after_more : (s : System) (x n : ℕ) (t : Traced) → after_turn s x (after
 after_more s x zero t = refl
 after_more s x (suc n) t = after_more s x n (after_turn s x t)
 
-pub turns_sum : (all : Bool) (s : Scenario) (b : List ℕ) (x n m : ℕ) (t : Traced)
+pub turns_sum : (all : Bool) (s : Scenario) (b : List StepBudget) (x n m : ℕ) (t : Traced)
     → turns_text all s b x n t ++ turns_text all s b x m (after_turns (system s) x n t) ≡ turns_text all s b x (n + m) t
 turns_sum all s b x zero m t =
     let none : m ≡ 0 + m = omega arith in ap (λ k. turns_text all s b x k t) none
@@ -142,7 +143,7 @@ after_sum s x zero m t =
 after_sum s x (suc n) m t =
     let one : suc (n + m) ≡ suc n + m = omega arith in after_sum s x n m (after_turn s x t) ∙ ap (λ k. after_turns s x k t) one
 
-pub all_more : (all : Bool) (s : Scenario) (b : List ℕ) (acts : Acts) (p : ℕ × Act) (t : Traced)
+pub all_more : (all : Bool) (s : Scenario) (b : List StepBudget) (acts : Acts) (p : ℕ × Act) (t : Traced)
     → all_text all s b acts t ++ act_text all s b p.0 p.1 (after_all (system s) acts t) ≡ all_text all s b (acts ++ p ∷ []) t
 all_more all s b [] p t = sym (append-nil (act_text all s b p.0 p.1 t))
 all_more all s b (q ∷ acts) p t =

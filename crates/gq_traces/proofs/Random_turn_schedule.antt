@@ -1,20 +1,17 @@
--- Turns by chance are turns of leaves, and a run over them ends in the world after them; what is written of them so far, and what is to come.
-use Rattle.std.proofs.Common.{◌≡◌, ◌∙◌, ℕ, zero, suc, ◌+◌, ◌-◌, ◌<◌, ◌≤◌, min, Bool, true, false, List, [], ◌∷◌, ◌++◌, length, drop, get_or, Option, Some}
+-- Turns by chance are turns of leaves, and a run over them ends in the world after them; what is listed of them so far, and what is to come.
+use Rattle.std.proofs.Common.{◌≡◌, ◌∙◌, ℕ, zero, suc, ◌+◌, ◌-◌, ◌<◌, ◌≤◌, min, Bool, true, false, List, [], ◌∷◌, ◌++◌, length, drop, get_or, Some}
 use Rattle.std.proofs.Common.{refl, ap, sym, subst, arith, append_assoc, append-nil}
 use Rattle.std.specs.Prelude.{if◌then◌else◌, slice_get}
 use Rattle.std.proofs.lemmas.Bool.Decides.{nat_tests}
 use Rattle.std.proofs.lemmas.Nat.{mod_below}
-use Rattle.std.specs.Io.KnownBytes.{Appends}
 use Rattle.rand_pcg.specs.Lcg.{Lcg}
 use Rattle.rand_pcg.specs.Pcg.{pcg32}
+use Rattle.gq_model.specs.declared.act.TurnLine.{TurnLine}
 use Rattle.gq_model.specs.machine.Scenario.{Component, System}
 use Rattle.gq_model.specs.machine.World.{World}
-use Rattle.gq_laws.specs.Turn_effects.{can_run}
-use Rattle.gq_output.specs.Writes.{IsPrefix}
-use Rattle.gq_output.proofs.Written_byte_facts.{appends_nothing}
-use Rattle.gq_traces.specs.Schedule.{Taken, able, choice, choices, drawn, no_turns, reported_turns, where_some, while_can}
-use Rattle.gq_traces.specs.internal.Takes.{turns_text}
-use Rattle.gq_traces.proofs.Turn_text_parts.{drop_all, drop_at, prefix_joined, written_both}
+use Rattle.gq_model.specs.machine.Rest.{can_run, Taken, reported_turns, while_can}
+use Rattle.gq_traces.specs.Schedule.{able, as_lines, choice, choices, drawn, no_turns, where_some}
+use Rattle.gq_traces.proofs.Turn_text_parts.{drop_all, drop_at, listed_both}
 use Rattle.gq_traces.proofs.Round_schedule_text.{IsThrough}
 use Rattle.gq_traces.proofs.Scheduled_turn_runs.{IsTaken, both_taken, one_taken, while_few, while_runs}
 use Rattle.gq_traces.proofs.Turned_back.{IsCalled}
@@ -147,17 +144,17 @@ module _ (system : System) (called : (x : ℕ) (c : Component) → slice_get sys
       let after = (choice g (leaves n w g)).generator in
       choice_taken n w g (choices k system (suc n - t.0) t.1 after) (choices_taken k (suc n - t.0) t.1 after) (leaves n w g) refl
 
--- WHAT IS WRITTEN OF THEM
+-- WHAT IS LISTED OF THEM
 
--- further choices are to come: what was written, and their turns, are those of the whole
-pub record GoesChoices (whole : Taken) (system : System) (lines left : ℕ) (now : World) (g : Lcg) (before after : Option (List ℕ)) : Type 0 where
+-- further choices are to come: what was listed, and their turns, are those of the whole
+pub record GoesChoices (whole : Taken) (system : System) (lines left : ℕ) (now : World) (g : Lcg) (before after : List TurnLine) : Type 0 where
   pub done : List (ℕ × ℕ)
   pub turns : whole.turns ≡ done ++ (choices lines system left now g).turns
   pub left_is : whole.left ≡ (choices lines system left now g).left
   pub world_is : whole.world ≡ (choices lines system left now g).world
-  pub written : Appends before after (turns_text system.components done)
+  pub listed : after ≡ before ++ as_lines done
 
-pub choices_first : (whole : Taken) (system : System) (lines left : ℕ) (w : World) (g : Lcg) (o : Option (List ℕ))
+pub choices_first : (whole : Taken) (system : System) (lines left : ℕ) (w : World) (g : Lcg) (o : List TurnLine)
     → whole ≡ choices lines system left w g → GoesChoices whole system lines left w g o o
 choices_first whole system lines left w g o is =
     record {
@@ -165,7 +162,7 @@ choices_first whole system lines left w g o is =
       turns = ap (λ (t : Taken). t.turns) is;
       left_is = ap (λ (t : Taken). t.left) is;
       world_is = ap (λ (t : Taken). t.world) is;
-      written = appends_nothing o;
+      listed = sym (append-nil o);
     }
 
 some_here : (leaves : List ℕ) (none some : Taken) → 0 < length leaves → where_some leaves none some ≡ some
@@ -212,7 +209,7 @@ choices_none system (suc k) (suc n) w g over =
     (record (after_choice system k (suc n) w g) { turns = of_choice system (suc n) w g ++ (after_choice system k (suc n) w g).turns })
     (over (omega arith) (omega arith))
 
-module _ (whole : Taken) (system : System) (lines left : ℕ) (now : World) (g : Lcg) (before between after : Option (List ℕ))
+module _ (whole : Taken) (system : System) (lines left : ℕ) (now : World) (g : Lcg) (before between after : List TurnLine)
     (h : GoesChoices whole system lines left now g before between) where
   abbrev here : List ℕ
   here = able system now 0 system.components
@@ -231,9 +228,9 @@ module _ (whole : Taken) (system : System) (lines left : ℕ) (now : World) (g :
     -- a choice more
     pub choices_on : (taken : ℕ) (new : World)
         → while_can (min (choice g here).most left) system now (choice g here).leaf ≡ (taken, new)
-        → Appends between after (turns_text system.components mine)
+        → after ≡ between ++ as_lines mine
         → GoesChoices whole system (lines - 1) (left - taken) new (choice g here).generator before after
-    choices_on taken new is written =
+    choices_on taken new is listed =
         let there : after_choice system (lines - 1) left now g ≡ choices (lines - 1) system (left - taken) new (choice g here).generator =
         ap (λ (p : ℕ × World). choices (lines - 1) system (left - p.0) p.1 (choice g here).generator) is in
         record {
@@ -242,24 +239,18 @@ module _ (whole : Taken) (system : System) (lines left : ℕ) (now : World) (g :
               ∙ sym (append_assoc h.done mine (choices (lines - 1) system (left - taken) new (choice g here).generator).turns));
           left_is = h.left_is ∙ (ap (λ (t : Taken). t.left) step ∙ ap (λ (t : Taken). t.left) there);
           world_is = h.world_is ∙ (ap (λ (t : Taken). t.world) step ∙ ap (λ (t : Taken). t.world) there);
-          written = written_both system.components h.done mine before between after h.written written;
+          listed = listed_both h.done mine before between after h.listed listed;
         }
 
-    -- a prefix of its line was written
-    pub choices_cut : IsPrefix between after (turns_text system.components mine) → IsPrefix before after (turns_text system.components whole.turns)
-    choices_cut prefix =
-        prefix_joined system.components h.done mine (after_choice system (lines - 1) left now g).turns whole.turns before between after all_turns h.written
-        prefix
-
--- all were written
-pub choices_end : (whole : Taken) (system : System) (lines left : ℕ) (now : World) (g : Lcg) (before after : Option (List ℕ))
+-- all were listed
+pub choices_end : (whole : Taken) (system : System) (lines left : ℕ) (now : World) (g : Lcg) (before after : List TurnLine)
     → GoesChoices whole system lines left now g before after → (0 < lines → 0 < left → able system now 0 system.components ≡ [])
-    → IsThrough whole system.components left now before after
+    → IsThrough whole left now before after
 choices_end whole system lines left now g before after h over =
     let none = choices_none system lines left now g over in
     record {
       left_is = sym (h.left_is ∙ ap (λ (t : Taken). t.left) none);
       world_is = sym (h.world_is ∙ ap (λ (t : Taken). t.world) none);
-      written = subst (λ (l : List (ℕ × ℕ)). Appends before after (turns_text system.components l))
-          (sym (h.turns ∙ (ap (λ (t : Taken). h.done ++ t.turns) none ∙ append-nil h.done))) h.written;
+      listed = subst (λ (l : List (ℕ × ℕ)). after ≡ before ++ as_lines l)
+          (sym (h.turns ∙ (ap (λ (t : Taken). h.done ++ t.turns) none ∙ append-nil h.done))) h.listed;
     }

@@ -11,12 +11,13 @@ use Rattle.gq_model.specs.machine.World as model
 use Rattle.gq_model.proofs.Small_facts.{none_some}
 use Rattle.gq_laws.proofs.session_links.Written_world_links.{set_else}
 use Rattle.gq_output.specs.Account_values.{AccountValues}
-use Rattle.gq_world.specs.Account_lines.{accounts_by, all_accounts}
+use Rattle.gq_world.specs.Account_lines.{all_accounts}
 use Rattle.gq_world.specs.World_between_turns.{World}
 use Rattle.gq_traces.specs.Trace.{standing_of, reported_in, printed_session}
 use Rattle.gq_traces.specs.declared.noted.PrintedState.{PrintedState}
 use Rattle.gq_traces.specs.declared.session_lines.PrintedSession.{PrintedSession}
 use Rattle.gq_traces.specs.internal.Noted.{AreNoted, IsReported, SessionsNoted, seen_session, standing_in}
+use Rattle.gq_traces.proofs.Accounts_by_budgets.{all_standing}
 
 pub get_set_same : {A : Type 0} (xs : List A) (k : ℕ) (y d : A) → k < length xs → get_or (slice_set xs k y) k d ≡ y
 get_set_same [] k y d less = absurd (omega (arith, less))
@@ -140,9 +141,8 @@ sessions_all w old new count most is less few room none reported others long now
 -- accounts and sessions
 pub noted_both : (w : World) (n : PrintedState) → map standing_in n.accounts.items ≡ map standing_of (all_accounts w) → SessionsNoted w.scenario w.world n
     → AreNoted w.scenario w.world n
-unfolding all_accounts accounts_by
 noted_both w n accounts h =
-    record { accounts = accounts; sessions = h.sessions; room = h.room; count = h.count; few = h.few; beyond = h.beyond }
+    record { accounts = accounts ∙ all_standing w; sessions = h.sessions; room = h.room; count = h.count; few = h.few; beyond = h.beyond }
 
 pub sessions_of : (s : Scenario) (w : model.World) (n m : PrintedState) → AreNoted s w n → m.sessions ≡ n.sessions → m.count ≡ n.count → SessionsNoted s w m
 sessions_of s w n m h sessions count =

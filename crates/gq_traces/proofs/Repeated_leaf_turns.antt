@@ -1,89 +1,21 @@
 -- Turns of a leaf, one after the other, as long as it can take one.
-use Rattle.std.proofs.Common.{◌≡◌, ◌∙◌, ℕ, zero, suc, ◌+◌, ◌-◌, ◌<◌, ◌≤◌, Bool, true, false, List, length, option_map, Ok}
-use Rattle.std.proofs.Common.{refl, ap, sym, subst, arith, eqb, not, IfSome, Option, Some}
-use Rattle.std.specs.Prelude.{if◌then◌else◌, slice_get, slice_index}
-use Rattle.std.proofs.lemmas.Bool.Decides.{nat_tests}
-use Rattle.std.proofs.lemmas.List.{get_or-set_same}
-use Rattle.std.proofs.lemmas.Option.{get_or_from_slice_get, slice_get-map, slice_get_within}
+use Rattle.std.proofs.Common.{◌≡◌, ◌∙◌, ℕ, zero, suc, ◌+◌, ◌-◌, ◌<◌, ◌≤◌, Bool, true, false, Ok}
+use Rattle.std.proofs.Common.{Err, refl, ap, sym, arith}
+use Rattle.std.specs.Prelude.{if◌then◌else◌}
 use Rattle.gq_model.specs.machine.Doing.{Event, Stepped}
-use Rattle.gq_model.specs.machine.Scenario.{Component, System}
-use Rattle.gq_model.specs.declared.phase.Phase.{Phase}
-use Rattle.gq_model.proofs.Small_facts.{get_within}
+use Rattle.gq_model.specs.machine.Scenario.{System}
 use Rattle.gq_model.specs.machine.Step.{next}
-use Rattle.gq_model.specs.machine.World.{Leaf, World}
-use Rattle.gq_laws.specs.Turn_effects.{CountsSteps, StandsStill, can_run, runs, runs_as, steps_of}
-use Rattle.gq_world.specs.World_between_turns.{HasTaken}
-use Rattle.gq_traces.specs.Schedule.{one_and, while_can}
+use Rattle.gq_model.specs.machine.World.{World}
+use Rattle.gq_model.specs.machine.Rest.{can_run, one_and, while_can}
 use Rattle.gq_traces.specs.internal.Takes.{TakesTurn}
 
--- ONE TURN
-
-steps_at : (w : World) (x n : ℕ) → HasTaken w x n → slice_index (steps_of w) x ≡ n
-steps_at w x n h =
-    get_or_from_slice_get (steps_of w) x h.leaf.steps 0
-    (slice_get-map (λ (l : Leaf). l.steps) w.leaves x ∙ ap (option_map (λ (l : Leaf). l.steps)) h.there)
-    ∙ h.taken
-
-steps_there : (w : World) (x n : ℕ) → HasTaken w x n → x < length (steps_of w)
-steps_there w x n h =
-    slice_get_within (steps_of w) x h.leaf.steps
-    (slice_get-map (λ (l : Leaf). l.steps) w.leaves x ∙ ap (option_map (λ (l : Leaf). l.steps)) h.there)
-
--- a step is counted
-step_counted : (system : System) (w u : World) (x a b : ℕ) (e : Event) → CountsSteps system w x → can_run system w x ≡ true → next system w x ≡ Ok (u, e)
-    → HasTaken w x a → HasTaken u x b → b ≡ suc a
-step_counted system w u x a b e counts can goes before after =
-    sym (steps_at u x b after)
-    ∙ (ap (λ (l : List ℕ). slice_index l x) (counts u e can goes)
-    ∙ (get_or-set_same (steps_of w) x (suc (slice_index (steps_of w) x)) 0 (steps_there w x a before) ∙ ap suc (steps_at w x a before)))
-
-both_ok : {p q : World × Event} → ◌≡◌ {A = Stepped} (Ok p) (Ok q) → p.0 ≡ q.0
-both_ok e = ap (λ (p : World × Event). p.0) (ok_same e)
-  where
-    ok_same : {p q : World × Event} → ◌≡◌ {A = Stepped} (Ok p) (Ok q) → p ≡ q
-    ok_same e = cc
-
--- the turn of a leaf that can not run changes nothing
-still : (system : System) (w u : World) (x : ℕ) (e : Event) → StandsStill system w x → can_run system w x ≡ false → next system w x ≡ Ok (u, e) → u ≡ w
-still system w u x e stands can goes = both_ok (sym goes ∙ stands can)
-
--- a leaf can run just where it has taken a step more
-pub can_iff_step : (system : System) (w u : World) (x a b : ℕ) (e : Event) → CountsSteps system w x → StandsStill system w x → next system w x ≡ Ok (u, e)
-    → HasTaken w x a → HasTaken u x b → not (eqb b a) ≡ can_run system w x
-can_iff_step system w u x a b e counts stands goes before after = by (can_run system w x) refl
-  where
-    by : (c : Bool) → can_run system w x ≡ c → not (eqb b a) ≡ c
-    by true can =
-        let more = step_counted system w u x a b e counts can goes before after in
-        grind (arith, nat_tests)
-    by false can =
-        let same = still system w u x e stands can goes in
-        let as_before : b ≡ a = sym (steps_at u x b after) ∙ (ap (λ (v : World). slice_index (steps_of v) x) same ∙ steps_at w x a before) in
-        grind (arith, nat_tests)
-
-pub stays : (system : System) (w u : World) (x a b : ℕ) (e : Event) → CountsSteps system w x → StandsStill system w x → next system w x ≡ Ok (u, e)
-    → HasTaken w x a → HasTaken u x b → not (eqb b a) ≡ false → u ≡ w
-stays system w u x a b e counts stands goes before after none =
-    still system w u x e stands (sym (can_iff_step system w u x a b e counts stands goes before after) ∙ none) goes
-
--- whether a leaf can run is read off its phase
-pub can_by : (system : System) (w : World) (x n : ℕ) (phase : Phase) → x < length system.components → HasTaken w x n
-    → IfSome (slice_get w.leaves x) (λ l. phase ≡ l.phase) → can_run system w x ≡ runs w x phase
-can_by system w x n phase less taken is =
-    let c = get_within system.components x less in
-    let same : phase ≡ taken.leaf.phase = subst (λ (o : Option Leaf). IfSome o (λ l. phase ≡ l.phase)) taken.there is in
-    ap (λ (o : Option Component). runs_as w x o (slice_get w.leaves x)) c.1
-    ∙ (ap (runs_as w x (Some c.0)) taken.there ∙ ap (runs w x) (sym same))
-
--- MANY TURNS
-
-while_step : (n : ℕ) (system : System) (w u : World) (x : ℕ) → can_run system w x ≡ true → TakesTurn system x w u
+pub while_step : (n : ℕ) (system : System) (w u : World) (x : ℕ) → can_run system w x ≡ true → TakesTurn system x w u
     → while_can (suc n) system w x ≡ (suc (while_can n system u x).0, (while_can n system u x).1)
 while_step n system w u x can takes =
     ap (λ (b : Bool). if b then one_and w (next system w x) (λ v. while_can n system v x) else (0, w)) can
     ∙ ap (λ (r : Stepped). one_and w r (λ v. while_can n system v x)) takes.goes
 
-while_stops : (n : ℕ) (system : System) (w : World) (x : ℕ) → can_run system w x ≡ false → while_can n system w x ≡ (0, w)
+pub while_stops : (n : ℕ) (system : System) (w : World) (x : ℕ) → can_run system w x ≡ false → while_can n system w x ≡ (0, w)
 while_stops zero system w x can = refl
 while_stops (suc n) system w x can = ap (λ (b : Bool). if b then one_and w (next system w x) (λ v. while_can n system v x) else (0, w)) can
 
@@ -122,3 +54,50 @@ come_end system x most taken old w over h =
     let few = h.few in
     let none : most - taken ≡ 0 = omega (arith, few, over) in
     h.come ∙ (ap (λ n. further taken (while_can n system w x)) none ∙ ap (λ n. (n, w)) (omega arith))
+
+both_less : {A : Type 0} (m n : ℕ) (a b : A) → ◌≡◌ {A = ℕ × A} (suc m, a) (suc n, b) → ◌≡◌ {A = ℕ × A} (m, a) (n, b)
+both_less m n a b e =
+    let first = ap (λ p. p.0) e in
+    let less : m ≡ n = omega (arith, first) in
+    (λ i. (less i, ap (λ p. p.1) e i))
+
+zero_not : {A : Type 0} {n : ℕ} {a b : A} → ◌≡◌ {A = ℕ × A} (0, a) (suc n, b) → ⊥
+zero_not e = let none = ap (λ p. p.0) e in omega (arith, none)
+
+pub steps_then : (system : System) (x k n : ℕ) (w u : World) → while_can k system w x ≡ (k, u) → while_can (k + n) system w x ≡ further k (while_can n system
+    u x)
+steps_then system x zero n w u e =
+    ap (λ m. while_can m system w x) (omega arith) ∙ (ap (λ (v : World). while_can n system v x) (ap (λ p. p.1) e)
+    ∙ ap (λ m. (m, (while_can n system u x).1)) (omega arith))
+steps_then system x (suc k) n w u e =
+    by (can_run system w x) refl (next system w x) refl (λ (p : World × Event) (h : while_can k system p.0 x ≡ (k, u)). steps_then system x k n p.0 u h)
+  where
+    by : (b : Bool) → can_run system w x ≡ b → (o : Stepped) → next system w x ≡ o
+        → ((p : World × Event) → while_can k system p.0 x ≡ (k, u) → while_can (k + n) system p.0 x ≡ further k (while_can n system u x))
+        → while_can (suc k + n) system w x ≡ further (suc k) (while_can n system u x)
+    by false can o goes more = absurd (zero_not (sym (while_stops (suc k) system w x can) ∙ e))
+    by true can (Err wrong) goes more =
+        absurd (zero_not (sym (ap (λ (b : Bool). if b then one_and w (next system w x) (λ v. while_can k system v x) else (0, w)) can
+        ∙ ap (λ (r : Stepped). one_and w r (λ v. while_can k system v x)) goes) ∙ e))
+    by true can (Ok p) goes more =
+        let takes : TakesTurn system x w p.0 = record { event = p.1; goes = goes } in
+        let first = both_less (while_can k system p.0 x).0 k (while_can k system p.0 x).1 u (sym (while_step k system w p.0 x can takes) ∙ e) in
+        let next_n : suc k + n ≡ suc (k + n) = omega arith in
+        ap (λ m. while_can m system w x) next_n ∙ (while_step (k + n) system w p.0 x can takes
+        ∙ (ap (λ (q : ℕ × World). (suc q.0, q.1)) (more p first) ∙ ap (λ m. (m, (while_can n system u x).1)) (omega arith)))
+
+-- so many turns more, each of which is a step
+pub come_more : (system : System) (x most taken more : ℕ) (old w u : World) → taken + more ≤ most → while_can more system w x ≡ (more, u)
+    → HasCome system x most taken old w → HasCome system x most (taken + more) old u
+come_more system x most taken more old w u few steps h =
+    let left : most - taken ≡ more + (most - (taken + more)) = omega (arith, few) in
+    let rest = while_can (most - (taken + more)) system u x in
+    record {
+      few = few;
+      come = h.come ∙ (ap (λ n. further taken (while_can n system w x)) left
+          ∙ (ap (further taken) (steps_then system x more (most - (taken + more)) w u steps) ∙ ap (λ n. (n, rest.1)) (omega arith)));
+    }
+
+-- all of them were steps
+pub come_all : (system : System) (x most : ℕ) (old now : World) → HasCome system x most most old now → while_can most system old x ≡ (most, now)
+come_all system x most old now h = come_end system x most most old now (λ less. omega (arith, less)) h

@@ -1,16 +1,13 @@
--- Rounds over the leaves, with what is written of them.
-use Rattle.std.proofs.Common.{◌≡◌, ◌∙◌, ℕ, zero, suc, ◌-◌, ◌<◌, ◌≤◌, ◌⊎◌, inl, inr, Bool, true, false, List, [], ◌∷◌, ◌++◌, length, drop, Option, refl, ap}
+-- Rounds over the leaves, with what is listed of them.
+use Rattle.std.proofs.Common.{◌≡◌, ◌∙◌, ℕ, zero, suc, ◌-◌, ◌<◌, ◌≤◌, ◌⊎◌, inl, inr, Bool, true, false, List, [], ◌∷◌, ◌++◌, length, drop, refl, ap}
 use Rattle.std.proofs.Common.{sym, subst, arith, append_assoc, append-nil}
 use Rattle.std.specs.Prelude.{◌||◌}
-use Rattle.std.specs.Io.KnownBytes.{Appends}
+use Rattle.gq_model.specs.declared.act.TurnLine.{TurnLine}
 use Rattle.gq_model.specs.machine.Scenario.{Component, System}
 use Rattle.gq_model.specs.machine.World.{World}
-use Rattle.gq_laws.specs.Turn_effects.{can_run}
-use Rattle.gq_output.specs.Writes.{IsPrefix}
-use Rattle.gq_output.proofs.Written_byte_facts.{appends_nothing}
-use Rattle.gq_traces.specs.Schedule.{Taken, and_further, round, rounds, some_can, reported_turns, while_can}
-use Rattle.gq_traces.specs.internal.Takes.{turns_text}
-use Rattle.gq_traces.proofs.Turn_text_parts.{drop_all, drop_at, prefix_joined, written_both}
+use Rattle.gq_model.specs.machine.Rest.{can_run, Taken, and_further, round, rounds, some_can, reported_turns, while_can}
+use Rattle.gq_traces.specs.Schedule.{as_lines}
+use Rattle.gq_traces.proofs.Turn_text_parts.{drop_all, drop_at, listed_both}
 use Rattle.gq_traces.proofs.Scheduled_turn_runs.{while_few}
 
 -- ONE ROUND
@@ -24,20 +21,20 @@ round_at system n w v x k cs rest c is takes =
     let more = round system (n - p.0) p.1 (suc x) rest in
     let t : Taken = record more { turns = reported_turns x p.0 ++ more.turns } in t) takes
 
--- the round goes on before the x-th leaf: what was written, and the turns of the leaves from there on, are all of it
-pub record GoesRound (system : System) (cs : List Component) (most x left : ℕ) (old now : World) (before after : Option (List ℕ)) : Type 0 where
+-- the round goes on before the x-th leaf: what was listed, and the turns of the leaves from there on, are all of it
+pub record GoesRound (system : System) (cs : List Component) (most x left : ℕ) (old now : World) (before after : List TurnLine) : Type 0 where
   pub few : left ≤ most
   pub done : List (ℕ × ℕ)
   pub turns : (round system most old 0 cs).turns ≡ done ++ (round system left now x (drop x cs)).turns
   pub left_is : (round system most old 0 cs).left ≡ (round system left now x (drop x cs)).left
   pub world_is : (round system most old 0 cs).world ≡ (round system left now x (drop x cs)).world
-  pub written : Appends before after (turns_text cs done)
+  pub listed : after ≡ before ++ as_lines done
 
-pub round_first : (system : System) (cs : List Component) (most : ℕ) (w : World) (o : Option (List ℕ)) → GoesRound system cs most 0 most w w o o
+pub round_first : (system : System) (cs : List Component) (most : ℕ) (w : World) (o : List TurnLine) → GoesRound system cs most 0 most w w o o
 round_first system cs most w o =
-    record { few = omega arith; done = []; turns = refl; left_is = refl; world_is = refl; written = appends_nothing o }
+    record { few = omega arith; done = []; turns = refl; left_is = refl; world_is = refl; listed = sym (append-nil o) }
 
-module _ (system : System) (cs : List Component) (most x left k : ℕ) (old now new : World) (before between after : Option (List ℕ)) (less : x < length cs)
+module _ (system : System) (cs : List Component) (most x left k : ℕ) (old now new : World) (before between after : List TurnLine) (less : x < length cs)
     (takes : while_can left system now x ≡ (k, new)) (h : GoesRound system cs most x left old now before between) where
   at : (c : Component) × (drop x cs ≡ c ∷ drop (suc x) cs)
   at = drop_at cs x less
@@ -51,8 +48,8 @@ module _ (system : System) (cs : List Component) (most x left k : ℕ) (old now 
   all_turns : (round system most old 0 cs).turns ≡ h.done ++ (reported_turns x k ++ more.turns)
   all_turns = h.turns ∙ ap (λ (t : Taken). h.done ++ t.turns) here
 
-  pub round_on : Appends between after (turns_text cs (reported_turns x k)) → GoesRound system cs most (suc x) (left - k) old new before after
-  round_on written =
+  pub round_on : after ≡ between ++ as_lines (reported_turns x k) → GoesRound system cs most (suc x) (left - k) old new before after
+  round_on listed =
       let few = h.few in
       record {
         few = omega (arith, few);
@@ -60,27 +57,24 @@ module _ (system : System) (cs : List Component) (most x left k : ℕ) (old now 
         turns = all_turns ∙ sym (append_assoc h.done (reported_turns x k) more.turns);
         left_is = h.left_is ∙ ap (λ (t : Taken). t.left) here;
         world_is = h.world_is ∙ ap (λ (t : Taken). t.world) here;
-        written = written_both cs h.done (reported_turns x k) before between after h.written written;
+        listed = listed_both h.done (reported_turns x k) before between after h.listed listed;
       }
 
-  pub round_cut : IsPrefix between after (turns_text cs (reported_turns x k)) → IsPrefix before after (turns_text cs (round system most old 0 cs).turns)
-  round_cut prefix = prefix_joined cs h.done (reported_turns x k) more.turns (round system most old 0 cs).turns before between after all_turns h.written prefix
-
 -- a round that was gone through
-pub record IsThrough (t : Taken) (cs : List Component) (left : ℕ) (now : World) (before after : Option (List ℕ)) : Type 0 where
+pub record IsThrough (t : Taken) (left : ℕ) (now : World) (before after : List TurnLine) : Type 0 where
   pub left_is : left ≡ t.left
   pub world_is : now ≡ t.world
-  pub written : Appends before after (turns_text cs t.turns)
+  pub listed : after ≡ before ++ as_lines t.turns
 
-pub round_end : (system : System) (cs : List Component) (most x left : ℕ) (old now : World) (before after : Option (List ℕ)) → x ≡ length cs
-    → GoesRound system cs most x left old now before after → IsThrough (round system most old 0 cs) cs left now before after
+pub round_end : (system : System) (cs : List Component) (most x left : ℕ) (old now : World) (before after : List TurnLine) → x ≡ length cs
+    → GoesRound system cs most x left old now before after → IsThrough (round system most old 0 cs) left now before after
 round_end system cs most x left old now before after all h =
     let none = ap (round system left now x) (drop_all cs x all) in
     record {
       left_is = sym (h.left_is ∙ ap (λ (t : Taken). t.left) none);
       world_is = sym (h.world_is ∙ ap (λ (t : Taken). t.world) none);
-      written = subst (λ (l : List (ℕ × ℕ)). Appends before after (turns_text cs l))
-          (sym (h.turns ∙ (ap (λ (t : Taken). h.done ++ t.turns) none ∙ append-nil h.done))) h.written;
+      listed = subst (λ (l : List (ℕ × ℕ)). after ≡ before ++ as_lines l)
+          (sym (h.turns ∙ (ap (λ (t : Taken). h.done ++ t.turns) none ∙ append-nil h.done))) h.listed;
     }
 
 -- a round takes no turn, or some, and then fewer are left after it
@@ -122,17 +116,17 @@ round_takes system n w x (c ∷ rest) =
 
 -- ALL ROUNDS
 
--- further rounds are to come: what was written, and their turns, are those of the whole
-pub record GoesRounds (whole : Taken) (system : System) (left : ℕ) (now : World) (before after : Option (List ℕ)) : Type 0 where
+-- further rounds are to come: what was listed, and their turns, are those of the whole
+pub record GoesRounds (whole : Taken) (system : System) (left : ℕ) (now : World) (before after : List TurnLine) : Type 0 where
   pub fuel : ℕ
   pub enough : left < fuel
   pub done : List (ℕ × ℕ)
   pub turns : whole.turns ≡ done ++ (rounds fuel system left now).turns
   pub left_is : whole.left ≡ (rounds fuel system left now).left
   pub world_is : whole.world ≡ (rounds fuel system left now).world
-  pub written : Appends before after (turns_text system.components done)
+  pub listed : after ≡ before ++ as_lines done
 
-pub rounds_first : (whole : Taken) (system : System) (k most : ℕ) (w : World) (o : Option (List ℕ)) → whole ≡ rounds k system most w → most < k
+pub rounds_first : (whole : Taken) (system : System) (k most : ℕ) (w : World) (o : List TurnLine) → whole ≡ rounds k system most w → most < k
     → GoesRounds whole system most w o o
 rounds_first whole system k most w o is enough =
     record {
@@ -142,7 +136,7 @@ rounds_first whole system k most w o is enough =
       turns = ap (λ (t : Taken). t.turns) is;
       left_is = ap (λ (t : Taken). t.left) is;
       world_is = ap (λ (t : Taken). t.world) is;
-      written = appends_nothing o;
+      listed = sym (append-nil o);
     }
 
 further_some : (t : Taken) (turns : List (ℕ × ℕ)) (go : ℕ → World → Taken) → (turns ≡ [] → ⊥)
@@ -154,15 +148,8 @@ further_none : (t : Taken) (turns : List (ℕ × ℕ)) (go : ℕ → World → T
 further_none t [] go none = refl
 further_none t (x ∷ turns) go none = absurd cc
 
-further_prefix : (t : Taken) (turns : List (ℕ × ℕ)) (go : ℕ → World → Taken) → (rest : List (ℕ × ℕ)) × ((and_further t turns go).turns ≡ t.turns ++ rest)
-further_prefix t [] go = ([], sym (append-nil t.turns))
-further_prefix t (x ∷ turns) go = ((go t.left t.world).turns, refl)
-
-module _ (whole : Taken) (system : System) (left : ℕ) (now : World) (before between after : Option (List ℕ))
+module _ (whole : Taken) (system : System) (left : ℕ) (now : World) (before between after : List TurnLine)
     (h : GoesRounds whole system left now before between) where
-  abbrev pub leaves : List Component
-  leaves = system.components
-
   abbrev pub next_round : Taken
   next_round = round system left now 0 system.components
 
@@ -184,7 +171,7 @@ module _ (whole : Taken) (system : System) (left : ℕ) (now : World) (before be
   turns_left : whole.turns ≡ h.done ++ (and_further next_round next_round.turns (go f)).turns
   turns_left = h.turns ∙ ap (λ (t : Taken). h.done ++ t.turns) is_next
 
-  pub rounds_on : (rest : ℕ) (new : World) → IsThrough next_round leaves rest new between after → (rest ≡ left → ⊥)
+  pub rounds_on : (rest : ℕ) (new : World) → IsThrough next_round rest new between after → (rest ≡ left → ⊥)
       → GoesRounds whole system rest new before after
   unfolding f
   rounds_on rest new t other =
@@ -207,12 +194,12 @@ module _ (whole : Taken) (system : System) (left : ℕ) (now : World) (before be
             ∙ (ap (λ (u : Taken). h.done ++ (next_round.turns ++ u.turns)) there ∙ sym (append_assoc h.done next_round.turns (go f rest new).turns)));
         left_is = h.left_is ∙ (ap (λ (u : Taken). u.left) (is_next ∙ next) ∙ ap (λ (u : Taken). u.left) there);
         world_is = h.world_is ∙ (ap (λ (u : Taken). u.world) (is_next ∙ next) ∙ ap (λ (u : Taken). u.world) there);
-        written = written_both leaves h.done next_round.turns before between after h.written t.written;
+        listed = listed_both h.done next_round.turns before between after h.listed t.listed;
       }
 
   -- no turn was taken: all are reported
-  pub rounds_end : (new : World) → IsThrough next_round leaves left new between after
-      → IsThrough whole leaves left new before after
+  pub rounds_end : (new : World) → IsThrough next_round left new between after
+      → IsThrough whole left new before after
   rounds_end new t =
       let none : next_round.turns ≡ [] = elim (round_takes system left now 0 system.components) [
         | inl none ↦ none.0
@@ -222,20 +209,13 @@ module _ (whole : Taken) (system : System) (left : ℕ) (now : World) (before be
       record {
         left_is = t.left_is ∙ sym (h.left_is ∙ ap (λ (u : Taken). u.left) (is_next ∙ last));
         world_is = t.world_is ∙ sym (h.world_is ∙ ap (λ (u : Taken). u.world) (is_next ∙ last));
-        written = subst (λ (l : List (ℕ × ℕ)). Appends before after (turns_text leaves l))
+        listed = subst (λ (l : List (ℕ × ℕ)). after ≡ before ++ as_lines l)
             (sym (turns_left ∙ ap (λ (u : Taken). h.done ++ u.turns) last))
-            (written_both leaves h.done next_round.turns before between after h.written t.written);
+            (listed_both h.done next_round.turns before between after h.listed t.listed);
       }
     where
       some_left : next_round.left < left → left ≡ next_round.left → ⊥
       some_left less e = absurd (omega (arith, less, e))
-
-  -- a prefix of the next round was written
-  pub rounds_cut : IsPrefix between after (turns_text leaves next_round.turns) → IsPrefix before after (turns_text leaves whole.turns)
-  rounds_cut prefix =
-      let rest = further_prefix next_round next_round.turns (go f) in
-      prefix_joined leaves h.done next_round.turns rest.0 whole.turns before between after
-      (turns_left ∙ ap (λ (l : List (ℕ × ℕ)). h.done ++ l) rest.1) h.written prefix
 
 -- WHETHER SOME LEAF CAN GO ON
 

@@ -23,6 +23,7 @@ leaf name ram caps text = record {
   provides = None;
   after = None;
   inputs = [];
+  signals = 0;
   routes = None;
 }
 

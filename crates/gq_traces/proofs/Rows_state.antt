@@ -47,6 +47,7 @@ echo = record {
         provides = Some (codes "echo");
         after = None;
         inputs = [];
+        signals = 0;
         routes = None;
       }) (Leaf_node (record {
         name = codes "cli";
@@ -56,6 +57,7 @@ echo = record {
         provides = None;
         after = None;
         inputs = [];
+        signals = 0;
         routes =
             None;
       }) End));
@@ -101,6 +103,7 @@ counted = record {
         provides = Some (codes "echo");
         after = None;
         inputs = [];
+        signals = 0;
         routes = None;
       }) (Leaf_node (record {
         name = codes "cli";
@@ -110,6 +113,7 @@ counted = record {
         provides = None;
         after = None;
         inputs = [];
+        signals = 0;
         routes = None;
       }) End));
 }

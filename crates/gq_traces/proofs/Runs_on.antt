@@ -1,26 +1,26 @@
 -- A run over a list, turn by turn.
-use Rattle.std.proofs.Common.{◌≡◌, ◌∙◌, ◌≤◌, ◌+◌, ◌-◌, ℕ, zero, suc, List, [], ◌∷◌, ◌++◌, Option, Some, None, Ok, refl, ap, sym, subst, arith}
+use Rattle.std.proofs.Common.{◌≡◌, ◌∙◌, ◌≤◌, ◌+◌, ◌-◌, ℕ, zero, suc, [], ◌∷◌, ◌++◌, Option, Some, None, Ok, refl, ap, sym, subst, arith}
 use Rattle.std.specs.Prelude.{min}
 use Rattle.std.proofs.lemmas.Bool.Decides.{nat_tests}
 use Rattle.gq_model.specs.declared.act.Act.{Act}
-use Rattle.gq_model.specs.declared.act.Act.TheVariants.{Turns, Sets}
+use Rattle.gq_model.specs.declared.act.Act.TheVariants.{Turns, Sets, Submits}
 use Rattle.gq_model.specs.declared.fault.Wrong.{Wrong}
 use Rattle.gq_model.specs.machine.Doing.{Event, Stepped}
-use Rattle.gq_model.specs.machine.Run.{Ran, Acts, act_on, after_step, run, run_on, set_from, turn_from, turns_of}
+use Rattle.gq_model.specs.machine.Run.{Ran, Acts, act_on, after_step, run, run_on, set_from, submit_from, turn_from, turns_of}
 use Rattle.gq_model.specs.machine.Scenario.{System}
 use Rattle.gq_model.specs.machine.Step.{next}
 use Rattle.gq_model.specs.machine.World.{World, start}
 use Rattle.gq_model.specs.texts.Turns.{turns_given}
 use Rattle.gq_traces.specs.First_turns.{first_of, first_turns, turns_in}
 use Rattle.gq_traces.specs.internal.Peaking.{HasAct, HasAll, HasTurns, IsIn, SameUse}
-use Rattle.gq_traces.proofs.Same_use.{set_same, same_both, same_self}
+use Rattle.gq_traces.proofs.Same_use.{set_same, same_both, same_self, submit_same}
 
 -- THE FIRST TURNS
 
-min_first : (m n : ℕ) → m ≤ n → min m n ≡ m
+pub min_first : (m n : ℕ) → m ≤ n → min m n ≡ m
 min_first m n few = grind (arith, nat_tests, few)
 
-min_second : (m n : ℕ) → n ≤ m → min m n ≡ n
+pub min_second : (m n : ℕ) → n ≤ m → min m n ≡ n
 min_second m n few = grind (arith, nat_tests, few)
 
 module _ (system : System) where
@@ -28,6 +28,7 @@ module _ (system : System) where
   none_of : (x : ℕ) (a : Act) (ran : Ran) → act_on system x (first_of 0 a) ran ≡ ran
   none_of x (Turns m) ran = let none = min_first 0 m (omega arith) in ap (λ n. turns_of system x n ran) none
   none_of x (Sets i v) ran = refl
+  none_of x (Submits i) ran = refl
 
   none_on : (acts : Acts) (ran : Ran) → run_on system (first_turns 0 acts) ran ≡ ran
   none_on [] ran = refl
@@ -45,6 +46,8 @@ module _ (system : System) where
   whole_of m x (Turns c) ran = let all = min_second (c + suc m) c (omega arith) in ap (λ n. turns_of system x n ran) all
   whole_of m x (Sets i v) ran =
       let more : 0 + suc m ≡ suc m = omega arith in ap (λ k. act_on system x (first_of k (Sets i v)) ran) more
+  whole_of m x (Submits i) ran =
+      let more : 0 + suc m ≡ suc m = omega arith in ap (λ k. act_on system x (first_of k (Submits i)) ran) more
 
   past : (m : ℕ) (p : ℕ × Act) (acts : Acts) (ran : Ran)
       → run_on system (first_turns (turns_given p.1 + suc m) (p ∷ acts)) ran ≡ run_on system (first_turns (suc m) acts) (act_on system p.0 p.1 ran)
@@ -66,6 +69,7 @@ module _ (system : System) where
         → ((m : ℕ) → runs (n + suc m) ≡ run_on system (first_turns (suc m) ((x, a) ∷ acts)) now) → HasAct system x runs n now a
     has_act x (Turns c) acts n now h = has_turns x c n now (λ m few. h m ∙ first_few (suc m) x c acts now few)
     has_act x (Sets i v) acts n now h = tt
+    has_act x (Submits i) acts n now h = tt
 
     has_list : (acts : Acts) (n : ℕ) (now : Ran) → ((m : ℕ) → runs (n + suc m) ≡ run_on system (first_turns (suc m) acts) now) → HasAll system acts runs n now
     has_list [] n now h = tt
@@ -108,7 +112,7 @@ module _ (system : System) where
 
   -- ALL OF A LIST
 
-  -- settings alone change nothing that leaves use
+  -- settings and signals alone change nothing that leaves use
   settings_same : (acts : Acts) (ran : Ran) → turns_in acts ≡ 0 → SameUse system ran.world (run_on system acts ran).world
   settings_same [] ran e = same_self system ran.world
   settings_same ((x, Turns zero) ∷ acts) ran e = settings_same acts ran (omega (arith, e))
@@ -119,6 +123,13 @@ module _ (system : System) where
     where
       by : (o : Option (ℕ × Wrong)) → SameUse system ran.world (set_from system x i v ran o).world
       by None = set_same system ran.world x i v
+      by (Some p) = same_self system ran.world
+  settings_same ((x, Submits i) ∷ acts) ran e =
+      same_both system ran.world (submit_from x i ran ran.wrong).world (run_on system acts (submit_from x i ran ran.wrong)).world
+      (by ran.wrong) (settings_same acts (submit_from x i ran ran.wrong) (omega (arith, e)))
+    where
+      by : (o : Option (ℕ × Wrong)) → SameUse system ran.world (submit_from x i ran o).world
+      by None = submit_same system ran.world x i
       by (Some p) = same_self system ran.world
 
   -- the first turns of a list that has no more leave what all of it leaves
@@ -137,6 +148,11 @@ module _ (system : System) where
       let set = set_from system x i v ran ran.wrong in
       subst (λ m. SameUse system (run_on system (first_turns m acts) set).world (run_on system acts set).world) all
       (last_same (suc n) acts set (omega (arith, few)))
+  last_same (suc n) ((x, Submits i) ∷ acts) ran few =
+      let all : suc n ≡ suc n - 0 = omega arith in
+      let submitted = submit_from x i ran ran.wrong in
+      subst (λ m. SameUse system (run_on system (first_turns m acts) submitted).world (run_on system acts submitted).world) all
+      (last_same (suc n) acts submitted (omega (arith, few)))
 
   pub all_first : (n : ℕ) (acts : Acts) → turns_in acts ≤ n → SameUse system (run system (first_turns n acts)).world (run system acts).world
   all_first n acts few = last_same n acts at_first few
@@ -166,32 +182,10 @@ module _ (system : System) (x : ℕ) (runs : ℕ → Ran) where
       let more : suc (a + b) ≡ suc a + b = omega arith in
       turns_sum a b (turn_from system x now now.wrong) ∙ ap (λ n. turns_of system x n now) more
 
--- a list up to an item, and the item
-module _ (system : System) (runs : ℕ → Ran) where
-  first_all : (acts : Acts) (p : ℕ × Act) (n : ℕ) (now : Ran) → HasAll system (acts ++ p ∷ []) runs n now → HasAll system acts runs n now
-  first_all [] p n now h = tt
-  first_all (q ∷ acts) p n now h = (h.0, first_all acts p (n + turns_given q.1) (act_on system q.0 q.1 now) h.1)
-
-  last_item : (acts : Acts) (p : ℕ × Act) (n : ℕ) (now : Ran) → HasAll system (acts ++ p ∷ []) runs n now
-      → HasAct system p.0 runs (n + turns_in acts) (run_on system acts now) p.1
-  last_item [] p n now h = let none : n ≡ n + 0 = omega arith in subst (λ m. HasAct system p.0 runs m now p.1) none h.0
-  last_item (q ∷ acts) p n now h =
-      let then = act_on system q.0 q.1 now in
-      let at : n + turns_given q.1 + turns_in acts ≡ n + (turns_given q.1 + turns_in acts) = omega arith in
-      subst (λ m. HasAct system p.0 runs m (run_on system acts then) p.1) at (last_item acts p (n + turns_given q.1) then h.1)
-
-  pub item_parts : (acts more : Acts) (p : ℕ × Act) (n : ℕ) (now : Ran) → acts ++ p ∷ [] ≡ more → n ≡ turns_in acts → HasAll system more runs 0 now
-      → HasAll system acts runs 0 now × HasAct system p.0 runs n (run_on system acts now) p.1
-  item_parts acts more p n now e at h =
-      let all = subst (λ l. HasAll system l runs 0 now) (sym e) h in
-      let first : 0 + turns_in acts ≡ n = omega (arith, at) in
-      (first_all acts p 0 now all, subst (λ m. HasAct system p.0 runs m (run_on system acts now) p.1) first (last_item acts p 0 now all))
-
--- and the run over them
-pub run_more : (system : System) (acts more : Acts) (p : ℕ × Act) (now : Ran) → acts ++ p ∷ [] ≡ more
-    → act_on system p.0 p.1 (run_on system acts now) ≡ run_on system more now
-run_more system acts more p now e = by acts now ∙ ap (λ l. run_on system l now) e
-  where
-    by : (acts : Acts) (now : Ran) → act_on system p.0 p.1 (run_on system acts now) ≡ run_on system (acts ++ p ∷ []) now
-    by [] now = refl
-    by (q ∷ acts) now = by acts (act_on system q.0 q.1 now)
+-- a list in two parts
+pub list_parts : (system : System) (runs : ℕ → Ran) (acts more : Acts) (n m : ℕ) (now : Ran) → m ≡ n + turns_in acts → HasAll system (acts ++ more) runs n now
+    → HasAll system acts runs n now × HasAll system more runs m (run_on system acts now)
+list_parts system runs [] more n m now at h =
+    let here : n ≡ m = omega (arith, at) in (tt, subst (λ k. HasAll system more runs k now) here h)
+list_parts system runs (q ∷ acts) more n m now at h =
+    let rest = list_parts system runs acts more (n + turns_given q.1) m (act_on system q.0 q.1 now) (omega (arith, at)) h.1 in ((h.0, rest.0), rest.1)

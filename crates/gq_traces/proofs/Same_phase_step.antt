@@ -1,7 +1,7 @@
 -- A step after which its leaf is in the phase that it was in leaves requests, sessions and all other leaves as they are, but for what a session to the leaf
 -- holds, and for bytes.
 use Rattle.std.proofs.Common.{◌≡◌, ◌≢◌, ◌∙◌, ◌⊎◌, ℕ, zero, suc, inl, inr, nat_lt, Bool, true, false, cond, List, [], ◌∷◌, length, length-set, Option}
-use Rattle.std.proofs.Common.{Some, None, Ok, refl, ap, sym, subst, arith}
+use Rattle.std.proofs.Common.{Some, None, Ok, refl, ap, ap₂, sym, subst, arith}
 use Rattle.std.specs.Prelude.{slice_get, slice_set, sum_by}
 use Rattle.std.proofs.lemmas.Bool.Decides.{eqb_tells}
 use Rattle.std.proofs.lemmas.List.Sums.{sum_by-cons}
@@ -17,12 +17,13 @@ use Rattle.gq_model.specs.machine.Routes.{server_of}
 use Rattle.gq_model.specs.machine.Scenario.{Scenario, Component, interface_in, open_caps, system, upgrade_caps}
 use Rattle.gq_model.specs.machine.Sums.{bank_price, slot_price}
 use Rattle.gq_model.specs.machine.World.{Slot, Empty, Bytes, Pool, Link, Waiting, SlotId, In_leaf, In_session, In_object, Session, Ask, Ask_open, Ask_upgrade}
-use Rattle.gq_model.specs.machine.World.{Ask_close, Ask_call, Request, Current, Round, Leaf, World, session_at, slot_at, slot_id_of, with_slot}
+use Rattle.gq_model.specs.machine.World.{Ask_close, Ask_call, Request, Current, Round, Signal, Leaf, World, session_at, slot_at, slot_id_of}
+use Rattle.gq_model.specs.machine.World.{with_leaf, with_slot}
 use Rattle.gq_model.specs.machine.World.{with_session, put_leaf_slot, put_session_slot, put_object}
 use Rattle.gq_model.specs.machine.Doing.{Doing, Event, Idle, Quiet, Finished, Stepped, standing, with_operands}
 use Rattle.gq_model.specs.machine.Requests.{add_session, asked, close, call, free_place, link_at, new_session, open_session, upgrade}
 use Rattle.gq_model.specs.machine.Step.{instruct, oldest, serving, resumed, active_again, unblocked, released, all_released, exited, exit_of, no_link}
-use Rattle.gq_model.specs.machine.Step.{main_ended}
+use Rattle.gq_model.specs.machine.Step.{first_signal, main_ended, reacting_to, serve}
 use Rattle.gq_model.specs.machine.Step.{section_ended, body_ended, perform, accept_oldest, step_in, step_of, next}
 use Rattle.gq_model.proofs.Small_facts.{none_some, some_same}
 use Rattle.gq_laws.specs.Session_links.{Stance, stance, stance_in, Fits, links, outline_in, IsLinkedWorld}
@@ -35,7 +36,7 @@ use Rattle.gq_laws.proofs.session_links.Written_world_links.{leaf_in_slot, leaf_
 use Rattle.gq_laws.proofs.statement_rules.Statement_leaves_others.{keeps_to_itself}
 use Rattle.gq_laws.proofs.step_shapes.Step_end_shapes.{Ends, gives, link_in_ends, need_ends, pop_ends, when_ends}
 use Rattle.gq_laws.proofs.step_shapes.Step_end_shapes.{fill_ends}
-use Rattle.gq_laws.proofs.step_shapes.Step_change_shapes.{accept_by, instruct_by, reply_by}
+use Rattle.gq_laws.proofs.step_shapes.Step_change_shapes.{accept_by, instruct_by, reply_by, slot_by}
 use Rattle.gq_laws.proofs.step_shapes.Step_end_worlds.{begun, blocking, taken}
 
 -- a session keeps its parts but for its slots and its object, and these cost what they did where it is not a session to this leaf
@@ -146,7 +147,7 @@ same_ends d t h Done inside = by_loops d.leaf.loops inside
         chosen false = gives _ Quiet (stands d t _ refl refl refl)
 same_ends d t h (Do i rest) inside =
     quiet_ends (record d { leaf = record d.leaf { todo = rest } })
-    (record { old = t.old; there = t.there; slots = t.slots; phase = t.phase; current = t.current }) h i (quiet i inside.0)
+    (record { old = t.old; there = t.there; slots = t.slots; phase = t.phase; current = t.current; reacting = t.reacting }) h i (quiet i inside.0)
 same_ends d t h (If arm other rest) inside =
     pop_ends (Same (links d.world)) d.leaf.operands _ (λ a below. gives _ Quiet (stands d t _ refl refl refl))
 same_ends d t h (Loop count body rest) inside = gives _ Quiet (stands d t _ refl refl refl)
@@ -178,12 +179,10 @@ asking i = Own_one tt
 abbrev phase_in : Stance → Phase
 phase_in s = s.phase
 
-abbrev current_in : Stance → Option Current
-current_in s = s.current
-
 -- between two requests, or back in `main` of its own
-abbrev HasEnded : Option Stance → Type 0
-HasEnded o = (o ≡ Some (stance Serving None)) ⊎ (o ≡ Some (stance Running None))
+abbrev HasEnded : Option Leaf → Type 0
+HasEnded None = ⊥
+HasEnded (Some leaf) = (leaf.current ≡ None) × (leaf.reacting ≡ None) × ((leaf.phase ≡ Serving) ⊎ (leaf.phase ≡ Running))
 
 module _ (d : Doing) (t : TakesLeaf d) (h : IsLinkedWorld d.system d.world) where
   -- if the leaf is in its phase, the rest is as it was
@@ -290,51 +289,53 @@ module _ (d : Doing) (t : TakesLeaf d) (h : IsLinkedWorld d.system d.world) wher
         by (Calls place is) = subst (λ j. Ends P (instruct e j)) (sym is) (call_moves place)
         by (Closes place is) = subst (λ j. Ends P (instruct e j)) (sym is) (close_moves place)
 
-  -- the end of `main`
-  main_moves : (runs : d.leaf.phase ≡ Running) (provides : Option (List ℕ)) → Ends P (main_ended d provides)
-  main_moves runs (Some service) =
-      gives _ Quiet (moved _ (stance Serving None) (leaf_stance d.world d.x t.old (serving d.leaf) t.there) (λ same. serves (same ∙ runs)))
-    where
-      serves : Serving ≡ Running → ⊥
-      serves e = cc
-  main_moves runs None = when_ends P (no_link d.leaf.slots) WrongKind _ (gives (exit_of d) Finished gone)
-    where
-      exits : Exited ≡ Running → ⊥
-      exits e = cc
+  -- the end of `main`, or of what is done for a signal
+  serves_moves : (serves : Serving ≡ d.leaf.phase → ⊥) → Ends P (Ok (standing d (serving d.leaf), Quiet))
+  serves_moves serves = gives _ Quiet (moved _ (stance Serving None) (leaf_stance d.world d.x t.old (serving d.leaf) t.there) serves)
 
+  main_moves : (serves : Serving ≡ d.leaf.phase → ⊥) (exits : Exited ≡ d.leaf.phase → ⊥) (provides : Option (List ℕ)) (signals : ℕ)
+      → Ends P (main_ended d provides signals)
+  main_moves serves exits (Some service) signals = serves_moves serves
+  main_moves serves exits None (suc n) = serves_moves serves
+  main_moves serves exits None zero = when_ends P (no_link d.leaf.slots) WrongKind _ (gives (exit_of d) Finished gone)
+    where
       gone : P (exit_of d)
       gone =
           let l = exits_there d.component.node.name d.system.components (standing d (exited d.leaf)).leaves d.x (exited d.leaf)
           (set_here d.world.leaves d.x (exited d.leaf) t.old t.there) refl in
-          moved (exit_of d) (stance l.0.phase l.0.current) (ap stance_in l.1) (λ same. exits (sym l.2 ∙ (same ∙ runs)))
+          moved (exit_of d) (stance l.0.phase l.0.current) (ap stance_in l.1) (λ same. exits (sym l.2 ∙ same))
 
   -- the end of a section for a session
   abbrev R : World → Type 0
-  R v = HasEnded (stance_in (slice_get v.leaves d.x))
+  R v = HasEnded (slice_get v.leaves d.x)
+
+  -- of a leaf with other parts
+  ends_with : (v : World) (y : ℕ) (leaf new : Leaf) → slice_get v.leaves y ≡ Some leaf → (HasEnded (Some leaf) → HasEnded (Some new)) → R v
+      → R (with_leaf v y new)
+  ends_with v y leaf new there same ended =
+      elim (eqb_tells d.x y) [
+        | inl e ↦ subst HasEnded (sym (ap (λ z. slice_get (slice_set v.leaves y new) z) e.1 ∙ set_here v.leaves y new leaf there))
+            (same (subst HasEnded (ap (λ z. slice_get v.leaves z) e.1 ∙ there) ended))
+        | inr e ↦ subst HasEnded (sym (set_else v.leaves y d.x new e.1)) ended
+      ]
+
+  ends_slot : (v : World) (q : SlotId) (slot : Slot) → R v → R (with_slot v q slot)
+  ends_slot = slot_by R (λ v y leaf slots there ended. ends_with v y leaf (record leaf { slots = slots }) there (λ h. h) ended) (λ v sessions ended. ended)
 
   resumes : (v : World) (y : ℕ) (f : List ℕ → List ℕ) → R v → R (unblocked v y f)
   resumes v y f ended = by (slice_get v.leaves y) refl
     where
-      no_current : (leaf : Leaf) → HasEnded (Some (stance leaf.phase leaf.current)) → leaf.current ≡ None
-      no_current leaf (inl e) = ap current_in (some_same e)
-      no_current leaf (inr e) = ap current_in (some_same e)
-
       by : (o : Option Leaf) → slice_get v.leaves y ≡ o → R (active_again v y f o)
       by None there = ended
       by (Some leaf) there =
-          let now = record leaf { phase = resumed leaf.current; operands = f leaf.operands } in
-          elim (eqb_tells d.x y) [
-            | inl e ↦ (let none = no_current leaf (subst HasEnded (ap (λ z. stance_in (slice_get v.leaves z)) e.1 ∙ ap stance_in there) ended) in
-                inr (ap (λ z. stance_in (slice_get (slice_set v.leaves y now) z)) e.1 ∙ (ap stance_in (set_here v.leaves y now leaf there)
-                ∙ (ap (λ o. Some (stance (resumed o) o)) none))))
-            | inr e ↦ subst HasEnded (sym (ap stance_in (set_else v.leaves y d.x now e.1))) ended
-          ]
+          ends_with v y leaf (record leaf { phase = resumed leaf.current leaf.reacting; operands = f leaf.operands }) there
+          (λ h. (h.0, h.1, inr (ap₂ resumed h.0 h.1))) ended
 
-  reply_moves : (handles : d.leaf.phase ≡ Handling) (g : Current) → Ends P (section_ended d (Some g))
-  reply_moves handles g = need_ends P (session_at d.world g.session) WrongKind _ (λ s. record {
+  reply_moves : (handles : d.leaf.phase ≡ Handling) (g : Current) (reacting : Option ℕ) → Ends P (section_ended d (Some g) reacting)
+  reply_moves handles g reacting = need_ends P (session_at d.world g.session) WrongKind _ (λ s. record {
     holds = λ v event e.
-        ended v ((reply_by d R (λ v q slot r. subst HasEnded (sym (slot_stances v q slot d.x)) r)
-        (inl (leaf_stance d.world d.x t.old (serving d.leaf) t.there)) resumes (λ v k r. r) g.session g.section s).holds v event e);
+        ended v ((reply_by d R ends_slot (subst HasEnded (sym (set_here d.world.leaves d.x (serving d.leaf) t.old t.there)) (refl, refl, inl refl))
+        resumes (λ v k r. r) g.session g.section s).holds v event e);
   })
     where
       serves : Serving ≡ Handling → ⊥
@@ -344,18 +345,44 @@ module _ (d : Doing) (t : TakesLeaf d) (h : IsLinkedWorld d.system d.world) wher
       runs e = cc
 
       ended : (v : World) → R v → P v
-      ended v (inl e) = moved v (stance Serving None) e (λ same. serves (same ∙ handles))
-      ended v (inr e) = moved v (stance Running None) e (λ same. runs (same ∙ handles))
+      ended v r leaf there same =
+          elim (subst HasEnded there r).2 [
+            | inl e ↦ absurd (serves (sym e ∙ (same ∙ handles)))
+            | inr e ↦ absurd (runs (sym e ∙ (same ∙ handles)))
+          ]
 
   fits : Fits d.leaf.phase d.leaf.current
   fits = h.fits d.x (stance d.leaf.phase d.leaf.current) (stood d t)
 
-  section_moves : (active : (d.leaf.phase ≡ Running) ⊎ (d.leaf.phase ≡ Handling)) (current : Option Current) → d.leaf.current ≡ current
-      → Ends P (section_ended d current)
-  section_moves (inl e) None is = main_moves e d.component.node.provides
-  section_moves (inr e) None is = absurd (subst (λ p. Fits p None) e (subst (Fits d.leaf.phase) is fits))
-  section_moves (inl e) (Some g) is = absurd (subst (λ p. Fits p (Some g)) e (subst (Fits d.leaf.phase) is fits))
-  section_moves (inr e) (Some g) is = reply_moves e g
+  -- a leaf that runs or handles does not serve and has not exited
+  other : (phase : Phase) → (phase ≡ Running → ⊥) → (phase ≡ Handling → ⊥) → (d.leaf.phase ≡ Running) ⊎ (d.leaf.phase ≡ Handling)
+      → phase ≡ d.leaf.phase → ⊥
+  other phase runs handles active same = elim active [ inl e ↦ runs (same ∙ e) | inr e ↦ handles (same ∙ e) ]
+
+  serves_not : (d.leaf.phase ≡ Running) ⊎ (d.leaf.phase ≡ Handling) → Serving ≡ d.leaf.phase → ⊥
+  serves_not = other Serving (λ e. runs e) (λ e. handles e)
+    where
+      runs : Serving ≡ Running → ⊥
+      runs e = cc
+
+      handles : Serving ≡ Handling → ⊥
+      handles e = cc
+
+  exits_not : (d.leaf.phase ≡ Running) ⊎ (d.leaf.phase ≡ Handling) → Exited ≡ d.leaf.phase → ⊥
+  exits_not = other Exited (λ e. runs e) (λ e. handles e)
+    where
+      runs : Exited ≡ Running → ⊥
+      runs e = cc
+
+      handles : Exited ≡ Handling → ⊥
+      handles e = cc
+
+  section_moves : (active : (d.leaf.phase ≡ Running) ⊎ (d.leaf.phase ≡ Handling)) (current : Option Current) (reacting : Option ℕ) → d.leaf.current ≡ current
+      → Ends P (section_ended d current reacting)
+  section_moves active None None is = main_moves (serves_not active) (exits_not active) d.component.node.provides d.component.node.signals
+  section_moves active None (Some i) is = serves_moves (serves_not active)
+  section_moves (inl e) (Some g) reacting is = absurd (subst (λ p. Fits p (Some g)) e (subst (Fits d.leaf.phase) is fits))
+  section_moves (inr e) (Some g) reacting is = reply_moves e g reacting
 
   awake : (d.leaf.phase ≡ Running) ⊎ (d.leaf.phase ≡ Handling) → d.leaf.phase ≢ Blocked
   awake (inl e) f = runs (sym e ∙ f)
@@ -372,7 +399,7 @@ module _ (d : Doing) (t : TakesLeaf d) (h : IsLinkedWorld d.system d.world) wher
   perform_ends active Done is good = by d.leaf.loops refl
     where
       by : (loops : List Round) → d.leaf.loops ≡ loops → Ends P (body_ended d loops)
-      by [] at = section_moves active d.leaf.current refl
+      by [] at = section_moves active d.leaf.current d.leaf.reacting refl
       by (r ∷ loops) at = subst (λ l. Ends P (body_ended d l)) at (inside_as Done is (subst (λ l. IsInside Done l) (sym at) tt))
   perform_ends active (Do i rest) is good =
       ask_moves (awake active) rest i (λ own. inside_as (Do i rest) is (own, good.0.0))
@@ -388,11 +415,20 @@ module _ (d : Doing) (t : TakesLeaf d) (h : IsLinkedWorld d.system d.world) wher
       handles : Handling ≡ Serving → ⊥
       handles e = cc
 
+  -- a signal that is taken
+  serve_moves : (serves : d.leaf.phase ≡ Serving) (f : Option (ℕ × List Signal)) → Ends P (serve d f)
+  serve_moves serves None = accept_moves serves (oldest d.world d.x d.world.requests)
+  serve_moves serves (Some p) = need_ends P _ _ _ (λ body. gives _ Quiet (moved _
+      (stance Handling d.leaf.current) (leaf_stance d.world d.x t.old (reacting_to d.leaf p.0 p.1 body) t.there) (λ same. handles (same ∙ serves))))
+    where
+      handles : Handling ≡ Serving → ⊥
+      handles e = cc
+
   step_ends : AllAre (IsGood d.system d.component) d.leaf.todo → (phase : Phase) → d.leaf.phase ≡ phase → Ends P (step_in d phase)
   step_ends good Pending e = gives d.world Idle self
   step_ends good Running e = perform_ends (inl e) d.leaf.todo refl good
   step_ends good Blocked e = gives d.world Idle self
-  step_ends good Serving e = accept_moves e (oldest d.world d.x d.world.requests)
+  step_ends good Serving e = serve_moves e (first_signal d.leaf.signals)
   step_ends good Handling e = perform_ends (inr e) d.leaf.todo refl good
   step_ends good Exited e = gives d.world Idle self
 
@@ -405,7 +441,8 @@ module _ (s : Scenario) (w : World) (x : ℕ) (h : Stands s w) (old : Leaf) (the
   next_by None at = gives w Idle (λ leaf found same. leaves_self w x)
   next_by (Some c) at =
       step_ends (record { system = system s; world = w; x = x; component = c; leaf = record old { steps = suc old.steps } })
-      (record { old = old; there = there; slots = refl; phase = refl; current = refl }) h.linked ((h.left x c old at there).todo) old.phase refl
+      (record { old = old; there = there; slots = refl; phase = refl; current = refl; reacting = refl }) h.linked ((h.left x c old at there).todo) old.phase
+      refl
 
   pub leaves_all : (new : World) (event : Event) → next (system s) w x ≡ Ok (new, event) → (leaf : Leaf) → slice_get new.leaves x ≡ Some leaf
       → leaf.phase ≡ old.phase → LeavesAll w x new

@@ -1,23 +1,21 @@
--- The turns that are scheduled are reported, and where they are all of them every leaf is at rest.
-use Rattle.std.proofs.Common.{◌≡◌, ◌∙◌, ℕ, zero, suc, ◌+◌, ◌-◌, ◌≤◌, ◌^◌, ◌⊎◌, inl, inr, Bool, true, false, List, [], ◌∷◌, length, Option, Some, None, Ok}
+-- Turns that are scheduled are turns of leaves, and where they are all of them every leaf is at rest.
+use Rattle.std.proofs.Common.{◌≡◌, ◌∙◌, ℕ, zero, suc, ◌+◌, ◌⊎◌, inl, inr, Bool, true, false, List, [], ◌∷◌, Option, Some, None}
 use Rattle.std.proofs.Common.{refl, ap, sym, subst, arith, true≢false}
 use Rattle.std.specs.Prelude.{◌||◌, if◌then◌else◌, slice_get}
 use Rattle.gq_model.specs.machine.Program.{text_eq}
 use Rattle.gq_model.specs.machine.Routes.{numbered}
 use Rattle.gq_model.specs.machine.Scenario.{Component, Scenario, System, components, system}
-use Rattle.gq_model.specs.machine.World.{Leaf, World, start}
+use Rattle.gq_model.specs.machine.World.{Leaf, World}
 use Rattle.gq_model.specs.texts.Letters.{is_name}
-use Rattle.gq_model.specs.texts.Turns.{greatest_turns, turned}
+use Rattle.gq_model.specs.machine.Rest.{greatest_turns, can_run, runs_as, some_can}
 use Rattle.gq_model.proofs.Small_facts.{text_is, text_self}
 use Rattle.gq_laws.specs.Names.{NamesDiffer}
 use Rattle.gq_laws.specs.Progress.{AllRest}
-use Rattle.gq_laws.specs.Reached_worlds.{IsReached}
-use Rattle.gq_laws.specs.Turn_effects.{can_run, runs_as}
-use Rattle.gq_traces.specs.Schedule.{as_acts, chosen, greatest_choices, name_at, schedule_text, scheduled, scheduled_by, some_can}
+use Rattle.gq_traces.specs.Schedule.{greatest_choices, name_at, rest_by}
 use Rattle.rand_core.specs.Pcg32Seed.{pcg32_seed}
 use Rattle.rand_pcg.specs.Pcg.{pcg32_of_seed}
 use Rattle.gq_traces.proofs.Random_turn_schedule.{choices_taken}
-use Rattle.gq_traces.proofs.Turned_back.{IsCalled, read_back}
+use Rattle.gq_traces.proofs.Turned_back.{IsCalled}
 use Rattle.gq_traces.proofs.Scheduled_turn_runs.{IsTaken, rounds_taken}
 
 -- leaves have names
@@ -41,7 +39,7 @@ numbered_at (d ∷ cs) k (suc x) c e differ =
     by true same later = let n = differ 0 d refl (text_is c.node.name d.node.name same) in absurd (omega (arith, n))
     by false other later = later ∙ ap Some (omega arith)
 
-called : (s : Scenario) → NamesDiffer s → AreNames s → (x : ℕ) (c : Component) → slice_get (components s) x ≡ Some c → IsCalled (components s) x
+pub called : (s : Scenario) → NamesDiffer s → AreNames s → (x : ℕ) (c : Component) → slice_get (components s) x ≡ Some c → IsCalled (components s) x
 called s differ names x c e =
     record {
       name = c.node.name;
@@ -50,39 +48,13 @@ called s differ names x c e =
       found = numbered_at (components s) 0 x c e (λ y d f same. differ y x d c f e (sym same)) ∙ ap Some (omega arith);
     }
 
-pub all_taken : (s : Scenario) → NamesDiffer s → AreNames s → IsTaken (system s) greatest_turns (start (system s)) (scheduled s)
-unfolding scheduled
-all_taken s differ names = rounds_taken (system s) (called s differ names) (suc greatest_turns) greatest_turns (start (system s))
-
--- those by chance, too
-pub all_chosen : (seed : ℕ) (s : Scenario) → NamesDiffer s → AreNames s → IsTaken (system s) greatest_turns (start (system s)) (chosen seed s)
-unfolding chosen
-all_chosen seed s differ names =
-    choices_taken (system s) (called s differ names) greatest_choices greatest_turns (start (system s)) (pcg32_of_seed (pcg32_seed 16 seed))
-
-pub taken_by : (seed : Option ℕ) (s : Scenario) → NamesDiffer s → AreNames s → IsTaken (system s) greatest_turns (start (system s)) (scheduled_by seed s)
-taken_by None s differ names = all_taken s differ names
-taken_by (Some seed) s differ names = all_chosen seed s differ names
-
--- the text is read as the turns
-pub reported_back : (seed : Option ℕ) (s : Scenario) → NamesDiffer s → AreNames s → length (schedule_text seed s) ≤ 2 ^ 24
-    → turned s (schedule_text seed s) ≡ Ok (as_acts (scheduled_by seed s).turns)
-reported_back seed s differ names short =
-    let all = taken_by seed s differ names in
-    let left = all.counted in
-    let t = scheduled_by seed s in
-    read_back s t.turns (some_can (system s) t.world 0 (components s)) (greatest_turns - t.left) (omega arith) all.turns (omega (arith, left))
-    short
-
--- a run over the turns ends in the world that is scheduled
-pub is_reached : (seed : Option ℕ) (s : Scenario) → NamesDiffer s → AreNames s → IsReached s (scheduled_by seed s).world
-is_reached seed s differ names =
-    let all = taken_by seed s differ names in
-    record {
-      turns = as_acts (scheduled_by seed s).turns;
-      is = (all.runs (record { world = start (system s); text = []; wrong = None })
-          (record { world = refl; right = refl })).world;
-    }
+-- turns from any world on
+pub taken_by : (seed : Option ℕ) (s : Scenario) (n : ℕ) (w : World) → NamesDiffer s → AreNames s
+    → IsTaken (system s) n w (rest_by seed (system s) n w)
+unfolding rest_by
+taken_by None s n w differ names = rounds_taken (system s) (called s differ names) (suc greatest_turns) n w
+taken_by (Some seed) s n w differ names =
+    choices_taken (system s) (called s differ names) greatest_choices n w (pcg32_of_seed (pcg32_seed 16 seed))
 
 -- REST
 

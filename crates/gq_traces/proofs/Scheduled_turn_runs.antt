@@ -10,8 +10,7 @@ use Rattle.gq_model.specs.machine.Doing.{Event, Stepped}
 use Rattle.gq_model.specs.declared.fault.Wrong.{Wrong}
 use Rattle.gq_model.specs.machine.Step.{next}
 use Rattle.gq_model.specs.machine.Run.{Ran, Acts, act_on, after_step, run_on, turn_from, turns_of}
-use Rattle.gq_laws.specs.Turn_effects.{can_run}
-use Rattle.gq_traces.specs.Schedule.{Taken, and_further, as_acts, one_and, round, rounds, reported_turns, while_can}
+use Rattle.gq_model.specs.machine.Rest.{can_run, Taken, and_further, as_acts, one_and, round, rounds, reported_turns, while_can}
 use Rattle.gq_traces.proofs.Turned_back.{AreTurns, IsCalled, all_turns}
 
 and_few : (r : Stepped) (w : World) (n : ℕ) (go : World → ℕ × World) → ((u : World) → (go u).0 ≤ n) → (one_and w r go).0 ≤ suc n
@@ -63,7 +62,7 @@ pub run_on_both : (system : System) (xs ys : Acts) (ran : Ran) → run_on system
 run_on_both system [] ys ran = refl
 run_on_both system (t ∷ xs) ys ran = run_on_both system xs ys (act_on system t.0 t.1 ran)
 
-acts_both : (xs ys : List (ℕ × ℕ)) → as_acts (xs ++ ys) ≡ as_acts xs ++ as_acts ys
+pub acts_both : (xs ys : List (ℕ × ℕ)) → as_acts (xs ++ ys) ≡ as_acts xs ++ as_acts ys
 acts_both [] ys = refl
 acts_both (t ∷ xs) ys = ap (λ l. (t.0, Turns t.1) ∷ l) (acts_both xs ys)
 

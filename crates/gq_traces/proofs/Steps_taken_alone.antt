@@ -1,5 +1,6 @@
 -- Steps that a leaf takes alone, of which nothing is reported.
-use Rattle.std.proofs.Common.{◌≡◌, ◌∙◌, ℕ, zero, suc, ◌+◌, ◌<◌, Bool, true, false, List, [], ◌∷◌, ◌++◌, length, Some, Ok, refl, ap, sym, subst, arith}
+use Rattle.std.proofs.Common.{◌≡◌, ◌∙◌, ℕ, zero, suc, ◌+◌, ◌<◌, Bool, true, false, List, [], ◌∷◌, ◌++◌, length, Option, Some, None, Ok, refl, ap, sym}
+use Rattle.std.proofs.Common.{subst, arith, true≢false}
 use Rattle.std.proofs.Math.Logic.{∥∥₁_elim}
 use Rattle.std.specs.Prelude.{slice_get, slice_set}
 use Rattle.gq_bytecode.specs.Alones.{LocalState}
@@ -12,7 +13,8 @@ use Rattle.gq_model.specs.declared.phase.Phase.{Phase}
 use Rattle.gq_model.specs.declared.phase.Phase.TheVariants as phase
 use Rattle.gq_model.specs.machine.Amounts.{Ram, Caps}
 use Rattle.gq_model.specs.machine.Doing.{Quiet}
-use Rattle.gq_model.specs.machine.Scenario.{Scenario, System, components, system}
+use Rattle.gq_model.specs.machine.Scenario.{Component, Scenario, System, components, system}
+use Rattle.gq_model.specs.machine.Rest.{can_run, runs, runs_as, while_can}
 use Rattle.gq_model.specs.machine.Step.{next}
 use Rattle.gq_model.specs.machine.Sums.{held}
 use Rattle.gq_model.specs.machine.World as model
@@ -32,6 +34,7 @@ use Rattle.gq_traces.specs.internal.Follows.{Follows, IsFollowed}
 use Rattle.gq_traces.specs.internal.Noted.{AreNoted, IsUse}
 use Rattle.gq_traces.specs.internal.Printed_steps.{CanTrace, GoesOn, IsOn, IsSilent, PassesBy, budgets_of, takes_own}
 use Rattle.gq_traces.proofs.Own_turns.{due_there, own_goes_by, own_stand}
+use Rattle.gq_traces.proofs.Repeated_leaf_turns.{while_step}
 use Rattle.gq_traces.proofs.Still_noted.{step_left}
 use Rattle.gq_traces.proofs.Printed_turns.{silent_text, taken_on}
 use Rattle.gq_traces.proofs.Unchanged_accounts_step.{amount_self, phase_self}
@@ -80,7 +83,7 @@ module _ (s : Scenario) (x : ℕ) where
 
 module _ (s : Scenario) (x : ℕ) (less : x < length (components s)) (programs : List Entries) (are : ArePrograms programs (programs_of s)) (stopped : Bool) where
   abbrev at : model.World → World
-  at w = record { scenario = s; world = w; stopped = stopped }
+  at w = record { scenario = s; world = w; failed = false; stopped = stopped; signals = 0 }
 
   module _ (w : model.World) (leaf : Leaf) (st : LocalState) (old mid : List places.Ahead) (there : slice_get w.leaves x ≡ Some leaf)
       (active : Active leaf.phase)
@@ -180,6 +183,27 @@ pub stands_still : (s : Scenario) (x : ℕ) → x < length (components s) → (p
     → length w.leaves ≡ length (components s) → AllStand programs old → AllStand programs new
 stands_still s x less programs are stopped n w v old new h count = (gone s x less programs are stopped n w v old new h count).stand
 
+-- a leaf that takes a step alone can take a further one
+runs_active : (w : model.World) (x : ℕ) (leaf : Leaf) (p : Phase) → Active p → runs w x leaf p ≡ true
+runs_active w x leaf phase.Running h = refl
+runs_active w x leaf phase.Handling h = refl
+runs_active w x leaf phase.Pending h = absurd h
+runs_active w x leaf phase.Blocked h = absurd h
+runs_active w x leaf phase.Serving h = absurd h
+runs_active w x leaf phase.Exited h = absurd h
+
+pub still_able : (system : System) (w : model.World) (x : ℕ) (leaf : Leaf) (st : LocalState) → slice_get w.leaves x ≡ Some leaf → Active leaf.phase
+    → can_run system w x ≡ true → can_run system (with_leaf w x (leaf_with leaf st)) x ≡ true
+still_able system w x leaf st there active can =
+    let new = leaf_with leaf st in
+    let u = with_leaf w x new in
+    ap (runs_as u x (slice_get system.components x)) (set_here w.leaves x new leaf there)
+    ∙ by (slice_get system.components x) (sym (ap (runs_as w x (slice_get system.components x)) there) ∙ can)
+  where
+    by : (c : Option Component) → runs_as w x c (Some leaf) ≡ true → runs_as (with_leaf w x (leaf_with leaf st)) x c (Some (leaf_with leaf st)) ≡ true
+    by None e = absurd (true≢false (sym e))
+    by (Some c) e = runs_active (with_leaf w x (leaf_with leaf st)) x (leaf_with leaf st) leaf.phase active
+
 -- steps and more steps
 module _ (system : System) (programs : List Entries) (x : ℕ) where
   pub steps_then : (n m k : ℕ) → k ≡ n + m → (w v u : model.World) (a b c : List places.Ahead) → StepsAlone system programs x n w v a b
@@ -199,13 +223,24 @@ steps_as s P Q A B C D x n w v p a c h =
     subst (λ R. StepsAlone (system s) R x n w v B D) p
     (subst (λ l. StepsAlone (system s) P x n w v l D) a (subst (λ l. StepsAlone (system s) P x n w v A l) c h))
 
+-- each is a step, after which the leaf can take a further one
+pub able_alone : (programs : List Entries) (x n : ℕ) (w v : model.World) (old new : List places.Ahead) (system : System)
+    → StepsAlone system programs x n w v old new → can_run system w x ≡ true
+    → (while_can n system w x ≡ (n, v)) × (can_run system v x ≡ true)
+able_alone programs x zero w v old new system h can = (ap (λ (u : model.World). (0, u)) h.0, subst (λ (u : model.World). can_run system u x ≡ true) h.0 can)
+able_alone programs x (suc n) w v old new system h can =
+    let u = with_leaf w x (leaf_with h.0 h.1) in
+    let more = able_alone programs x n u v h.2 new system h.7 (still_able system w x h.0 h.1 h.3 h.4 can) in
+    (while_step n system w u x can (record { event = Quiet; goes = h.5 }) ∙ ap (λ (p : ℕ × model.World). (suc p.0, p.1)) more.0, more.1)
+
 -- turns of which nothing is reported, of a trace on the way
-pub silent : (old new : World) (before after : Tracing) (x n : ℕ) → new.scenario ≡ old.scenario → x < length (components old.scenario)
+pub silent : (old new : World) (before after : Tracing) (x n : ℕ) → new.scenario ≡ old.scenario → new.stopped ≡ false → new.signals ≡ old.signals → x <
+    length (components old.scenario)
     → ∥ Stands old.scenario old.world ∥₁ → length old.world.leaves ≡ length (components old.scenario) → CanTrace old before
     → after.programs ≡ before.programs → after.notes ≡ before.notes
     → StepsAlone (system old.scenario) before.programs.items x n old.world new.world before.aheads.items after.aheads.items
     → IsSilent false x n old new before after
-silent old new before after x n same less stands count can programs notes steps =
+silent old new before after x n same running signals less stands count can programs notes steps =
     let s = old.scenario in
     let g = gone s x less before.programs.items can.programs old.stopped n old.world new.world before.aheads.items after.aheads.items steps count in
     let h = unreported s x less before.programs.items can.programs old.stopped n old.world new.world before.aheads.items after.aheads.items before.notes steps
@@ -213,7 +248,10 @@ silent old new before after x n same less stands count can programs notes steps 
     let items = ap (λ p. p.items) programs in
     record {
       scenario = same;
+      signals = signals;
+      able = able_alone before.programs.items x n old.world new.world before.aheads.items after.aheads.items (system s) steps;
       can = record {
+        running = running;
         programs = subst (λ l. ArePrograms l (programs_of new.scenario)) (sym items)
             (subst (λ (r : Scenario). ArePrograms before.programs.items (programs_of r)) (sym same) can.programs);
         stands = subst (λ l. AllStand l after.aheads.items) (sym items) (g.stand can.stands);
@@ -235,6 +273,8 @@ pub no_silent : (all : Bool) (w : World) (t : Tracing) (x : ℕ) → CanTrace w 
 no_silent all w t x can =
     record {
       scenario = refl;
+      signals = refl;
+      able = λ can. (refl, can);
       can = can;
       uses = λ u is. is;
       none = λ turns v on. refl;
@@ -242,19 +282,20 @@ no_silent all w t x can =
     }
 
 -- turns that are taken unreported
-pub followed : (old new : World) (before after : Followed) (x n : ℕ) → new.scenario ≡ old.scenario → new.stopped ≡ old.stopped
+pub followed : (old new : World) (before after : Followed) (x n : ℕ) → new.scenario ≡ old.scenario → new.stopped ≡ false → new.signals ≡ old.signals
     → x < length (components old.scenario) → length old.world.leaves ≡ length (components old.scenario) → IsFollowed before old
     → after.programs ≡ before.programs
     → StepsAlone (system old.scenario) before.programs.items x n old.world new.world before.aheads.items after.aheads.items
-    → Follows (after_turns (system old.scenario) x n) old new before after
-followed old new before after x n same stopped less count h programs steps =
+    → Follows 0 (after_turns (system old.scenario) x n) old new before after
+followed old new before after x n same running signals less count h programs steps =
     let s = old.scenario in
     let g = gone s x less before.programs.items h.programs old.stopped n old.world new.world before.aheads.items after.aheads.items steps count in
     let items = ap (λ p. p.items) programs in
     record {
       scenario = same;
-      stopped = stopped;
+      signals = omega (arith, signals);
       followed = record {
+        running = running;
         programs = subst (λ l. ArePrograms l (programs_of new.scenario)) (sym items)
             (subst (λ (r : Scenario). ArePrograms before.programs.items (programs_of r)) (sym same) h.programs);
         stand = subst (λ l. AllStand l after.aheads.items) (sym items) (g.stand h.stand);

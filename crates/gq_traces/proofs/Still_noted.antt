@@ -6,26 +6,30 @@ use Rattle.std.proofs.Math.Logic.{∥∥₁_elim}
 use Rattle.std.proofs.lemmas.Bool.{and_parts, eqb-true}
 use Rattle.std.proofs.lemmas.Option.{slice_get-map}
 use Rattle.std.specs.Coded.{Coded, Coded-set, coded_list, coded_ℕ, codes}
-use Rattle.std.specs.Prelude.{slice_get, slice_set}
-use Rattle.gq_model.specs.machine.Accounts.{Account, accounts, leaf_count}
+use Rattle.std.specs.Prelude.{if◌then◌else◌, slice_get, slice_set}
+use Rattle.gq_model.specs.machine.Accounts.{Account, leaf_count}
 use Rattle.gq_model.specs.machine.Doing.{Event}
 use Rattle.gq_model.specs.machine.Run.{line_of}
 use Rattle.gq_model.specs.machine.Scenario.{Scenario, components, system}
 use Rattle.gq_model.specs.machine.Step.{next}
+use Rattle.gq_model.specs.machine.Step_budgets.{all_steps_in}
+use Rattle.gq_model.proofs.Small_facts.{none_some, some_same}
 use Rattle.gq_model.specs.machine.World as model
 use Rattle.gq_laws.specs.Stands.{Stands}
 use Rattle.gq_scenario.specs.Sizes.{leaf_places}
 use Rattle.gq_scenario.proofs.Preorder_leaves.{components-count}
 use Rattle.gq_output.specs.Account_values.{AccountValues}
 use Rattle.gq_machine.specs.Machines.{Machine}
-use Rattle.gq_world.specs.Account_lines.{accounts_by, all_accounts}
+use Rattle.gq_world.specs.Account_lines.{all_accounts}
 use Rattle.gq_world.specs.World_between_turns.{World}
-use Rattle.gq_traces.specs.Trace.{Standing, PrintedSession, account_change, account_changes, changes, same_phase, standing_of, printed_session}
+use Rattle.gq_traces.specs.Trace.{Standing, PrintedSession, account_change, account_changes, accounts_in, changes, same_phase, same_standing, standing_of}
+use Rattle.gq_traces.specs.Trace.{printed_session}
 use Rattle.gq_model.specs.machine.Amounts.{same_amount, counts_caps}
 use Rattle.gq_traces.specs.declared.noted.PrintedState.{PrintedState}
 use Rattle.gq_traces.specs.declared.noted.Use.{Use}
 use Rattle.gq_traces.specs.internal.Noted.{AreNoted, IsRenewed, IsReported, IsUse, standing_in}
 use Rattle.gq_traces.specs.internal.Printed_steps.{budgets_of}
+use Rattle.gq_traces.proofs.Accounts_by_budgets.{seen, seen_at, standing_free}
 use Rattle.gq_traces.proofs.Same_phase_step.{LeavesAll, leaves_all}
 use Rattle.gq_traces.proofs.Leaves_standing.{from_some}
 use Rattle.gq_traces.proofs.One_else.{IsThere, OneElse, accounts_but, one_change, one_noted}
@@ -93,7 +97,7 @@ module _ (old new : World) (x : ℕ) (event : Event) (stands : ∥ Stands old.sc
 
   -- the sessions are noted of the new world, too, and so are these accounts
   noted_then : (n m : PrintedState) → AreNoted old.scenario old.world n → m.sessions ≡ n.sessions → m.count ≡ n.count
-      → map standing_in m.accounts.items ≡ map standing_of (accounts old.scenario new.world (budgets_of old.scenario))
+      → map standing_in m.accounts.items ≡ map standing_of (accounts_in old.scenario new.world (budgets_of old.scenario))
       → AreNoted new.scenario new.world m
   noted_then n m h sessions count of_accounts =
       subst (λ (s : Scenario). AreNoted s new.world m) (sym same) (record {
@@ -109,8 +113,8 @@ module _ (old new : World) (x : ℕ) (event : Event) (stands : ∥ Stands old.sc
 
   -- what is reported beside the line is of accounts
   changes_by : (label reported : List ℕ)
-      → account_changes old.scenario.version (map standing_of (accounts old.scenario old.world (budgets_of old.scenario)))
-      (accounts old.scenario new.world (budgets_of old.scenario)) ≡ reported
+      → account_changes old.scenario.version (map standing_of (accounts_in old.scenario old.world (budgets_of old.scenario)))
+      (accounts_in old.scenario new.world (budgets_of old.scenario)) ≡ reported
       → changes old.scenario (budgets_of old.scenario) label old.world new.world event ≡ line_of label event ++ reported
   changes_by label reported e =
       let s = old.scenario in
@@ -121,26 +125,30 @@ module _ (old new : World) (x : ℕ) (event : Event) (stands : ∥ Stands old.sc
   -- THE LEAF HOLDS WHAT IT HELD
 
   module _ (so : StaysSo old.scenario.version old.world new.world x p) where
-    accounts_still : (b : List ℕ) → map standing_of (accounts old.scenario new.world b) ≡ map standing_of (accounts old.scenario old.world b)
-    accounts_still b = ∥∥₁_elim stands (Coded-set standings_code _ _) (λ h. accounts_stand old.scenario old.world x new.world (left h) p so b)
+    accounts_still : map standing_of (accounts_in old.scenario new.world (budgets_of old.scenario))
+        ≡ map standing_of (accounts_in old.scenario old.world (budgets_of old.scenario))
+    accounts_still =
+        let b = budgets_of old.scenario in
+        standing_free old.scenario new.world (all_steps_in new.world b) (all_steps_in old.world b)
+        ∙ ∥∥₁_elim stands (Coded-set standings_code _ _) (λ h. accounts_stand old.scenario old.world x new.world (left h) p so (all_steps_in old.world b))
 
     noted_still : (n : PrintedState) → AreNoted old.scenario old.world n → AreNoted new.scenario new.world n
-    noted_still n h = noted_then n n h refl refl (h.accounts ∙ sym (accounts_still (budgets_of old.scenario)))
+    noted_still n h = noted_then n n h refl refl (h.accounts ∙ sym accounts_still)
 
     changes_still : (label : List ℕ) → changes old.scenario (budgets_of old.scenario) label old.world new.world event ≡ line_of label event
     changes_still label =
         let s = old.scenario in
         let b = budgets_of s in
-        changes_by label [] (ap (λ l. account_changes s.version l (accounts s new.world b)) (sym (accounts_still b))
-        ∙ no_account_changes s.version (accounts s new.world b)) ∙ append-nil (line_of label event)
+        changes_by label [] (ap (λ l. account_changes s.version l (accounts_in s new.world b)) (sym accounts_still)
+        ∙ no_account_changes s.version (accounts_in s new.world b)) ∙ append-nil (line_of label event)
 
   -- IT HOLDS MORE OR LESS
 
   module _ (was_all : length old.world.leaves ≡ length (components old.scenario)) (is_all : length new.world.leaves ≡ length (components new.scenario))
       (place : ℕ) (at : slice_get (leaf_places 1 old.scenario.nodes) x ≡ Some place) (a : Account)
-      (there : slice_get (accounts old.scenario new.world (budgets_of old.scenario)) place ≡ Some a) where
+      (there : slice_get (accounts_in old.scenario new.world (budgets_of old.scenario)) place ≡ Some a) where
     each_there : (h : LeavesAll old.world x new.world) (z : ℕ) → z < leaf_count old.scenario.nodes
-        → IsThere old.scenario.version old.world x new.world h (system old.scenario) (budgets_of old.scenario) z
+        → IsThere old.scenario.version old.world x new.world h (system old.scenario) (all_steps_in old.world (budgets_of old.scenario)) z
     each_there h z less =
         let count = components-count old.scenario in
         let same_count = ap (λ (s : Scenario). length (components s)) same in
@@ -149,9 +157,14 @@ module _ (old new : World) (x : ℕ) (event : Event) (stands : ∥ Stands old.sc
         let m = there_is new.world.leaves z (omega (arith, less, count, is_all, same_count)) in
         record { component = c.0; at = c.1; was = l.0; there = l.1; is = m.0; here = m.1 }
 
-    but : (h : LeavesAll old.world x new.world) → OneElse (map standing_of (accounts old.scenario old.world (budgets_of old.scenario)))
-        (map standing_of (accounts old.scenario new.world (budgets_of old.scenario))) place
-    but h = accounts_but old.scenario old.world x new.world h (budgets_of old.scenario) place at (each_there h)
+    but : (h : LeavesAll old.world x new.world) → OneElse (map standing_of (accounts_in old.scenario old.world (budgets_of old.scenario)))
+        (map standing_of (accounts_in old.scenario new.world (budgets_of old.scenario))) place
+    but h =
+        let s = old.scenario in
+        let b = all_steps_in old.world (budgets_of s) in
+        subst (λ l. OneElse (map standing_of (accounts_in s old.world (budgets_of s))) l place)
+        (standing_free s new.world b (all_steps_in new.world (budgets_of s)))
+        (accounts_but s old.world x new.world h b place at (each_there h))
 
     changes_own : (n : PrintedState) → AreNoted old.scenario old.world n → (noted : AccountValues) → slice_get n.accounts.items place ≡ Some noted →
         (label : List ℕ)
@@ -160,10 +173,10 @@ module _ (old new : World) (x : ℕ) (event : Event) (stands : ∥ Stands old.sc
     changes_own n h noted before label =
         let s = old.scenario in
         let b = budgets_of s in
-        let was : slice_get (map standing_of (accounts s old.world b)) place ≡ Some (standing_in noted) =
+        let was : slice_get (map standing_of (accounts_in s old.world b)) place ≡ Some (standing_in noted) =
         ap (λ l. slice_get l place) (sym h.accounts) ∙ (slice_get-map standing_in n.accounts.items place ∙ ap (option_map standing_in) before) in
         changes_by label (account_change s.version (standing_in noted) a) (∥∥₁_elim stands (Coded-set (coded_list coded_ℕ) _ _) (λ h.
-        one_change s.version (map standing_of (accounts s old.world b)) (accounts s new.world b) place (but (left h)) (standing_in noted) a was there))
+        one_change s.version (map standing_of (accounts_in s old.world b)) (accounts_in s new.world b) place (but (left h)) (standing_in noted) a was there))
 
     noted_own : (n m : PrintedState) → AreNoted old.scenario old.world n → m.sessions ≡ n.sessions → m.count ≡ n.count → (now : AccountValues) → standing_in
         now ≡ standing_of a
@@ -172,8 +185,8 @@ module _ (old new : World) (x : ℕ) (event : Event) (stands : ∥ Stands old.sc
         let s = old.scenario in
         let b = budgets_of s in
         noted_then n m h sessions count (ap (map standing_in) set ∙ ∥∥₁_elim stands (Coded-set standings_code _ _) (λ t.
-        one_noted standing_in n.accounts.items (accounts s new.world b) place
-        (subst (λ l. OneElse l (map standing_of (accounts s new.world b)) place) (sym h.accounts) (but (left t))) now a there is))
+        one_noted standing_in n.accounts.items (accounts_in s new.world b) place
+        (subst (λ l. OneElse l (map standing_of (accounts_in s new.world b)) place) (sym h.accounts) (but (left t))) now a there is))
 
 -- a step that leaves its leaf in its phase with what it holds
 pub step_left : (old new : World) (x : ℕ) (event : Event) (m n : Machine) (a b : Use) → ∥ Stands old.scenario old.world ∥₁ → new.scenario ≡ old.scenario
@@ -201,16 +214,29 @@ pub step_own : (old new : World) (x : ℕ) (event : Event) (m n : Machine) (a b 
     → AreNoted new.scenario new.world after
     × (changes old.scenario (budgets_of old.scenario) label old.world new.world event
     ≡ line_of label event ++ account_change old.scenario.version (standing_in was) account)
-unfolding all_accounts accounts_by
 step_own old new x event m n a b stands same goes m_is n_is g h phase was_all is_all before after noted place at account there was was_there renewed label =
     let u = use_in m old x a m_is g in
     let v = use_in n new x b n_is h in
     let p = same_phase_of old new x a b u v phase in
     let at_old = ap (λ (s : Scenario). slice_get (leaf_places 1 s.nodes) x) (sym same) ∙ at in
-    let there_old = ap (λ (s : Scenario). slice_get (accounts s new.world (budgets_of s)) place) (sym same) ∙ there in
-    let now = from_some (slice_get (accounts new.scenario new.world (budgets_of new.scenario)) place) (λ z. standing_in renewed.now ≡ standing_of z) account
-    there renewed.is in (
-      noted_own old new x event stands same goes p was_all is_all place at_old account there_old before after noted renewed.sessions renewed.count
+    let exact = seen_there new.scenario.version (slice_get (accounts_in new.scenario new.world (budgets_of new.scenario)) place) account
+    (seen_at new place account there) in
+    let there_old = ap (λ (s : Scenario). slice_get (accounts_in s new.world (budgets_of s)) place) (sym same) ∙ exact.1 in
+    let now = from_some (slice_get (all_accounts new) place) (λ z. standing_in renewed.now ≡ standing_of z) account there renewed.is
+    ∙ ap (λ (z : Standing × List ℕ). z.0) (sym exact.2) in
+    let version = ap (λ (s : Scenario). s.version) same in (
+      noted_own old new x event stands same goes p was_all is_all place at_old exact.0 there_old before after noted renewed.sessions renewed.count
           renewed.now now renewed.accounts,
-      changes_own old new x event stands same goes p was_all is_all place at_old account there_old before noted was was_there label,
+      changes_own old new x event stands same goes p was_all is_all place at_old exact.0 there_old before noted was was_there label
+          ∙ ap (λ l. line_of label event ++ l) (ap (λ k. account_change k (standing_in was) exact.0) (sym version)
+          ∙ change_seen new.scenario.version (standing_in was) exact.0 account exact.2 ∙ ap (λ k. account_change k (standing_in was) account) version),
     )
+  where
+    -- an account that is seen as another is
+    seen_there : (version : ℕ) (o : Option Account) (a : Account) → option_map (seen version) o ≡ Some (seen version a)
+        → (c : Account) × (o ≡ Some c) × (seen version c ≡ seen version a)
+    seen_there version None a e = absurd (none_some e)
+    seen_there version (Some c) a e = (c, refl, some_same e)
+
+    change_seen : (version : ℕ) (old : Standing) (a b : Account) → seen version a ≡ seen version b → account_change version old a ≡ account_change version old b
+    change_seen version old a b e = ap (λ (p : Standing × List ℕ). if same_standing old p.0 then [] else p.1) e

@@ -1,8 +1,8 @@
 -- How many lines and bytes a list of turns has that is scheduled.
-use Rattle.std.proofs.Common.{◌≡◌, ◌∙◌, ℕ, zero, suc, ◌+◌, ◌-◌, ◌*◌, ◌<◌, ◌≤◌, ◌^◌, ◌⊎◌, inl, inr, Bool, true, false, List, [], ◌∷◌, ◌++◌, length, Option}
+use Rattle.std.proofs.Common.{◌≡◌, ◌∙◌, ℕ, zero, suc, ◌+◌, ◌-◌, ◌*◌, ◌<◌, ◌≤◌, ◌⊎◌, inl, inr, Bool, true, false, List, [], ◌∷◌, ◌++◌, length, Option}
 use Rattle.std.proofs.Common.{Some, None, Ok, Err}
 use Rattle.std.proofs.Common.{refl, ap, sym, subst, arith, true≢false, length-append}
-use Rattle.std.specs.Prelude.{if◌then◌else◌, nat_le, slice_get, sum_by, option_map, codes, decimal}
+use Rattle.std.specs.Prelude.{if◌then◌else◌, map, nat_le, slice_get, sum_by, option_map, codes, decimal}
 use Rattle.std.proofs.lemmas.List.Sums.{sum_by-append, sum_by-cons}
 use Rattle.std.proofs.lemmas.Option.{slice_get-map}
 use Rattle.std.proofs.lemmas.List.{length-map}
@@ -10,25 +10,26 @@ use Rattle.std.proofs.lemmas.Bool.{and_parts, leb-true}
 use Rattle.std.proofs.lemmas.Fmt.{length-decimal-le}
 use Rattle.gq_model.specs.machine.Lists.{all_of, between}
 use Rattle.gq_model.specs.texts.Letters.{is_name_byte}
-use Rattle.gq_model.specs.texts.Turns.{greatest_turns, turned}
+use Rattle.gq_model.specs.declared.act.TurnLine.TheVariants.{Gives}
+use Rattle.gq_model.specs.machine.Rest.{greatest_turns, can_run, runs, runs_as, Taken, and_further, one_and, round, rounds}
+use Rattle.gq_model.specs.machine.Rest.{reported_turns, while_can}
 use Rattle.gq_laws.specs.Names.{NamesDiffer}
 use Rattle.gq_model.specs.declared.phase.Phase.{Phase}
 use Rattle.gq_model.specs.declared.phase.Phase.TheVariants.{Pending, Running, Blocked, Serving, Handling, Exited}
 use Rattle.gq_model.specs.machine.Scenario.{Component, Scenario, System, components, system}
-use Rattle.gq_model.specs.machine.World.{Current, Leaf, World, start}
-use Rattle.gq_model.specs.declared.act.Act.TheVariants.{Turns, Sets}
+use Rattle.gq_model.specs.machine.World.{Leaf, World, start}
+use Rattle.gq_model.specs.declared.act.Act.TheVariants.{Turns, Sets, Submits}
 use Rattle.gq_model.specs.declared.fault.Wrong.{Wrong}
 use Rattle.gq_model.specs.machine.Doing.{Event, Stepped}
 use Rattle.gq_model.specs.machine.Step.{next}
-use Rattle.gq_model.specs.machine.Run.{Ran, Acts, run, set_from, set_input}
+use Rattle.gq_model.specs.machine.Run.{Ran, Acts, run, set_from, set_input, submit, submit_from}
 use Rattle.gq_model.proofs.Small_facts.{none_some, some_same}
 use Rattle.gq_laws.specs.Session_links.{IsLinkedWorld, Stance, stance}
 use Rattle.gq_laws.specs.Reached_worlds.{IsReached}
-use Rattle.gq_laws.specs.Turn_effects.{can_run, runs, runs_as}
-use Rattle.gq_traces.specs.Schedule.{Taken, and_further, as_acts, cut_lines, one_and, round, rounds, schedule_lines, schedule_text, scheduled, some_can}
-use Rattle.gq_traces.specs.Schedule.{reported_turns, turn_line, while_can}
+use Rattle.gq_traces.specs.Schedule.{as_lines, cut_lines, given_line, greatest_text, rest_by, scheduled_by}
+use Rattle.gq_traces.proofs.Fitting_lines.{bytes}
 use Rattle.gq_traces.proofs.Turned_back.{AreTurns, IsCalled, all_turns}
-use Rattle.gq_traces.proofs.Schedule_runs.{AreNames, all_taken, reported_back}
+use Rattle.gq_traces.proofs.Schedule_runs.{AreNames, taken_by}
 use Rattle.gq_views.specs.Listing.{joined}
 use Rattle.gq_traces.proofs.Scheduled_turn_runs.{IsAt, run_on_both, step_runs, while_few}
 use Rattle.gq_traces.proofs.Leaf_progress_measure.{Gains, IsGoing, goes, next_gains, stances, value, worth_of}
@@ -36,13 +37,13 @@ use Rattle.gq_traces.proofs.Leaf_progress_measure.{Gains, IsGoing, goes, next_ga
 abbrev pub worth : World → ℕ
 worth w = sum_by value (stances w)
 
-goes_runs : (w : World) (x : ℕ) (phase : Phase) → goes phase ≡ true → runs w x phase ≡ true
-goes_runs w x Pending g = absurd (true≢false (sym g))
-goes_runs w x Running g = refl
-goes_runs w x Blocked g = absurd (true≢false (sym g))
-goes_runs w x Serving g = absurd (true≢false (sym g))
-goes_runs w x Handling g = refl
-goes_runs w x Exited g = absurd (true≢false (sym g))
+goes_runs : (w : World) (x : ℕ) (leaf : Leaf) (phase : Phase) → goes phase ≡ true → runs w x leaf phase ≡ true
+goes_runs w x leaf Pending g = absurd (true≢false (sym g))
+goes_runs w x leaf Running g = refl
+goes_runs w x leaf Blocked g = absurd (true≢false (sym g))
+goes_runs w x leaf Serving g = absurd (true≢false (sym g))
+goes_runs w x leaf Handling g = refl
+goes_runs w x leaf Exited g = absurd (true≢false (sym g))
 
 -- a leaf that goes on can take a turn
 still_can : (system : System) (w v : World) (x : ℕ) → can_run system w x ≡ true → IsGoing x (stances v) → can_run system v x ≡ true
@@ -56,9 +57,9 @@ still_can system w v x can going = by (slice_get system.components x) can (slice
     by (Some c) could (Some leaf) e =
         let same : stance leaf.phase leaf.current ≡ going.found = some_same (sym (slice_get-map (λ (l : Leaf). stance l.phase l.current) v.leaves x
         ∙ ap (option_map (λ (l : Leaf). stance l.phase l.current)) e) ∙ going.there) in
-        goes_runs v x leaf.phase (ap (λ (t : Stance). goes t.phase) same ∙ going.goes)
+        goes_runs v x leaf leaf.phase (ap (λ (t : Stance). goes t.phase) same ∙ going.goes)
 
--- turns and settings after which a run is in this world, with no step that was wrong
+-- turns, settings and signals after which a run is in this world, with no step that was wrong
 abbrev pub Reaches : Scenario → World → Type 0
 Reaches s w = (turns : Acts) × IsAt (run (system s) turns) w
 
@@ -81,6 +82,19 @@ reaches_set s w x i n h = (
     is_set ran at =
         subst (λ (o : Option (ℕ × Wrong)). IsAt (set_from (system s) x i n ran o) (set_input (system s) w x i n)) (sym at.right)
         (record { world = ap (λ (v : World). set_input (system s) v x i n) at.world; right = at.right })
+
+pub reaches_submit : (s : Scenario) (w : World) (x i : ℕ) → Reaches s w → Reaches s (submit w x i)
+reaches_submit s w x i h = (
+  h.0 ++ (x, Submits i) ∷ [],
+  subst (λ (r : Ran). IsAt r (submit w x i))
+      (sym (run_on_both (system s) h.0 ((x, Submits i) ∷ []) (record { world = start (system s); text = []; wrong = None })))
+      (is_submitted (run (system s) h.0) h.1),
+)
+  where
+    is_submitted : (ran : Ran) → IsAt ran w → IsAt (submit_from x i ran ran.wrong) (submit w x i)
+    is_submitted ran at =
+        subst (λ (o : Option (ℕ × Wrong)). IsAt (submit_from x i ran o) (submit w x i)) (sym at.right)
+        (record { world = ap (λ (v : World). submit v x i) at.world; right = at.right })
 
 -- turns of the x-th leaf, at most n
 record Line (s : Scenario) (n x : ℕ) (w : World) (p : ℕ × World) : Type 0 where
@@ -211,16 +225,19 @@ module _ (s : Scenario) (linked : (w : World) → IsReached s w → IsLinkedWorl
 
 worth_few : (ts : List Stance) → sum_by value ts ≤ 3 * length ts
 worth_few [] = omega arith
-worth_few (t ∷ ts) = omega (arith, sum_by-cons value t ts, by t.phase t.current, worth_few ts)
+worth_few (t ∷ ts) = omega (arith, sum_by-cons value t ts, by t.phase, worth_few ts)
   where
-    by : (phase : Phase) (current : Option Current) → worth_of phase current ≤ 3
-    by Pending current = omega arith
-    by Running current = omega arith
-    by Blocked None = omega arith
-    by Blocked (Some current) = omega arith
-    by Serving current = omega arith
-    by Handling current = omega arith
-    by Exited current = omega arith
+    by : (phase : Phase) → worth_of phase ≤ 3
+    by Pending = omega arith
+    by Running = omega arith
+    by Blocked = omega arith
+    by Serving = omega arith
+    by Handling = omega arith
+    by Exited = omega arith
+
+-- the line of turns of a leaf
+abbrev pub turn_line : List Component → ℕ × ℕ → List ℕ
+turn_line cs t = given_line cs (Gives t.0 (Turns t.1))
 
 pub line_short : (cs : List Component) (t : ℕ × ℕ) → IsCalled cs t.0 → length (turn_line cs t) ≤ 17 + length (decimal t.1)
 line_short cs t called =
@@ -243,32 +260,29 @@ cut_short n few =
       length-decimal-le 7 n (omega arith) (omega (arith, few)) (omega (arith, few)),
     )
 
-lines_short : (cs : List Component) (ts : List (ℕ × ℕ)) (cut : Bool) (n : ℕ) → n ≤ greatest_turns → AreTurns cs ts → all_turns ts ≤ greatest_turns
-    → length (joined (schedule_lines cs ts cut n)) ≤ 25 * length ts + 26
-lines_short cs [] true n most h few = let cut = cut_short n most in omega (arith, cut)
-lines_short cs [] false n most h few = omega arith
-lines_short cs (t ∷ ts) cut n most h few =
+lines_short : (cs : List Component) (ts : List (ℕ × ℕ)) → AreTurns cs ts → all_turns ts ≤ greatest_turns → bytes cs (as_lines ts) ≤ 25 * length ts
+lines_short cs [] h few = omega arith
+lines_short cs (t ∷ ts) h few =
     let sum = sum_by-cons (λ (t : ℕ × ℕ). t.1) t ts in
     omega (
       arith,
-      joined_both (turn_line cs t) (schedule_lines cs ts cut n),
+      joined_both (turn_line cs t) (map (given_line cs) (as_lines ts)),
       line_short cs t h.0,
       length-decimal-le 7 t.1 (omega arith) (omega (arith, sum, few)) (omega (arith, sum, few)),
-      lines_short cs ts cut n most h.2 (omega (arith, sum, few)),
+      lines_short cs ts h.2 (omega (arith, sum, few)),
     )
 
--- the text of `turns` is one that is read
+-- the lines of `turns` have room in a text that is read
 pub text_short : (s : Scenario) → ((w : World) → IsReached s w → IsLinkedWorld (system s) w)
     → ((w : World) (x : ℕ) → IsReached s w → (p : World × Event) × (next (system s) w x ≡ Ok p))
     → ((w : World) → IsReached s w → length w.leaves ≡ length (components s)) → NamesDiffer s → AreNames s → length (components s) ≤ 64
-    → length (schedule_text None s) ≤ 2 ^ 24
-unfolding scheduled
+    → bytes (components s) (as_lines (scheduled_by None s).turns) ≤ greatest_text
+unfolding rest_by greatest_text
 text_short s linked right whole differ names few =
-    let all = all_taken s differ names in
-    let t = scheduled s in
+    let all = taken_by None s greatest_turns (start (system s)) differ names in
+    let t = scheduled_by None s in
     let lines = rounds_few s linked right (suc greatest_turns) greatest_turns (start (system s)) ([], record { world = refl; right = refl }) in
-    let text = lines_short (components s) t.turns (some_can (system s) t.world 0 (components s)) (greatest_turns - t.left) (omega arith) all.turns
-    (omega (arith, all.counted)) in
+    let text = lines_short (components s) t.turns all.turns (omega (arith, all.counted)) in
     let leaves = whole t.world (reached_so s linked right t.world lines.reached) in
     omega (
       arith,
@@ -281,10 +295,3 @@ text_short s linked right whole differ names few =
       few,
       credit_some greatest_turns (omega arith),
     )
-
--- and read as the turns
-pub turns_reported : (s : Scenario) → ((w : World) → IsReached s w → IsLinkedWorld (system s) w)
-    → ((w : World) (x : ℕ) → IsReached s w → (p : World × Event) × (next (system s) w x ≡ Ok p))
-    → ((w : World) → IsReached s w → length w.leaves ≡ length (components s)) → NamesDiffer s → AreNames s → length (components s) ≤ 64
-    → turned s (schedule_text None s) ≡ Ok (as_acts (scheduled s).turns)
-turns_reported s linked right whole differ names few = reported_back None s differ names (text_short s linked right whole differ names few)

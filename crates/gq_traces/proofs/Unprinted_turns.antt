@@ -1,19 +1,17 @@
 -- Turns that are taken unreported, one after the other.
-use Rattle.std.proofs.Common.{◌≡◌, ◌∙◌, ◌<◌, ◌+◌, ℕ, zero, suc, List, [], ◌∷◌, length, take, Option, Some, None, Ok, refl, ap, sym, subst}
+use Rattle.std.proofs.Common.{◌≡◌, ◌∙◌, ◌≤◌, ◌+◌, ℕ, zero, suc, List, [], ◌∷◌, Option, Some, None, Ok, false, refl, ap, sym, subst}
 use Rattle.std.proofs.Common.{arith}
-use Rattle.std.specs.Prelude.{Vec, get_or, slice_get, slice_set}
+use Rattle.std.specs.Prelude.{Vec, slice_get, slice_set}
 use Rattle.std.specs.declared.alloc.Global.{Global}
-use Rattle.gq_model.specs.declared.act.Act.{Act}
-use Rattle.gq_model.specs.declared.act.Act.TheVariants.{Turns, Sets}
+use Rattle.gq_model.specs.declared.act.Act.TheVariants.{Sets, Submits}
 use Rattle.gq_model.specs.machine.Doing.{Event}
-use Rattle.gq_model.specs.machine.Run.{Acts, set_input}
+use Rattle.gq_model.specs.machine.Run.{set_input, submit}
 use Rattle.gq_model.specs.machine.Scenario.{Scenario, System, components, system}
 use Rattle.gq_model.specs.machine.Step.{next}
 use Rattle.gq_model.specs.machine.World as model
-use Rattle.gq_model.proofs.Small_facts.{none_some, some_same}
-use Rattle.gq_world.specs.World_between_turns.{AreBelow, World}
+use Rattle.gq_world.specs.World_between_turns.{World}
 use Rattle.gq_traces.specs.Step_positions.{Ahead, start_aheads}
-use Rattle.gq_traces.specs.Trace.{Due, Traced, after_act, after_all, after_due, after_step, after_turn, after_turns, due, due_in}
+use Rattle.gq_traces.specs.Trace.{Due, Traced, after_act, after_due, after_step, after_turn, after_turns, due, due_in}
 use Rattle.gq_traces.specs.internal.Flat.{AllStand, AreAheads, ArePrograms, programs_of}
 use Rattle.gq_traces.specs.internal.Follows.{Follows, IsAt, IsFollowed}
 use Rattle.gq_traces.specs.internal.Printed_steps.{GoesOn, IsDue, PrintsDue, due_of}
@@ -26,7 +24,7 @@ use Rattle.gq_traces.proofs.Leaves_standing.{all_stand}
 
 -- ONE TURN
 
-some_aheads : (programs : List Entries) (stands : List places.Ahead) → AllStand programs stands → (ts : List Ahead) × AreAheads programs stands ts
+pub some_aheads : (programs : List Entries) (stands : List places.Ahead) → AllStand programs stands → (ts : List Ahead) × AreAheads programs stands ts
 some_aheads [] [] h = ([], tt)
 some_aheads [] (a ∷ rest) h = absurd h
 some_aheads (es ∷ programs) [] h = absurd h
@@ -60,8 +58,8 @@ module _ (s : Scenario) (x : ℕ) where
 
 -- it follows where one run that was there came
 stand_then : (go : Traced → Traced) (old new : World) (before after : Followed) → new.scenario ≡ old.scenario → after.programs ≡ before.programs
-    → IsFollowed before old → ((t : Traced) → IsAt before old t → IsAt after new (go t)) → IsFollowed after new
-stand_then go old new before after scenario same f at =
+    → new.stopped ≡ false → IsFollowed before old → ((t : Traced) → IsAt before old t → IsAt after new (go t)) → IsFollowed after new
+stand_then go old new before after scenario same running f at =
     let some = some_aheads before.programs.items before.aheads.items f.stand in
     let t : Traced = record { world = old.world; aheads = some.0; turns = 0 } in
     let come = at t (record { world = refl; aheads = some.1 }) in
@@ -69,48 +67,83 @@ stand_then go old new before after scenario same f at =
       programs = subst (λ p. ArePrograms p.items (programs_of new.scenario)) (sym same)
           (subst (λ (r : Scenario). ArePrograms before.programs.items (programs_of r)) (sym scenario) f.programs);
       stand = all_stand after.programs.items after.aheads.items (go t).aheads come.aheads;
+      running = running;
     }
 
 pub none_taken : (s : Scenario) (x : ℕ) (w : World) (f : Followed) → w.scenario ≡ s → IsFollowed f w
     → ((aheads : List Ahead) → AreAheads f.programs.items f.aheads.items aheads → IsDue None (due_of s w.world x aheads))
-    → Follows (after_turn (system s) x) w w f f
+    → Follows 0 (after_turn (system s) x) w w f f
 none_taken s x w f same h none = record {
   scenario = refl;
-  stopped = refl;
+  signals = omega arith;
   followed = h;
   at = λ t is. stays_at s x f w t (none t.aheads is.aheads) is;
 }
 
 pub one_taken : (s : Scenario) (x : ℕ) (old new : World) (f g : Followed) (event : Event) (c : stated.Due) → new.scenario ≡ old.scenario
-    → new.stopped ≡ old.stopped → g.programs ≡ f.programs → IsFollowed f old
+    → new.stopped ≡ false → new.signals ≡ old.signals → g.programs ≡ f.programs → IsFollowed f old
     → ((aheads : List Ahead) → AreAheads f.programs.items f.aheads.items aheads → IsDue (Some c) (due_of s old.world x aheads))
     → next (system s) old.world x ≡ Ok (new.world, event) → GoesOn f.programs.items f.aheads.items g.aheads.items s old.world x
-    → Follows (after_turn (system s) x) old new f g
-one_taken s x old new f g event c scenario stopped same h reported stepped goes =
+    → Follows 0 (after_turn (system s) x) old new f g
+one_taken s x old new f g event c scenario running signals same h reported stepped goes =
     let at : (t : Traced) → IsAt f old t → IsAt g new (after_turn (system s) x t) =
     λ t is. steps_to s x f g old new event t c same (reported t.aheads is.aheads) stepped goes is in
-    record { scenario = scenario; stopped = stopped; followed = stand_then (after_turn (system s) x) old new f g scenario same h at; at = at }
+    record {
+      scenario = scenario;
+      signals = omega (arith, signals);
+      followed = stand_then (after_turn (system s) x) old new f g scenario same running h at;
+      at = at;
+    }
 
 -- another value of an input
 pub one_set : (s : Scenario) (x i n : ℕ) (old new : World) (f : Followed) → new.scenario ≡ old.scenario → new.stopped ≡ old.stopped
-    → new.world ≡ set_input (system s) old.world x i n → IsFollowed f old → Follows (after_act (system s) x (Sets i n)) old new f f
-one_set s x i n old new f scenario stopped set h =
+    → new.signals ≡ old.signals → new.world ≡ set_input (system s) old.world x i n → IsFollowed f old
+    → Follows 1 (after_act (system s) x (Sets i n)) old new f f
+one_set s x i n old new f scenario stopped signals set h =
     let at : (t : Traced) → IsAt f old t → IsAt f new (after_act (system s) x (Sets i n) t) =
     λ t is. record { world = ap (λ (w : model.World). set_input (system s) w x i n) is.world ∙ sym set; aheads = is.aheads } in
-    record { scenario = scenario; stopped = stopped; followed = stand_then (after_act (system s) x (Sets i n)) old new f f scenario refl h at; at = at }
+    record {
+      scenario = scenario;
+      signals = omega (arith, signals);
+      followed = stand_then (after_act (system s) x (Sets i n)) old new f f scenario refl (stopped ∙ h.running) h at;
+      at = at;
+    }
+
+-- a signal
+pub one_submitted : (s : Scenario) (x i : ℕ) (old new : World) (f : Followed) → new.scenario ≡ old.scenario → new.stopped ≡ false
+    → new.signals ≤ old.signals + 1 → new.world ≡ submit old.world x i → IsFollowed f old → Follows 1 (after_act (system s) x (Submits i)) old new f f
+one_submitted s x i old new f scenario running signals submitted h =
+    let at : (t : Traced) → IsAt f old t → IsAt f new (after_act (system s) x (Submits i) t) =
+    λ t is. record { world = ap (λ (w : model.World). submit w x i) is.world ∙ sym submitted; aheads = is.aheads } in
+    record {
+      scenario = scenario;
+      signals = signals;
+      followed = stand_then (after_act (system s) x (Submits i)) old new f f scenario refl running h at;
+      at = at;
+    }
 
 -- MORE TURNS
 
-pub follows_none : (go : Traced → Traced) (w : World) (f : Followed) → ((t : Traced) → t ≡ go t) → IsFollowed f w → Follows go w w f f
-follows_none go w f same h = record { scenario = refl; stopped = refl; followed = h; at = λ t is. subst (IsAt f w) (same t) is }
+pub follows_none : (go : Traced → Traced) (w : World) (f : Followed) → ((t : Traced) → t ≡ go t) → IsFollowed f w → Follows 0 go w w f f
+follows_none go w f same h = record { scenario = refl; signals = omega arith; followed = h; at = λ t is. subst (IsAt f w) (same t) is }
 
-pub follows_both : (first second go : Traced → Traced) (a b c : World) (f g h : Followed) → ((t : Traced) → second (first t) ≡ go t) → Follows first a b f g
-    → Follows second b c g h → Follows go a c f h
-follows_both first second go a b c f g h same p q = record {
+pub follows_both : (l m : ℕ) (first second go : Traced → Traced) (a b c : World) (f g h : Followed) → ((t : Traced) → second (first t) ≡ go t)
+    → Follows l first a b f g → Follows m second b c g h → Follows (l + m) go a c f h
+follows_both l m first second go a b c f g h same p q = record {
   scenario = q.scenario ∙ p.scenario;
-  stopped = q.stopped ∙ p.stopped;
+  signals = (let one = p.signals in let two = q.signals in omega (arith, one, two));
   followed = q.followed;
   at = λ t is. subst (IsAt h c) (same t) (q.at (first t) (p.at t is));
+}
+
+-- one way of the same traces, with more signals at most
+pub follows_like : (l m : ℕ) (go way : Traced → Traced) (a b : World) (f g : Followed) → l ≤ m → ((t : Traced) → IsAt f a t → go t ≡ way t)
+    → Follows l go a b f g → Follows m way a b f g
+follows_like l m go way a b f g few same p = record {
+  scenario = p.scenario;
+  signals = (let signals = p.signals in omega (arith, signals, few));
+  followed = p.followed;
+  at = λ t is. subst (IsAt g b) (same t is) (p.at t is);
 }
 
 pub turns_more : (system : System) (x n : ℕ) (t : Traced) → after_turn system x (after_turns system x n t) ≡ after_turns system x (n + 1) t
@@ -120,30 +153,15 @@ turns_more system x n t = let one : suc n ≡ n + 1 = omega arith in by n t ∙ 
     by zero t = refl
     by (suc n) t = by n (after_turn system x t)
 
-pub all_more : (system : System) (turns : Acts) (i : ℕ) (p : ℕ × Act) → slice_get turns i ≡ Some p → (t : Traced)
-    → after_act system p.0 p.1 (after_all system (take i turns) t) ≡ after_all system (take (i + 1) turns) t
-all_more system turns i p there t =
-    let one : suc i ≡ i + 1 = omega arith in by turns i there t ∙ ap (λ m. after_all system (take m turns) t) one
-  where
-    by : (turns : Acts) (i : ℕ) → slice_get turns i ≡ Some p → (t : Traced)
-        → after_act system p.0 p.1 (after_all system (take i turns) t) ≡ after_all system (take (suc i) turns) t
-    by [] i e t = absurd (none_some e)
-    by (q ∷ turns) zero e t = ap (λ (r : ℕ × Act). after_act system r.0 r.1 t) (sym (some_same e))
-    by (q ∷ turns) (suc i) e t = by turns i e (after_act system q.0 q.1 t)
-
-pub below_at : (n : ℕ) (turns : Acts) (i : ℕ) (p : ℕ × Act) → AreBelow n turns → slice_get turns i ≡ Some p → p.0 < n
-below_at n [] i p h e = absurd (none_some e)
-below_at n (q ∷ turns) zero p h e = subst (λ (r : ℕ × Act). r.0 < n) (some_same e) h.0
-below_at n (q ∷ turns) (suc i) p h e = below_at n turns i p h.1 e
-
 -- AT THE START
 
 pub started : (w : World) (programs : Vec Entries Global) (aheads : Vec places.Ahead Global) (slice : List Entries) → slice ≡ programs.items
-    → ArePrograms programs.items (programs_of w.scenario)
+    → w.stopped ≡ false → ArePrograms programs.items (programs_of w.scenario)
     → (ArePrograms slice (programs_of w.scenario) → AreAheads slice aheads.items (start_aheads (components w.scenario)))
     → IsFollowed (record { programs = programs; aheads = aheads }) w
-started w programs aheads slice same h at = record {
+started w programs aheads slice same running h at = record {
   programs = h;
+  running = running;
   stand = subst (λ l. AllStand l aheads.items) same
       (all_stand slice aheads.items (start_aheads (components w.scenario)) (at (subst (λ l. ArePrograms l (programs_of w.scenario)) (sym same) h)));
 }
@@ -172,11 +190,6 @@ pub goes_as : (m : Machine) (w : World) (x : ℕ) (ps programs : List Entries) (
 goes_as m w x ps programs ss stands new is same stood h =
     subst (λ (n : Machine). GoesOn programs stands new n.scenario n.world x) is
     (subst (λ l. GoesOn programs l new m.scenario m.world x) stood (subst (λ l. GoesOn l ss new m.scenario m.world x) same h))
-
-pub item_there : (turns : Acts) (i : ℕ) (t : ℕ × Act) → i < length turns → t ≡ get_or turns i t → slice_get turns i ≡ Some t
-item_there [] i t less e = absurd (omega (arith, less))
-item_there (q ∷ turns) zero t less e = ap Some (sym e)
-item_there (q ∷ turns) (suc i) t less e = item_there turns i t (omega (arith, less)) e
 
 pub none_at : (m : Machine) (x : ℕ) (ps programs : List Entries) (ss stands : List places.Ahead) (o : Option stated.Due) → ps ≡ programs → ss ≡ stands
     → o ≡ None → PrintsDue ps ss m.scenario m.world x o → PrintsDue programs stands m.scenario m.world x None

@@ -8,21 +8,21 @@ use Rattle.gq_model.specs.declared.program.Form.{Form}
 use Rattle.gq_model.specs.declared.program.Form.TheVariants.{Block, Slice, Space}
 use Rattle.gq_model.specs.declared.program.OperandSlot.{OperandSlot}
 use Rattle.gq_model.specs.declared.program.OperandSlot.TheVariants.{Own, Shared, Object}
-use Rattle.gq_model.specs.machine.Accounts.{Account, account_line, accounts}
+use Rattle.gq_model.specs.machine.Accounts.{Account, account_line}
 use Rattle.gq_model.specs.machine.Amounts.{Resource, Ram, Caps, Amount, amount}
 use Rattle.gq_model.specs.machine.Resource_prices.{chunks}
 use Rattle.gq_model.specs.machine.Routes.{numbered}
 use Rattle.gq_model.specs.machine.Run.{Acts}
 use Rattle.gq_model.specs.machine.Scenario.{Component, Scenario, System, components, system}
 use Rattle.gq_model.specs.machine.Sums.{slot_price}
-use Rattle.gq_model.specs.machine.World.{Slot, Empty, Bytes, Pool, Link, Waiting, Leaf, Session, World, session_at}
+use Rattle.gq_model.specs.machine.World.{Slot, Empty, Bytes, Pool, Link, Waiting, Signal, Leaf, Session, World, session_at}
 use Rattle.gq_model.specs.rules.Accept.{budgets, step_budgets}
 use Rattle.gq_model.specs.machine.Sections.{section_word}
 use Rattle.gq_machine.specs.Readers.{request_of}
 use Rattle.gq_resolve.specs.NodeTables.{NodeRow, node_rows, number_named}
 use Rattle.gq_views.specs.Listing.{line, place_text}
 use Rattle.gq_views.specs.Tree.{amounts}
-use Rattle.gq_traces.specs.Trace.{Due, Traced, after_all, amount_text, due, leaf_label, request_in, requested_text, start_traced}
+use Rattle.gq_traces.specs.Trace.{Due, Traced, accounts_in, after_all, amount_text, due, leaf_label, request_in, requested_text, start_traced}
 
 -- ITEMS
 
@@ -144,10 +144,23 @@ inputs_behind (n ∷ rest) = 10 ∷ codes "  inputs" ++ amounts (n ∷ rest)
 abbrev pub inputs_of : Component → Leaf → List ℕ
 inputs_of c leaf = take (length c.node.inputs) leaf.inputs
 
+-- how often a signal was taken, with a mark where it is submitted
+abbrev pub signal_entry : Signal → List ℕ
+signal_entry s = codes " " ++ decimal s.taken ++ (if s.submitted then codes "!" else [])
+
+abbrev pub signal_entries : List Signal → List ℕ
+signal_entries [] = []
+signal_entries (s ∷ rest) = signal_entry s ++ signal_entries rest
+
+-- those of a leaf's signals, in a line of their own behind another
+abbrev pub signals_behind : List Signal → List ℕ
+signals_behind [] = []
+signals_behind (s ∷ rest) = 10 ∷ codes "  signals" ++ signal_entries (s ∷ rest)
+
 -- what the account of the x-th leaf is made of while it lives
 abbrev pub live_items : System → World → ℕ → Component → Leaf → List Item
 live_items system w x c leaf =
-    item 1 Given c.node.quantum (inputs_behind (inputs_of c leaf)) ∷ []
+    item 1 Given c.node.quantum (inputs_behind (inputs_of c leaf) ++ signals_behind leaf.signals) ∷ []
     ++ slots_items system w Own 0 leaf.slots ++ places_items classes leaf.peaks ++ sessions_items system w x w.sessions
 
 -- nothing before and after that
@@ -243,7 +256,7 @@ nodes_text s t n (a ∷ accounts) (node ∷ nodes) =
 
 -- all nodes in preorder
 abbrev pub text_in : Scenario → Traced → List ℕ
-text_in s t = nodes_text s t 0 (accounts s t.world (step_budgets (budgets s))) (node_rows s)
+text_in s t = nodes_text s t 0 (accounts_in s t.world (step_budgets (budgets s))) (node_rows s)
 
 abbrev pub state_text : Scenario → Acts → List ℕ
 state_text s turns = text_in s (after_all (system s) turns (start_traced (system s)))

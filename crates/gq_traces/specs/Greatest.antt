@@ -32,7 +32,8 @@ AreGreatest s turns x (c ∷ rest) (p ∷ peaks) = IsGreatest s turns Ram x p.ra
 AreGreatest s turns x [] (p ∷ peaks) = ⊥
 AreGreatest s turns x (c ∷ rest) [] = ⊥
 
--- from bytes to bytes: the scenario is loaded, and the turns and settings are read; the text has a line for each leaf, with its greatest use over the run
+-- from bytes to bytes: the scenario is loaded, and the turns, settings and signals are read; the text has a line for each leaf, with its greatest use over
+-- the run
 pub record ShowsPeaks (scenario turns text : List ℕ) : Type 0 where
   pub accepted : Scenario
   pub loads : loaded scenario ≡ Ok accepted

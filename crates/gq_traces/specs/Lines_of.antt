@@ -1,12 +1,13 @@
 -- Lines of a text that begin with some bytes, and what those of a trace are.
 use Rattle.std.specs.Prelude.{◌≡◌, ◌==◌, ◌&&◌, if◌then◌else◌, ℕ, Bool, true, false, List, [], ◌∷◌, ◌++◌, codes, length}
-use Rattle.gq_model.specs.machine.Accounts.{account_lines, accounts, whole}
+use Rattle.gq_model.specs.machine.Accounts.{account_lines, whole}
 use Rattle.gq_model.specs.machine.Run.{Acts, run}
 use Rattle.gq_model.specs.machine.Scenario.{Scenario, system}
 use Rattle.gq_model.specs.rules.Accept.{budgets, step_budgets}
 use Rattle.gq_model.specs.texts.Letters.{fed_lines}
 use Rattle.gq_laws.specs.Progress.{taken}
 use Rattle.gq_views.specs.Listing.{joined}
+use Rattle.gq_traces.specs.Trace.{accounts_in}
 
 -- a text begins with these bytes
 abbrev pub begins : List ℕ → List ℕ → Bool
@@ -26,7 +27,7 @@ lines_of prefix text = beginning prefix (fed_lines text)
 -- the account lines at the end of a run
 abbrev pub last_accounts : Scenario → Acts → List ℕ
 last_accounts s turns =
-    let b = step_budgets (budgets s) in account_lines s.version (accounts s (run (system s) turns).world b)
+    account_lines s.version (accounts_in s (run (system s) turns).world (step_budgets (budgets s)))
 
 -- a text ends in these account lines, and with them its lines that begin with `[` are the text of the run
 pub record PrintsRun (s : Scenario) (turns : Acts) (text : List ℕ) : Type 0 where

@@ -1,6 +1,6 @@
 -- How the items of an account add up to it, in the text of `state`.
 use Rattle.std.specs.Prelude.{◌≡◌, ℕ, suc, ◌+◌, if◌then◌else◌, Bool, true, false, List, [], ◌∷◌, ◌++◌, Option, Some, None, Ok, slice_get}
-use Rattle.gq_model.specs.machine.Accounts.{Account, LeafAccount, account_line, accounts}
+use Rattle.gq_model.specs.machine.Accounts.{Account, LeafAccount, account_line}
 use Rattle.gq_model.specs.machine.Amounts.{Resource, part}
 use Rattle.gq_model.specs.machine.Run.{Acts, run}
 use Rattle.gq_model.specs.machine.Scenario.{Component, Scenario, System, components, system}
@@ -13,7 +13,7 @@ use Rattle.gq_load.specs.Load.{loaded}
 use Rattle.gq_resolve.specs.NodeTables.{NodeRow, node_rows}
 use Rattle.gq_traces.specs.Account_state.{Item, Role, Given, Handed, Held, Lent, Received, init_items, is_live, items_text, leaf_items, next_text, start_text}
 use Rattle.gq_traces.specs.First_turns.{AreFirst}
-use Rattle.gq_traces.specs.Trace.{Traced, after_all, due, start_traced}
+use Rattle.gq_traces.specs.Trace.{Traced, accounts_in, after_all, due, start_traced}
 
 -- NODES AS THEY ARE SHOWN
 
@@ -54,7 +54,7 @@ shown_nodes s t n (a ∷ accounts) (node ∷ nodes) = shown_node s t n a node no
 
 -- all nodes, in preorder
 abbrev pub all_shown : Scenario → Traced → List Shown
-all_shown s t = shown_nodes s t 0 (accounts s t.world (step_budgets (budgets s))) (node_rows s)
+all_shown s t = shown_nodes s t 0 (accounts_in s t.world (step_budgets (budgets s))) (node_rows s)
 
 -- SUMS
 
@@ -87,12 +87,12 @@ AddsUp resources n (Some a) = is_live a.phase ≡ true → EachOf resources (Lea
 
 -- TEXTS
 
--- a run on the way, after these turns and settings
+-- a run on the way, after these turns, settings and signals
 abbrev pub after : Scenario → Acts → Traced
 after s turns = after_all (system s) turns (start_traced (system s))
 
--- from bytes to bytes: the scenario is loaded and the turns and settings are read; the text is that of all nodes in the world that a run over these comes to,
--- or over the first so many turns, and what is shown of each node adds up to its account, of each resource that is counted
+-- from bytes to bytes: the scenario is loaded and the turns, settings and signals are read; the text is that of all nodes in the world that a run over these
+-- comes to, or over the first so many turns, and what is shown of each node adds up to its account, of each resource that is counted
 pub record ShowsSums (first : Option ℕ) (scenario turns text : List ℕ) : Type 0 where
   pub accepted : Scenario
   pub loads : loaded scenario ≡ Ok accepted

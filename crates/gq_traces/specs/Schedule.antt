@@ -1,66 +1,20 @@
--- Lists of turns that bring all work to rest: by rounds over the leaves, each of which takes as many turns as it can, or by a generator of random numbers.
-use Rattle.std.specs.Prelude.{ℕ, zero, suc, ◌-◌, ◌%◌, if◌then◌else◌, Bool, true, false, ◌||◌, List, [], ◌∷◌, ◌++◌, length, min, Option, Some, None}
-use Rattle.std.specs.Prelude.{Ok, Err, map, slice_get, get_or, decimal, codes}
+-- Lists of turns that bring all work to rest: by rounds over the leaves, each of which takes as many turns as it can, or by a generator of random numbers; and
+-- then, time after time, all signals and the turns that bring what they give to rest.
+use Rattle.std.specs.Prelude.{ℕ, zero, suc, ◌+◌, ◌-◌, ◌%◌, ◌^◌, nat_le, ◌==◌, if◌then◌else◌, Bool, true, false, not, ◌||◌, List, [], ◌∷◌, ◌++◌, length, min}
+use Rattle.std.specs.Prelude.{Option, Some, None, option_map, unwrap_or, map, slice_get, get_or, sum_by, decimal, codes}
 use Rattle.rand_core.specs.Pcg32Seed.{pcg32_seed}
 use Rattle.rand_pcg.specs.Lcg.{Lcg}
 use Rattle.rand_pcg.specs.Pcg.{pcg32, pcg32_of_seed}
-use Rattle.gq_model.specs.declared.act.Act.TheVariants.{Turns}
-use Rattle.gq_model.specs.machine.Run.{Acts}
 use Rattle.gq_model.specs.machine.Scenario.{System, Component, Scenario, components, system}
 use Rattle.gq_model.specs.machine.World.{World, start}
-use Rattle.gq_model.specs.machine.Doing.{Stepped}
-use Rattle.gq_model.specs.machine.Step.{next}
-use Rattle.gq_model.specs.texts.Turns.{greatest_turns}
-use Rattle.gq_laws.specs.Turn_effects.{can_run}
+use Rattle.gq_model.specs.machine.Run.{Acts, submit}
+use Rattle.gq_model.specs.machine.Rest.{Taken, can_run, greatest_turns, reported_turns, rounds, some_can, while_can}
+use Rattle.gq_model.specs.declared.act.Act.{Act}
+use Rattle.gq_model.specs.declared.act.Act.TheVariants.{Turns, Sets, Submits}
+use Rattle.gq_model.specs.declared.act.TurnLine.{TurnLine}
+use Rattle.gq_model.specs.declared.act.TurnLine.TheVariants.{Gives, Rests}
+use Rattle.gq_model.specs.texts.Turns.{has_signals, line_turns}
 use Rattle.gq_views.specs.Listing.{joined}
-
--- turns of leaves one after the other, how many more may be taken, and the world then
-pub record Taken : Type 0 where
-  pub turns : List (ℕ × ℕ)
-  pub left : ℕ
-  pub world : World
-
--- what leaves are given by these turns
-abbrev pub as_acts : List (ℕ × ℕ) → Acts
-as_acts [] = []
-as_acts (t ∷ turns) = (t.0, Turns t.1) ∷ as_acts turns
-
--- a turn, which is not wrong, and those after it
-abbrev pub one_and : World → Stepped → (World → ℕ × World) → ℕ × World
-one_and w (Ok p) go = let more = go p.0 in (suc more.0, more.1)
-one_and w (Err wrong) go = (0, w)
-
--- how many turns of at most n the x-th leaf can take one after the other, and the world then
-abbrev pub while_can : ℕ → System → World → ℕ → ℕ × World
-while_can zero system w x = (0, w)
-while_can (suc n) system w x = if can_run system w x then one_and w (next system w x) (λ u. while_can n system u x) else (0, w)
-
--- a leaf that took no turn is not reported
-abbrev pub reported_turns : ℕ → ℕ → List (ℕ × ℕ)
-reported_turns x zero = []
-reported_turns x (suc n) = (x, suc n) ∷ []
-
--- the leaves from the x-th on, each in its turn
-abbrev pub round : System → ℕ → World → ℕ → List Component → Taken
-round system n w x [] = record { turns = []; left = n; world = w }
-round system n w x (c ∷ rest) =
-    let taken = while_can n system w x in
-    let more = round system (n - taken.0) taken.1 (suc x) rest in
-    record more { turns = reported_turns x taken.0 ++ more.turns }
-
--- the turns of a round and, where there are any, those of further ones
-abbrev pub and_further : Taken → List (ℕ × ℕ) → (ℕ → World → Taken) → Taken
-and_further taken [] go = taken
-and_further taken (t ∷ turns) go = let more = go taken.left taken.world in record more { turns = taken.turns ++ more.turns }
-
--- at most k rounds, up to one in which no turn is taken
-abbrev pub rounds : ℕ → System → ℕ → World → Taken
-rounds zero system n w = record { turns = []; left = n; world = w }
-rounds (suc k) system n w =
-    let taken = round system n w 0 system.components in and_further taken taken.turns (λ left u. rounds k system left u)
-
-unfoldable pub scheduled : Scenario → Taken
-scheduled s = let all = system s in rounds (suc greatest_turns) all greatest_turns (start all)
 
 -- BY CHANCE
 
@@ -117,25 +71,88 @@ choices (suc k) system (suc n) w g =
 unfoldable pub greatest_choices : ℕ
 greatest_choices = 800000
 
--- the generator is PCG32 from a seed
-unfoldable pub chosen : ℕ → Scenario → Taken
-chosen seed s = let all = system s in choices greatest_choices all greatest_turns (start all) (pcg32_of_seed (pcg32_seed 16 seed))
-
 -- BOTH
 
--- in rounds, or by chance where a seed is given
+-- at most n turns, in rounds or by chance where a seed is given, from this world on; the generator is PCG32 from the seed
+unfoldable pub rest_by : Option ℕ → System → ℕ → World → Taken
+rest_by None system n w = rounds (suc greatest_turns) system n w
+rest_by (Some seed) system n w = choices greatest_choices system n w (pcg32_of_seed (pcg32_seed 16 seed))
+
+-- from the start of a scenario
 abbrev pub scheduled_by : Option ℕ → Scenario → Taken
-scheduled_by None s = scheduled s
-scheduled_by (Some seed) s = chosen seed s
+scheduled_by seed s = let all = system s in rest_by seed all greatest_turns (start all)
 
--- some leaf from the x-th on can take a turn
-abbrev pub some_can : System → World → ℕ → List Component → Bool
-some_can system w x [] = false
-some_can system w x (c ∷ rest) = can_run system w x || some_can system w (suc x) rest
+-- SIGNALS
 
--- some leaf could go on, but no more turns may be taken
-abbrev pub is_cut : Option ℕ → Scenario → Bool
-is_cut seed s = let all = system s in some_can all (scheduled_by seed s).world 0 all.components
+-- so many signals of the x-th leaf, from the i-th on
+abbrev pub signals_from : ℕ → ℕ → ℕ → List TurnLine
+signals_from x i zero = []
+signals_from x i (suc k) = Gives x (Submits i) ∷ signals_from x (suc i) k
+
+-- all signals of the leaves from the x-th on
+abbrev pub all_signals : ℕ → List Component → List TurnLine
+all_signals x [] = []
+all_signals x (c ∷ rest) = signals_from x 0 c.node.signals ++ all_signals (suc x) rest
+
+-- the world in which these signals are submitted
+abbrev pub with_signals_from : ℕ → ℕ → ℕ → World → World
+with_signals_from x i zero w = w
+with_signals_from x i (suc k) w = with_signals_from x (suc i) k (submit w x i)
+
+abbrev pub with_all_signals : ℕ → List Component → World → World
+with_all_signals x [] w = w
+with_all_signals x (c ∷ rest) w = with_all_signals (suc x) rest (with_signals_from x 0 c.node.signals w)
+
+-- turns as lines of a list
+abbrev pub as_lines : List (ℕ × ℕ) → List TurnLine
+as_lines [] = []
+as_lines (t ∷ turns) = Gives t.0 (Turns t.1) ∷ as_lines turns
+
+-- what such lines give, where none of them brings all work to rest
+abbrev pub acts_given : List TurnLine → Acts
+acts_given [] = []
+acts_given (Gives x act ∷ lines) = (x, act) ∷ acts_given lines
+acts_given (Rests ∷ lines) = acts_given lines
+
+-- lines, how many more turns may be taken, and the world after them
+pub record Listed : Type 0 where
+  pub lines : List TurnLine
+  pub left : ℕ
+  pub world : World
+
+-- every signal is submitted, and all work is brought to rest
+abbrev pub reaction : Option ℕ → System → Listed → Listed
+reaction seed system l =
+    let t = rest_by seed system l.left (with_all_signals 0 system.components l.world) in
+    record { lines = l.lines ++ (all_signals 0 system.components ++ as_lines t.turns); left = t.left; world = t.world }
+
+-- no list that may be read has more lines
+unfoldable pub greatest_listed : ℕ
+greatest_listed = 4194304
+
+-- some leaf could go on, but no more turns may be taken; or there are too many lines
+abbrev pub is_over : System → Listed → Bool
+is_over system l = some_can system l.world 0 system.components || nat_le greatest_listed (length l.lines)
+
+-- by chance each time is scheduled by a seed of its own: the next number
+abbrev pub next_seed : Option ℕ → Option ℕ
+next_seed = option_map (λ n. (n + 1) % 2 ^ 32)
+
+-- so many times
+abbrev pub reactions : ℕ → Option ℕ → System → Listed → Listed
+reactions zero seed system l = l
+reactions (suc k) seed system l = if is_over system l then l else reactions k (next_seed seed) system (reaction (next_seed seed) system l)
+
+-- turns from the start of a scenario, and then so many times all signals and turns, if any
+abbrev pub first_listed : Option ℕ → Scenario → Listed
+first_listed seed s = let t = scheduled_by seed s in record { lines = as_lines t.turns; left = t.left; world = t.world }
+
+-- only versions with signals have any
+abbrev pub times_in : ℕ → Option ℕ → ℕ
+times_in version times = if has_signals version then unwrap_or times 0 else 0
+
+unfoldable pub all_listed : (seed times : Option ℕ) → Scenario → Listed
+all_listed seed times s = reactions (times_in s.version times) seed (system s) (first_listed seed s)
 
 -- TEXT
 
@@ -143,17 +160,54 @@ abbrev pub name_at : Option Component → List ℕ
 name_at None = []
 name_at (Some c) = c.node.name
 
-abbrev pub turn_line : List Component → ℕ × ℕ → List ℕ
-turn_line components t = name_at (slice_get components t.0) ++ 32 ∷ decimal t.1
+-- what stands behind the name
+abbrev pub given_part : Act → List ℕ
+given_part (Turns n) = 32 ∷ decimal n
+given_part (Sets i n) = []
+given_part (Submits i) = 33 ∷ decimal i
+
+abbrev pub given_line : List Component → TurnLine → List ℕ
+given_line components (Gives x act) = name_at (slice_get components x) ++ given_part act
+given_line components Rests = codes "rest"
+
+-- the first of these lines that fit into so many bytes
+abbrev pub fitting : List Component → ℕ → List TurnLine → List TurnLine
+fitting components room [] = []
+fitting components room (line ∷ lines) =
+    let size = suc (length (given_line components line)) in
+    if nat_le size room then line ∷ fitting components (room - size) lines else []
+
+-- so many bytes have a text that may be read, but for the line that it was cut
+unfoldable pub greatest_text : ℕ
+greatest_text = 16777190
+
+abbrev pub listed_turns : List TurnLine → ℕ
+listed_turns = sum_by line_turns
 
 -- after how many turns they were cut
 abbrev pub cut_lines : Bool → ℕ → List (List ℕ)
 cut_lines true n = (codes "# cut after " ++ decimal n ++ codes " turns") ∷ []
 cut_lines false n = []
 
--- turns, and that there are more of them
-abbrev pub schedule_lines : List Component → List (ℕ × ℕ) → Bool → ℕ → List (List ℕ)
-schedule_lines components turns cut n = map (turn_line components) turns ++ cut_lines cut n
+-- lines, and that there are more of them
+abbrev pub schedule_lines : List Component → List TurnLine → Bool → List (List ℕ)
+schedule_lines components lines cut = map (given_line components) lines ++ cut_lines cut (listed_turns lines)
 
-abbrev pub schedule_text : Option ℕ → Scenario → List ℕ
-schedule_text seed s = let taken = scheduled_by seed s in joined (schedule_lines (components s) taken.turns (is_cut seed s) (greatest_turns - taken.left))
+-- not all of these lines have room in a text, or some leaf could go on
+abbrev pub is_cut_in : Scenario → World → List TurnLine → Bool
+is_cut_in s w lines =
+    let all = system s in
+    not (length (fitting (components s) greatest_text lines) == length lines) || some_can all w 0 all.components
+
+abbrev pub list_text : Scenario → World → List TurnLine → List ℕ
+list_text s w lines = joined (schedule_lines (components s) (fitting (components s) greatest_text lines) (is_cut_in s w lines))
+
+-- the lines that are written
+abbrev pub written_lines : (seed times : Option ℕ) → Scenario → List TurnLine
+written_lines seed times s = fitting (components s) greatest_text (all_listed seed times s).lines
+
+abbrev pub is_cut : (seed times : Option ℕ) → Scenario → Bool
+is_cut seed times s = let l = all_listed seed times s in is_cut_in s l.world l.lines
+
+abbrev pub schedule_text : (seed times : Option ℕ) → Scenario → List ℕ
+schedule_text seed times s = let l = all_listed seed times s in list_text s l.world l.lines

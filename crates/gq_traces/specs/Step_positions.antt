@@ -1,13 +1,13 @@
 -- Where a leaf stands in the text of its program: its section and the number of its next statement.
 use Rattle.std.specs.Prelude.{ℕ, zero, suc, ◌+◌, nat_lt, Bool, true, false, List, [], ◌∷◌, ◌++◌, Option, Some, None, codes}
 use Rattle.gq_model.specs.declared.section.Section.{Section}
-use Rattle.gq_model.specs.declared.section.Section.TheVariants.{Main}
+use Rattle.gq_model.specs.declared.section.Section.TheVariants.{Main, Reacting}
 use Rattle.gq_model.specs.declared.phase.Phase.{Phase}
 use Rattle.gq_model.specs.declared.phase.Phase.TheVariants.{Pending, Running, Blocked, Serving, Handling, Exited}
 use Rattle.gq_model.specs.machine.Program.{Statements, Done, Do, If, Loop, size, section_in, body_of}
 use Rattle.gq_model.specs.machine.Scenario.{Component}
-use Rattle.gq_model.specs.machine.World.{Request, Leaf, World, section_of}
-use Rattle.gq_model.specs.machine.Step.{oldest}
+use Rattle.gq_model.specs.machine.World.{Request, Signal, Leaf, World, section_of}
+use Rattle.gq_model.specs.machine.Step.{first_signal, oldest}
 use Rattle.gq_machine.specs.Readers.{requested}
 use Rattle.gq_views.specs.Listing.{instruction_text, loop_text}
 
@@ -72,7 +72,7 @@ past operands (Does k text rest) loops = record { todo = rest; loops = loops }
 past operands (Chooses k arm other) loops = record { todo = chosen operands arm other; loops = loops }
 past operands (Repeats k n body rest) loops = record { todo = body; loops = entered k n body rest ∷ loops }
 
--- REQUESTS
+-- REQUESTS AND SIGNALS
 
 abbrev pub first_request : Option (Request × List Request) → Option Request
 first_request None = None
@@ -85,11 +85,16 @@ abbrev pub at_request : Component → World → Option Request → Ahead
 at_request c w None = ahead Done
 at_request c w (Some r) = ahead (body_in c (requested w r))
 
+-- a signal that is submitted is taken before any request
+abbrev pub at_signal : Component → Option (ℕ × List Signal) → Ahead → Ahead
+at_signal c None other = other
+at_signal c (Some p) other = ahead (body_in c (Reacting p.0))
+
 -- what the x-th leaf has before it once it has taken a step
 abbrev pub stepped : World → ℕ → Component → Leaf → Ahead → Phase → Ahead
 stepped w x c leaf a Running = past leaf.operands a.todo a.loops
 stepped w x c leaf a Handling = past leaf.operands a.todo a.loops
-stepped w x c leaf a Serving = at_request c w (first_request (oldest w x w.requests))
+stepped w x c leaf a Serving = at_signal c (first_signal leaf.signals) (at_request c w (first_request (oldest w x w.requests)))
 stepped w x c leaf a Pending = a
 stepped w x c leaf a Blocked = a
 stepped w x c leaf a Exited = a
@@ -124,11 +129,15 @@ abbrev pub request_place : World → Option Request → Option StepPosition
 request_place w None = None
 request_place w (Some r) = Some (place (requested w r) 0 [])
 
+abbrev pub signal_place : Option (ℕ × List Signal) → Option StepPosition → Option StepPosition
+signal_place None other = other
+signal_place (Some p) other = Some (place (Reacting p.0) 0 [])
+
 -- the place of the next step of the x-th leaf, if it can take one
 abbrev pub place_in : World → ℕ → Component → Leaf → Ahead → Phase → Option StepPosition
-place_in w x c leaf a Running = Some (next_place c (section_of leaf.current) a.todo a.loops)
-place_in w x c leaf a Handling = Some (next_place c (section_of leaf.current) a.todo a.loops)
-place_in w x c leaf a Serving = request_place w (first_request (oldest w x w.requests))
+place_in w x c leaf a Running = Some (next_place c (section_of leaf.current leaf.reacting) a.todo a.loops)
+place_in w x c leaf a Handling = Some (next_place c (section_of leaf.current leaf.reacting) a.todo a.loops)
+place_in w x c leaf a Serving = signal_place (first_signal leaf.signals) (request_place w (first_request (oldest w x w.requests)))
 place_in w x c leaf a Pending = None
 place_in w x c leaf a Blocked = None
 place_in w x c leaf a Exited = None

@@ -1,8 +1,8 @@
--- What each turn of a run did, and what was set.
+-- What each turn of a run did, what was set, and which signals were submitted.
 use Rattle.std.specs.Prelude.{ℕ, zero, suc, ◌==◌, ◌&&◌, ◌||◌, not, if◌then◌else◌, Bool, true, false, List, [], ◌∷◌, ◌++◌, Option, Some, None, Ok, Err}
 use Rattle.std.specs.Prelude.{slice_get, slice_index, slice_set, decimal, codes, max, map, length}
 use Rattle.gq_model.specs.declared.act.Act.{Act}
-use Rattle.gq_model.specs.declared.act.Act.TheVariants.{Turns, Sets}
+use Rattle.gq_model.specs.declared.act.Act.TheVariants.{Turns, Sets, Submits}
 use Rattle.gq_model.specs.declared.phase.Phase.{Phase}
 use Rattle.gq_model.specs.declared.phase.Phase.TheVariants.{Pending, Running, Blocked, Serving, Handling, Exited}
 use Rattle.gq_model.specs.machine.Accounts.{Account, LeafAccount, account_line, account_lines, accounts, entry, reported}
@@ -10,10 +10,11 @@ use Rattle.gq_model.specs.machine.Amounts.{Amount, same_amount}
 use Rattle.gq_model.specs.machine.Doing.{Event, Stepped}
 use Rattle.gq_model.specs.machine.Program.{text_eq}
 use Rattle.gq_model.specs.machine.Sections.{same_section, section_word}
-use Rattle.gq_model.specs.machine.Run.{Acts, line_of, label_at, set_input}
+use Rattle.gq_model.specs.machine.Run.{Acts, line_of, label_at, set_input, submit}
 use Rattle.gq_model.specs.machine.Scenario.{Component, Scenario, System, system}
 use Rattle.gq_model.specs.machine.Step.{next}
-use Rattle.gq_model.specs.machine.World.{Current, Leaf, Request, Session, World, session_at, start}
+use Rattle.gq_model.specs.machine.World.{Current, Leaf, Request, Session, Signal, World, session_at, start}
+use Rattle.gq_model.specs.machine.Step_budgets.{StepBudget, all_steps_in}
 use Rattle.gq_model.specs.rules.Accept.{budgets, step_budgets}
 use Rattle.gq_machine.specs.Readers.{request_of, requested}
 use Rattle.gq_traces.specs.Step_positions.{Ahead, StepPosition, place_in, start_aheads, stepped}
@@ -203,10 +204,15 @@ after_turns system x (suc n) t = after_turns system x n (after_turn system x t)
 abbrev pub after_setting : System → ℕ → ℕ → ℕ → Traced → Traced
 after_setting system x i n t = record t { world = set_input system t.world x i n }
 
+-- after the i-th signal of the x-th leaf is submitted, which is no turn
+abbrev pub after_submission : ℕ → ℕ → Traced → Traced
+after_submission x i t = record t { world = submit t.world x i }
+
 -- after what a leaf is given, and after all of a list
 abbrev pub after_act : System → ℕ → Act → Traced → Traced
 after_act system x (Turns n) t = after_turns system x n t
 after_act system x (Sets i n) t = after_setting system x i n t
+after_act system x (Submits i) t = after_submission x i t
 
 abbrev pub after_all : System → Acts → Traced → Traced
 after_all system [] t = t
@@ -225,26 +231,30 @@ head_line n label place =
     codes "turn " ++ decimal n ++ codes " " ++ label ++ codes " " ++ section_word place.section ++ codes " at " ++ decimal place.number ++ place.statement
     ++ 10 ∷ []
 
+-- the accounts of a world, by its budgets of steps
+abbrev pub accounts_in : Scenario → World → List StepBudget → List Account
+accounts_in s w budgets = accounts s w (all_steps_in w budgets)
+
 -- the line that the step writes, and the accounts and sessions that are others now
-abbrev pub changes : Scenario → List ℕ → List ℕ → World → World → Event → List ℕ
+abbrev pub changes : Scenario → List StepBudget → List ℕ → World → World → Event → List ℕ
 changes s budgets label old new event =
-    line_of label event ++ account_changes s.version (map standing_of (accounts s old budgets)) (accounts s new budgets)
+    line_of label event ++ account_changes s.version (map standing_of (accounts_in s old budgets)) (accounts_in s new budgets)
     ++ session_changes s.version (system s) old new 0 (max (length old.sessions) (length new.sessions))
 
-abbrev pub step_text : Bool → Scenario → List ℕ → Traced → Due → Stepped → List ℕ
+abbrev pub step_text : Bool → Scenario → List StepBudget → Traced → Due → Stepped → List ℕ
 step_text all s budgets t d (Err wrong) = []
 step_text all s budgets t d (Ok p) =
     printed_step all (head_line (suc t.turns) d.component.label d.place) (changes s budgets d.component.label t.world p.0 p.1)
 
-abbrev pub due_text : Bool → Scenario → List ℕ → ℕ → Traced → Option Due → List ℕ
+abbrev pub due_text : Bool → Scenario → List StepBudget → ℕ → Traced → Option Due → List ℕ
 due_text all s budgets x t None = []
 due_text all s budgets x t (Some d) = step_text all s budgets t d (next (system s) t.world x)
 
 -- of a turn of the x-th leaf, and of n turns of it
-abbrev pub turn_text : Bool → Scenario → List ℕ → ℕ → Traced → List ℕ
+abbrev pub turn_text : Bool → Scenario → List StepBudget → ℕ → Traced → List ℕ
 turn_text all s budgets x t = due_text all s budgets x t (due (system s) x t)
 
-abbrev pub turns_text : Bool → Scenario → List ℕ → ℕ → ℕ → Traced → List ℕ
+abbrev pub turns_text : Bool → Scenario → List StepBudget → ℕ → ℕ → Traced → List ℕ
 turns_text all s budgets x zero t = []
 turns_text all s budgets x (suc n) t = turn_text all s budgets x t ++ turns_text all s budgets x n (after_turn (system s) x t)
 
@@ -264,18 +274,39 @@ abbrev pub setting_text : Bool → System → ℕ → ℕ → ℕ → Traced →
 setting_text all system x i n t =
     if all || not (value_at (set_input system t.world x i n) x i == value_at t.world x i) then input_line (leaf_label system x) i n else []
 
+-- whether the i-th signal of the x-th leaf is submitted
+abbrev pub flag_of : Option Signal → Bool
+flag_of None = false
+flag_of (Some s) = s.submitted
+
+abbrev pub flag_in : ℕ → Option Leaf → Bool
+flag_in i None = false
+flag_in i (Some leaf) = flag_of (slice_get leaf.signals i)
+
+abbrev pub flag_at : World → ℕ → ℕ → Bool
+flag_at w x i = flag_in i (slice_get w.leaves x)
+
+abbrev pub signal_line : List ℕ → ℕ → List ℕ
+signal_line label i = codes "signal " ++ label ++ codes "!" ++ decimal i ++ 10 ∷ []
+
+-- a submission is reported if it sets a flag that was not set, or where all are reported
+abbrev pub submission_text : Bool → System → ℕ → ℕ → Traced → List ℕ
+submission_text all system x i t =
+    if all || flag_at (submit t.world x i) x i && not (flag_at t.world x i) then signal_line (leaf_label system x) i else []
+
 -- of what the x-th leaf is given, and of all of a list
-abbrev pub act_text : Bool → Scenario → List ℕ → ℕ → Act → Traced → List ℕ
+abbrev pub act_text : Bool → Scenario → List StepBudget → ℕ → Act → Traced → List ℕ
 act_text all s budgets x (Turns n) t = turns_text all s budgets x n t
 act_text all s budgets x (Sets i n) t = setting_text all (system s) x i n t
+act_text all s budgets x (Submits i) t = submission_text all (system s) x i t
 
-abbrev pub all_text : Bool → Scenario → List ℕ → Acts → Traced → List ℕ
+abbrev pub all_text : Bool → Scenario → List StepBudget → Acts → Traced → List ℕ
 all_text all s budgets [] t = []
 all_text all s budgets (a ∷ acts) t =
     act_text all s budgets a.0 a.1 t ++ all_text all s budgets acts (after_act (system s) a.0 a.1 t)
 
-abbrev pub end_text : Scenario → List ℕ → Traced → List ℕ
-end_text s budgets t = codes "end after " ++ decimal t.turns ++ codes " turns\n" ++ account_lines s.version (accounts s t.world budgets)
+abbrev pub end_text : Scenario → List StepBudget → Traced → List ℕ
+end_text s budgets t = codes "end after " ++ decimal t.turns ++ codes " turns\n" ++ account_lines s.version (accounts_in s t.world budgets)
 
 abbrev pub trace_text : Bool → Scenario → Acts → List ℕ
 trace_text all s turns =

@@ -13,11 +13,11 @@ use Rattle.gq_traces.specs.Trace.{trace_text}
 use Rattle.gq_traces.specs.declared.step_output.Reporting.{Reporting}
 use Rattle.gq_traces.specs.declared.step_output.Reporting.TheVariants.{Changes, All}
 
--- the turns that bring all work of an accepted scenario to rest, in rounds or by chance
-abbrev pub turns_written : Option ℕ → List ℕ → Written
-turns_written seed scenario = with_scenario (loaded scenario) (λ s. Ok (schedule_text seed s))
+-- the turns that bring all work of an accepted scenario to rest, in rounds or by chance, and what all signals give, so many times
+abbrev pub turns_written : (seed times : Option ℕ) → List ℕ → Written
+turns_written seed times scenario = with_scenario (loaded scenario) (λ s. Ok (schedule_text seed times s))
 
--- goes on with the turns and settings of a text, or reports its first fault
+-- goes on with the turns, settings and signals of a text, or reports its first fault
 abbrev pub with_turns : Turned → (Acts → List ℕ) → Written
 with_turns (Ok turns) text = Ok (text turns)
 with_turns (Err fault) text = Err (refused_with (turn_fault_text fault.0 fault.1))

@@ -1,4 +1,7 @@
 pub mod Takes
+pub mod Next_able
+pub mod Line_acts
+pub mod Lines_given
 pub mod Flat
 pub mod Noted
 pub mod Printed_steps

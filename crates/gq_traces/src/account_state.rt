@@ -1,6 +1,7 @@
 // Each account after the last turn of a run, and what it is made of.
-ghost use Rattle.std.specs.Prelude.{◌≡◌, ◌<◌, ◌≤◌, ◌+◌, ◌*◌, ◌++◌, ◌∷◌, [], List, true, length, slice_get, IfSome, Some, Ok};
+ghost use Rattle.std.specs.Prelude.{◌≡◌, ◌<◌, ◌≤◌, ◌+◌, ◌*◌, ◌++◌, ◌∷◌, [], List, true, false, length, slice_get, IfSome, Some, Ok};
 ghost use Rattle.gq_model.specs.machine.Accounts.{Account, account_line};
+ghost use Rattle.gq_model.specs.machine.Run.{Acts, run};
 ghost use Rattle.gq_model.specs.machine.Scenario.{Component, components, system};
 ghost use Rattle.gq_model.specs.machine.World as model;
 ghost use Rattle.gq_model.specs.machine.World.{start};
@@ -8,29 +9,33 @@ ghost use Rattle.gq_output.specs.Writer_failures.{Writes};
 ghost use Rattle.gq_resolve.specs.NodeTables.{NodeRow, node_rows};
 ghost use Rattle.gq_world.specs.Account_lines.{all_accounts};
 ghost use Rattle.gq_reports.specs.Command_outcomes.{WritesAs};
-ghost use Rattle.gq_world.specs.World_between_turns.{AreBelow};
+ghost use Rattle.gq_world.specs.World_between_turns.{AreOf, greatest_lines};
 ghost use Rattle.gq_traces.specs.First_turns.{some_turns};
 ghost use Rattle.gq_traces.specs.Step_positions.{Ahead};
 ghost use Rattle.gq_traces.specs.Account_state.{Given, after_text, before, child_items, handed_items, has_quantum, init_items, inputs_behind, inputs_of, is_at};
-ghost use Rattle.gq_traces.specs.Account_state.{is_live, item, items_text, leaf_items, leaf_text};
+ghost use Rattle.gq_traces.specs.Account_state.{is_live, item, items_text, leaf_items, leaf_text, signal_entries, signal_entry, signals_behind};
 ghost use Rattle.gq_views.specs.Tree.{amounts};
 ghost use Rattle.gq_traces.specs.Account_state.{live_items, next_text, node_text, start_text, state_text, text_in};
-ghost use Rattle.gq_traces.specs.Trace.{Traced, start_traced};
+ghost use Rattle.gq_traces.specs.Trace.{Traced, after_all, start_traced};
 ghost use Rattle.gq_traces.specs.Traces_written.{state_from, state_written};
 ghost use Rattle.gq_traces.specs.internal.Flat.{AllStand, AreAheads, ArePrograms, programs_of};
 ghost use Rattle.gq_traces.specs.internal.Follows.{IsAt, IsFollowed};
+ghost use Rattle.gq_traces.specs.internal.Line_acts.{acts_along};
+ghost use Rattle.gq_traces.specs.internal.Lines_given.{AreFew};
 ghost use Rattle.gq_traces.specs.internal.Slot_items.{IsStanding, Prints_items, next_prefix};
 ghost use Rattle.gq_traces.specs.internal.Printed_steps.{Goes, due_of, statement_text};
 
 use crate::follow::{Followed, take_first};
 use crate::items::{SlotRow, write_amount, write_places, write_sessions, write_slots};
 use crate::line_parts::{TraceLine, extend, extend_entry, extend_place};
+use crate::place_laws::place_laws;
 use crate::step_lines::write_statement;
 use crate::step_output::write_on;
+use crate::trace::turns_of;
 use crate::tracker::{Due, next_due};
 use arrayvec::ArrayVec;
-use gq_init::turns::{TurnsError, read_items};
 use gq_init::{NodeTable, TurnItem};
+use gq_leaf::{Signal, Signals};
 use gq_machine::machine::Machine;
 use gq_model::phase::Phase;
 use gq_output::account_line::account_line;
@@ -210,7 +215,7 @@ fn extend_amounts(line: &mut TraceLine, numbers: &[u32])
 fn inputs_line(values: &[u32]) -> TraceLine
     requires { length values.now ≤ 8 }
     ensures line { result.items ≡ inputs_behind values.now }
-    ensures long { length result.items ≤ 300 }
+    ensures long { length result.items ≤ 200 }
 {
     let mut line = ArrayVec::new();
     if !values.is_empty() {
@@ -220,17 +225,54 @@ fn inputs_line(values: &[u32]) -> TraceLine
     line
 }
 
-// Reports what a leaf that lives is given, and the values of its inputs.
+// Puts how often a signal was taken at the end of a line, with a mark where it is submitted.
+fn extend_signal(line: &mut TraceLine, signal: Signal)
+    requires { length line.old.items + 22 ≤ 400 }
+    ensures bytes { line.new.items ≡ line.old.items ++ signal_entry (record { submitted = signal.submitted; taken = signal.taken }) }
+    ensures long { length line.new.items ≤ length line.old.items + 22 }
+{
+    extend_entry(line, b"", signal.taken);
+    if signal.submitted {
+        extend(line, b"!");
+    }
+}
+
+// Puts how often each signal was taken at the end of a line.
+fn extend_each(line: &mut TraceLine, signals: &Signals)
+    requires few { length signals.now ≤ 3 }
+    requires room { length line.old.items + 66 ≤ 400 }
+    ensures bytes { line.new.items ≡ line.old.items ++ signal_entries signals.now }
+    ensures long { length line.new.items ≤ length line.old.items + 66 }
+{
+    for number in 0..signals.count() {
+        extend_signal(line, signals.get(number));
+    }
+}
+
+// Puts how often the signals of a leaf were taken at the end of a line, in a line of their own.
+fn extend_signals(line: &mut TraceLine, signals: &Signals)
+    requires { length line.old.items ≤ 200 }
+    ensures bytes { line.new.items ≡ line.old.items ++ signals_behind signals.now }
+    ensures long { length line.new.items ≤ 300 }
+{
+    if signals.count() > 0 {
+        extend(line, b"\n  signals");
+        extend_each(line, signals);
+    }
+}
+
+// Reports what a leaf that lives is given, the values of its inputs, and how often its signals were taken.
 fn write_given<W: Write>(machine: &Machine, leaf: LeafNo, going: bool, out: &mut Counted<W>) -> bool
     requires leaf { leaf < length (components machine.now.scenario) }
     requires stands { IsStanding machine.now }
     ensures { (c : Component) → (l : model.Leaf) → slice_get (components machine.now.scenario) leaf ≡ Some c
         → slice_get machine.now.world.leaves leaf ≡ Some l → Prints_items W.contents out.old out.new going result machine.now
-        (item 1 Given c.node.quantum (inputs_behind (inputs_of c l)) ∷ []) }
+        (item 1 Given c.node.quantum (inputs_behind (inputs_of c l) ++ signals_behind l.signals) ∷ []) }
 {
     let table = machine.table();
     let count = table.inputs(leaf).len();
-    let line = inputs_line(&machine.inputs(leaf)[..count]);
+    let mut line = inputs_line(&machine.inputs(leaf)[..count]);
+    extend_signals(&mut line, machine.signals(leaf));
     let quantum = quantum_of(table, table.node(leaf));
     write_amount(
         table,
@@ -413,7 +455,7 @@ fn write_nodes<W: Write>(world: &World, followed: &Followed, out: &mut Counted<W
     going
 }
 
-// Takes turns and settings of a list from the start of a world, and returns all nodes then. It allocates no host memory.
+// Takes what the lines of a list give from the start of a world, and returns all nodes then. It allocates no host memory.
 fn write_state<W: Write>(
     world: &mut World,
     followed: &mut Followed,
@@ -421,10 +463,13 @@ fn write_state<W: Write>(
     first: Option<u32>,
     out: &mut Counted<W>,
 ) -> Result<(), WriteFault>
-    requires leaves { AreBelow (length (components world.old.scenario)) turns.now }
+    requires leaves { AreOf (length (components world.old.scenario)) turns.now }
+    requires each { AreFew turns.now }
+    requires signals { world.old.signals + length turns.now ≤ greatest_lines }
     requires followed { IsFollowed followed.old world.old }
     requires at { IsAt followed.old world.old (start_traced (system world.old.scenario)) }
-    ensures { Writes W.contents out.old out.new (state_text world.old.scenario (some_turns first turns.now)) result }
+    ensures { Writes W.contents out.old out.new (state_text world.old.scenario
+        (some_turns first (acts_along (system world.old.scenario) turns.now (start_traced (system world.old.scenario))))) result }
 {
     take_first(world, followed, turns, first);
     if write_nodes(world, followed, out) {
@@ -434,7 +479,7 @@ fn write_state<W: Write>(
     }
 }
 
-// Reads turns and settings, takes them from the start of a world, and returns all nodes then.
+// Reads turns, settings and signals, takes them from the start of a world, and returns all nodes then.
 fn state_of_world<W: Write>(
     alloc: Global,
     world: &mut World,
@@ -443,17 +488,17 @@ fn state_of_world<W: Write>(
     out: &mut Counted<W>,
 ) -> Result<(), RunFault<'static>>
     requires start { world.old.world ≡ start (system world.old.scenario) }
+    requires running { world.old.stopped ≡ false }
+    requires signals { world.old.signals ≡ 0 }
+    requires same { (turns : Acts) → (after_all (system world.old.scenario) turns (start_traced (system world.old.scenario))).world
+        ≡ (run (system world.old.scenario) turns).world }
     ensures { WritesAs W.contents (state_from first world.old.scenario turns.now) out.old out.new result }
 {
-    let turns = match read_items(alloc, turns, world.table()) {
-        Ok(turns) => turns,
-        Err(TurnsError::Memory(_)) => return Err(RunFault::Memory),
-        Err(TurnsError::Fault { fault, line }) => return Err(RunFault::Turns { fault, line }),
-    };
+    let turns = turns_of(alloc, world, turns)?;
     state_after(alloc, world, turns.as_slice(), first, out)
 }
 
-// Takes turns and settings of a list from the start of a world, and returns all nodes then.
+// Takes what the lines of a list give from the start of a world, and returns all nodes then.
 fn state_after<W: Write>(
     alloc: Global,
     world: &mut World,
@@ -462,8 +507,12 @@ fn state_after<W: Write>(
     out: &mut Counted<W>,
 ) -> Result<(), RunFault<'static>>
     requires start { world.old.world ≡ start (system world.old.scenario) }
-    requires leaves { AreBelow (length (components world.old.scenario)) turns.now }
-    ensures { WritesAs W.contents (Ok (state_text world.old.scenario (some_turns first turns.now))) out.old out.new result }
+    requires running { world.old.stopped ≡ false }
+    requires leaves { AreOf (length (components world.old.scenario)) turns.now }
+    requires each { AreFew turns.now }
+    requires signals { world.old.signals + length turns.now ≤ greatest_lines }
+    ensures { WritesAs W.contents (Ok (state_text world.old.scenario
+        (some_turns first (acts_along (system world.old.scenario) turns.now (start_traced (system world.old.scenario)))))) out.old out.new result }
 {
     let mut followed = match Followed::new(alloc, world) {
         Ok(followed) => followed,
@@ -476,11 +525,11 @@ fn state_after<W: Write>(
 }
 
 /// Writes each account after the last turn of a run, and what it is made of. Where a number of turns is given, it is after the first so many turns of the list,
-/// with the settings before the last of them. A list with fewer is taken whole.
+/// with the settings and signals before the last of them. A list with fewer is taken whole.
 ///
 /// - Of an init: what it was given, and what it hands to its live children.
-/// - Of a leaf that lives: what it was given, the values of its inputs, what each of its slots holds or lends, and the cells of its heap. Then the sessions to
-///   it with what they hold, and the place of its next step, if it can take one.
+/// - Of a leaf that lives: what it was given, the values of its inputs, how often its signals were taken and which are submitted, what each of its slots holds
+///   or lends, and the cells of its heap. Then the sessions to it with what they hold, and the place of its next step, if it can take one.
 /// - Of a pending leaf: after which leaf it starts.
 ///
 /// If the scenario or the turns are refused, or the host refuses memory, nothing is written; turns need none. All turns of the text are read, those that are
@@ -494,6 +543,7 @@ pub fn state<W: Write>(
 ) -> Result<(), RunFault<'static>>
     ensures { WritesAs W.contents (state_written first scenario.now turns.now) out.old out.new result }
 {
+    place_laws();
     let mut world = World::load(alloc, scenario)?;
     let written = state_of_world(alloc, &mut world, turns, first, out);
     world.end();

@@ -1,5 +1,5 @@
 // Steps that a leaf takes alone, many of them in one go.
-ghost use Rattle.std.specs.Prelude.{◌≡◌, ℕ, ◌<◌, ◌≤◌, Option, length};
+ghost use Rattle.std.specs.Prelude.{◌≡◌, ℕ, ◌<◌, ◌≤◌, Option, false, length};
 ghost use Rattle.gq_bytecode.specs.Nexts.{NoneAlone};
 ghost use Rattle.gq_model.specs.machine.Scenario.{components, system};
 ghost use Rattle.gq_traces.specs.internal.Alone_positions.{IsStraight, StepsAlone};
@@ -23,8 +23,10 @@ fn one_alone(
     requires leaf { leaf < length (components world.old.scenario) }
     requires programs { ArePrograms programs.now (programs_of world.old.scenario) }
     requires stand { AllStand programs.now aheads.old }
+    requires running { world.old.stopped ≡ false }
     ensures scenario { world.new.scenario ≡ world.old.scenario }
-    ensures stopped { world.new.stopped ≡ world.old.stopped }
+    ensures running { world.new.stopped ≡ false }
+    ensures signals { world.new.signals ≡ world.old.signals }
     ensures few { result ≤ 1 }
     ensures steps { StepsAlone (system world.old.scenario) programs.now leaf result world.old.world world.new.world aheads.old aheads.new }
     ensures none { result ≡ 0 → NoneAlone world.new.world leaf }
@@ -51,10 +53,12 @@ fn straight_alone(
     requires leaf { leaf < length (components world.old.scenario) }
     requires programs { ArePrograms programs.now (programs_of world.old.scenario) }
     requires stand { AllStand programs.now aheads.old }
+    requires running { world.old.stopped ≡ false }
     requires some { 0 < count }
     requires straight { IsStraight programs.now aheads.old leaf count next }
     ensures scenario { world.new.scenario ≡ world.old.scenario }
-    ensures stopped { world.new.stopped ≡ world.old.stopped }
+    ensures running { world.new.stopped ≡ false }
+    ensures signals { world.new.signals ≡ world.old.signals }
     ensures few { result ≤ count }
     ensures steps { StepsAlone (system world.old.scenario) programs.now leaf result world.old.world world.new.world aheads.old aheads.new }
     ensures none { result ≡ 0 → NoneAlone world.new.world leaf }
@@ -82,9 +86,11 @@ fn some_alone(
     requires leaf { leaf < length (components world.old.scenario) }
     requires programs { ArePrograms programs.now (programs_of world.old.scenario) }
     requires stand { AllStand programs.now aheads.old }
+    requires running { world.old.stopped ≡ false }
     requires some { 0 < most }
     ensures scenario { world.new.scenario ≡ world.old.scenario }
-    ensures stopped { world.new.stopped ≡ world.old.stopped }
+    ensures running { world.new.stopped ≡ false }
+    ensures signals { world.new.signals ≡ world.old.signals }
     ensures few { result ≤ most }
     ensures steps { StepsAlone (system world.old.scenario) programs.now leaf result world.old.world world.new.world aheads.old aheads.new }
     ensures none { result ≡ 0 → NoneAlone world.new.world leaf }
@@ -111,8 +117,10 @@ pub(crate) fn steps_alone(
     requires leaf { leaf < length (components world.old.scenario) }
     requires programs { ArePrograms programs.now (programs_of world.old.scenario) }
     requires stand { AllStand programs.now aheads.old }
+    requires running { world.old.stopped ≡ false }
     ensures scenario { world.new.scenario ≡ world.old.scenario }
-    ensures stopped { world.new.stopped ≡ world.old.stopped }
+    ensures running { world.new.stopped ≡ false }
+    ensures signals { world.new.signals ≡ world.old.signals }
     ensures few { result ≤ most }
     ensures steps { StepsAlone (system world.old.scenario) programs.now leaf result world.old.world world.new.world aheads.old aheads.new }
     ensures over { result < most → NoneAlone world.new.world leaf }

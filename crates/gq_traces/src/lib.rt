@@ -24,9 +24,9 @@
 //!
 //! Module `numbered_program` has the statements of a program with their numbers, `tracker` where each leaf stands among them, and `alone_steps` steps of a leaf
 //! in one go.
-//! Module `noted` has what is noted of a world, and `session_lines` what of a session. Module `step_lines` prints a step and `setting_lines` a setting, by
-//! `step_output`. `account_state` reports accounts, by `items`, after turns that `follow` takes. `peaks` takes turns itself, since it shows no place in a
-//! program.
+//! Module `noted` has what is noted of a world, and `session_lines` what of a session. Module `step_lines` prints a step, `setting_lines` a setting and
+//! `signal_lines` a submitted signal, by `step_output`. `rests` finds the leaf that takes the next turns on the way to rest. `account_state` reports accounts,
+//! by `items`, after turns that `follow` takes. `peaks` takes turns itself, since it shows no place in a program.
 //!
 //! Modules: lists of turns (`turn_schedule`, in rounds by `schedule`, by chance by `chance`), traces (`trace`, `step_lines`), states (`account_state`,
 //! `items`), and `peaks`.
@@ -43,10 +43,13 @@ mod numbered_program;
 pub mod peaks;
 pub mod peaks_laws;
 pub mod place_laws;
+mod reactions;
+mod rests;
 mod schedule;
 pub mod schedule_laws;
 mod session_lines;
 mod setting_lines;
+mod signal_lines;
 pub mod state_laws;
 mod step_lines;
 pub mod step_output;

@@ -85,7 +85,7 @@ pub(crate) fn print_setting<W: Write>(
 ) -> bool
     requires leaf { leaf < length (components world.old.scenario) }
     requires can { CanTrace world.old tracing.old }
-    ensures { (turns : ℕ) → PrintsTurns W.contents (setting_text (prints_all reporting) (system world.old.scenario) leaf input number)
+    ensures { (turns : ℕ) → PrintsTurns 0 W.contents (setting_text (prints_all reporting) (system world.old.scenario) leaf input number)
         (after_setting (system world.old.scenario) leaf input number) turns 0 world.old world.new tracing.old tracing.new out.old out.new going result }
 {
     counted(world);

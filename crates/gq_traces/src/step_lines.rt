@@ -1,5 +1,5 @@
 // What is reported of a step.
-ghost use Rattle.std.specs.Prelude.{◌≡◌, ℕ, ◌<◌, ◌≤◌, if◌then◌else◌, List, [], None, get_or, length, slice_get, true};
+ghost use Rattle.std.specs.Prelude.{◌≡◌, ℕ, ◌<◌, ◌≤◌, if◌then◌else◌, List, [], None, get_or, length, slice_get, true, false};
 ghost use Rattle.gq_model.specs.machine.Scenario.{components};
 ghost use Rattle.gq_model.specs.machine.Run.{line_of, label_at};
 ghost use Rattle.gq_model.specs.machine.World as model;
@@ -34,7 +34,7 @@ use std::io::Write;
 /// What the first line of a step reports: the number of its turn, its leaf and its place.
 #[derive(Clone, Copy)]
 pub(crate) struct Head<'a> {
-    pub turn: u32,
+    pub turn: u64,
     pub leaf: LeafNo,
     pub due: Due<'a>,
 }
@@ -53,7 +53,7 @@ fn head_line(table: &NodeTable, head: &Head<'_>) -> TraceLine
     ensures { result.items ≡ head_prefix table.now head.now }
 {
     let mut line = ArrayVec::new();
-    extend_entry(&mut line, b"turn", u64::from(head.turn));
+    extend_entry(&mut line, b"turn", head.turn);
     extend(&mut line, b" ");
     extend(&mut line, label_of(table, head.leaf));
     extend(&mut line, b" ");
@@ -332,6 +332,7 @@ pub(crate) fn print_step<W: Write>(
 ) -> bool
     requires leaf { head.now.leaf < length (components world.old.scenario) }
     requires noted { AreNoted world.old.scenario world.old.world notes.old }
+    requires running { world.old.stopped ≡ false }
     ensures { PrintsStep W.contents reporting world.old world.new notes.new out.old out.new going result head.now }
 {
     counted(world);

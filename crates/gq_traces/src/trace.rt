@@ -1,31 +1,37 @@
-// What each turn of a run did and what was set, reported.
+// What each turn of a run did, what was set and which signals were submitted, reported.
 ghost use Rattle.std.specs.Prelude.{◌≡◌, ◌+◌, ◌<◌, ◌≤◌, ◌++◌, true, false, codes, decimal, length, Ok, IfOk, IfErr};
+ghost use Rattle.gq_model.specs.machine.Run.{Acts, run};
 ghost use Rattle.gq_model.specs.machine.Scenario.{components, system};
 ghost use Rattle.gq_model.specs.machine.World.{start};
 ghost use Rattle.gq_reports.specs.Command_outcomes.{WritesAs};
 ghost use Rattle.gq_world.specs.World_between_turns as worlds;
-ghost use Rattle.gq_world.specs.World_between_turns.{AreBelow};
-ghost use Rattle.gq_traces.specs.Trace.{act_text, after_act, after_all, after_turn, after_turns, all_text, start_traced, trace_text, turn_text};
-ghost use Rattle.gq_traces.specs.Trace.{turns_text};
+ghost use Rattle.gq_world.specs.World_between_turns.{AreOf, greatest_lines};
+ghost use Rattle.gq_traces.specs.Trace.{act_text, after_act, after_all, after_turn, after_turns, all_text, start_traced, trace_text, turn_text, turns_text};
 ghost use Rattle.gq_traces.specs.Traces_written.{prints_all, trace_from, trace_written};
 ghost use Rattle.gq_traces.specs.internal.Noted.{IsUse};
 ghost use Rattle.gq_traces.specs.internal.Printed_steps.{CanTrace, Goes, IsOn, IsOwnTaken, IsSilent, IsTurnsFault, PrintsTurns, budgets_of, takes_own};
-ghost use Rattle.gq_traces.specs.First_turns.{turns_in};
-ghost use Rattle.gq_model.specs.texts.Turns.{turns_given};
-ghost use Rattle.gq_model.specs.texts.Turns.{turned};
+ghost use Rattle.gq_traces.specs.internal.Line_acts.{acts_along, after_line, after_lines, line_text, lines_text};
+ghost use Rattle.gq_traces.specs.internal.Lines_given.{AreFew, IsFew};
+ghost use Rattle.gq_init.specs.Turn_items.{IsOf};
+ghost use Rattle.gq_model.specs.machine.Rest.{as_acts, can_run, greatest_turns, to_rest, while_can};
+ghost use Rattle.gq_model.specs.texts.Turns.{listed, turns_given};
 
 use crate::alone_steps::steps_alone;
 use crate::line_parts::{extend, extend_entry};
 use crate::noted::{PrintedState, Use, counted, use_of};
 use crate::numbered_program::{NumberedProgram, all_numbered};
+use crate::place_laws::place_laws;
+use crate::rests::next_able;
 use crate::setting_lines::print_setting;
+use crate::signal_lines::print_submission;
 use crate::step_lines::{Head, Taken, is_silent, print_step, print_taken};
 use crate::step_output::{Progress, Reporting, write_on};
 use crate::tracker::{Ahead, due_in, first_aheads, go_on, next_due, pass_by};
 use arrayvec::ArrayVec;
-use gq_init::TurnItem;
-use gq_init::turns::{TurnsError, read_items};
-use gq_model::act::Act;
+use gq_init::turns::{TurnsError, read_turns};
+use gq_init::{TurnItem, line_turns};
+use gq_model::act::{Act, TurnLine};
+use gq_model::limits::GREATEST_TURNS;
 use gq_model::phase::Phase;
 use gq_model::section::Section;
 use gq_output::counted::Counted;
@@ -48,7 +54,7 @@ pub(crate) struct Tracing {
 // A step of its own that a leaf took in the turn after so many, in this section and with this top operand, and what was read of it.
 #[derive(Clone, Copy)]
 struct Own {
-    turns: u32,
+    turns: u64,
     leaf: LeafNo,
     section: Section,
     top: Option<u32>,
@@ -58,7 +64,8 @@ struct Own {
 impl Tracing {
     // At the start of a world. Refused only if the host refuses memory.
     fn new(alloc: Global, world: &World) -> Result<Tracing, AllocError>
-        requires { world.now.world ≡ start (system world.now.scenario) }
+        requires start { world.now.world ≡ start (system world.now.scenario) }
+        requires running { world.now.stopped ≡ false }
         ensures can { IfOk result (λ t. CanTrace world.now t) }
         ensures on { IfOk result (λ t. IsOn t.programs.items t.aheads.items world.now 0 (start_traced (system world.now.scenario))) }
     {
@@ -79,15 +86,15 @@ fn print_any<W: Write>(
     world: &mut World,
     tracing: &mut Tracing,
     reporting: Reporting,
-    turns: u32,
+    turns: u64,
     leaf: LeafNo,
     going: bool,
     out: &mut Counted<W>,
 ) -> bool
     requires leaf { leaf < length (components world.old.scenario) }
-    requires few { turns < 1000000 }
+    requires few { turns < 18446744073709551615 }
     requires can { CanTrace world.old tracing.old }
-    ensures { PrintsTurns W.contents (turn_text (prints_all reporting) world.old.scenario (budgets_of world.old.scenario) leaf)
+    ensures { PrintsTurns 0 W.contents (turn_text (prints_all reporting) world.old.scenario (budgets_of world.old.scenario) leaf)
         (after_turn (system world.old.scenario) leaf) turns 1 world.old world.new tracing.old tracing.new out.old out.new going result }
 {
     counted(world);
@@ -121,10 +128,10 @@ fn report_own<W: Write>(
     out: &mut Counted<W>,
 ) -> bool
     requires leaf { own.now.leaf < length (components world.now.scenario) }
-    requires few { own.now.turns < 1000000 }
+    requires few { own.now.turns < 18446744073709551615 }
     requires taken { (old : worlds.World) × IsOwnTaken old world.now tracing.old own.now text.now.items }
     ensures { (old : worlds.World) → IsOwnTaken old world.now tracing.old own.now text.now.items
-        → PrintsTurns W.contents (turn_text false old.scenario (budgets_of old.scenario) own.now.leaf) (after_turn (system old.scenario) own.now.leaf)
+        → PrintsTurns 0 W.contents (turn_text false old.scenario (budgets_of old.scenario) own.now.leaf) (after_turn (system old.scenario) own.now.leaf)
         own.now.turns 1 old world.now tracing.old tracing.new out.old out.new going result }
 {
     let programs = tracing.programs.as_slice();
@@ -169,24 +176,25 @@ fn is_short(reporting: Reporting, phase: Phase) -> bool
 fn own_turn<W: Write>(
     world: &mut World,
     tracing: &mut Tracing,
-    turns: u32,
+    turns: u64,
     leaf: LeafNo,
     before: &mut Use,
     going: bool,
     out: &mut Counted<W>,
 ) -> bool
     requires leaf { leaf < length (components world.old.scenario) }
-    requires few { turns < 1000000 }
+    requires few { turns < 18446744073709551615 }
     requires can { CanTrace world.old tracing.old }
     requires before { IsUse world.old.scenario world.old.world leaf before.old }
     requires own { takes_own before.old.phase ≡ true }
-    ensures reported { PrintsTurns W.contents (turn_text false world.old.scenario (budgets_of world.old.scenario) leaf)
+    ensures reported { PrintsTurns 0 W.contents (turn_text false world.old.scenario (budgets_of world.old.scenario) leaf)
         (after_turn (system world.old.scenario) leaf) turns 1 world.old world.new tracing.old tracing.new out.old out.new going result }
     ensures after { IsUse world.new.scenario world.new.world leaf before.new }
 {
     counted(world);
     let top = world.machine().top(leaf);
-    let section = section_of(world.machine().current(leaf));
+    let machine = world.machine();
+    let section = section_of(machine.current(leaf), machine.reacting(leaf));
     let mut text = ArrayVec::new();
     let event = world.step(leaf, &mut text);
     counted(world);
@@ -219,17 +227,17 @@ fn print_turn<W: Write>(
     world: &mut World,
     tracing: &mut Tracing,
     reporting: Reporting,
-    turns: u32,
+    turns: u64,
     leaf: LeafNo,
     before: &mut Use,
     going: bool,
     out: &mut Counted<W>,
 ) -> bool
     requires leaf { leaf < length (components world.old.scenario) }
-    requires few { turns < 1000000 }
+    requires few { turns < 18446744073709551615 }
     requires can { CanTrace world.old tracing.old }
     requires before { IsUse world.old.scenario world.old.world leaf before.old }
-    ensures reported { PrintsTurns W.contents (turn_text (prints_all reporting) world.old.scenario (budgets_of world.old.scenario) leaf)
+    ensures reported { PrintsTurns 0 W.contents (turn_text (prints_all reporting) world.old.scenario (budgets_of world.old.scenario) leaf)
         (after_turn (system world.old.scenario) leaf) turns 1 world.old world.new tracing.old tracing.new out.old out.new going result }
     ensures after { IsUse world.new.scenario world.new.world leaf before.new }
 {
@@ -280,7 +288,7 @@ fn print_some<W: Write>(
     world: &mut World,
     tracing: &mut Tracing,
     reporting: Reporting,
-    turns: u32,
+    turns: u64,
     leaf: LeafNo,
     most: u32,
     before: &mut Use,
@@ -289,12 +297,12 @@ fn print_some<W: Write>(
 ) -> (bool, u32)
     requires leaf { leaf < length (components world.old.scenario) }
     requires some { 0 < most }
-    requires few { turns + most ≤ 1000000 }
+    requires few { turns + most ≤ 18446744073709551615 }
     requires can { CanTrace world.old tracing.old }
     requires before { IsUse world.old.scenario world.old.world leaf before.old }
     ensures some { 0 < result.1 }
     ensures few { result.1 ≤ most }
-    ensures reported { PrintsTurns W.contents (turns_text (prints_all reporting) world.old.scenario (budgets_of world.old.scenario) leaf result.1)
+    ensures reported { PrintsTurns 0 W.contents (turns_text (prints_all reporting) world.old.scenario (budgets_of world.old.scenario) leaf result.1)
         (after_turns (system world.old.scenario) leaf result.1) turns result.1 world.old world.new tracing.old tracing.new out.old out.new going result.0 }
     ensures after { IsUse world.new.scenario world.new.world leaf before.new }
 {
@@ -306,7 +314,7 @@ fn print_some<W: Write>(
         world,
         tracing,
         reporting,
-        turns + silent,
+        turns + u64::from(silent),
         leaf,
         before,
         going,
@@ -320,16 +328,16 @@ fn report_turns<W: Write>(
     world: &mut World,
     tracing: &mut Tracing,
     reporting: Reporting,
-    turns: u32,
+    turns: u64,
     leaf: LeafNo,
     count: u32,
     going: bool,
     out: &mut Counted<W>,
 ) -> bool
     requires leaf { leaf < length (components world.old.scenario) }
-    requires few { turns + count ≤ 1000000 }
+    requires few { turns + count ≤ 18446744073709551615 }
     requires can { CanTrace world.old tracing.old }
-    ensures { PrintsTurns W.contents (turns_text (prints_all reporting) world.old.scenario (budgets_of world.old.scenario) leaf count)
+    ensures { PrintsTurns 0 W.contents (turns_text (prints_all reporting) world.old.scenario (budgets_of world.old.scenario) leaf count)
         (after_turns (system world.old.scenario) leaf count) turns count world.old world.new tracing.old tracing.new out.old out.new going result }
 {
     counted(world);
@@ -341,7 +349,7 @@ fn report_turns<W: Write>(
             world,
             tracing,
             reporting,
-            turns + done,
+            turns + u64::from(done),
             leaf,
             count - done,
             &mut before,
@@ -354,85 +362,239 @@ fn report_turns<W: Write>(
     going
 }
 
-// What a leaf is given, before which there were so many turns of all: turns, or another value of an input. It allocates no host memory.
+// What a leaf is given, before which there were so many turns of all: turns, another value of an input, or a signal. It allocates no host memory.
 fn print_act<W: Write>(
     world: &mut World,
     tracing: &mut Tracing,
     reporting: Reporting,
-    turns: u32,
-    item: &TurnItem,
+    turns: u64,
+    leaf: LeafNo,
+    act: Act,
     going: bool,
     out: &mut Counted<W>,
 ) -> bool
-    requires leaf { item.now.0 < length (components world.old.scenario) }
-    requires few { turns + turns_given item.now.1 ≤ 1000000 }
+    requires leaf { leaf < length (components world.old.scenario) }
+    requires few { turns + turns_given act ≤ 18446744073709551615 }
     requires can { CanTrace world.old tracing.old }
-    ensures { PrintsTurns W.contents (act_text (prints_all reporting) world.old.scenario (budgets_of world.old.scenario) item.now.0 item.now.1)
-        (after_act (system world.old.scenario) item.now.0 item.now.1) turns (turns_given item.now.1) world.old world.new tracing.old tracing.new
-        out.old out.new going result }
+    requires signals { world.old.signals < greatest_lines }
+    ensures { PrintsTurns 1 W.contents (act_text (prints_all reporting) world.old.scenario (budgets_of world.old.scenario) leaf act)
+        (after_act (system world.old.scenario) leaf act) turns (turns_given act) world.old world.new tracing.old tracing.new out.old out.new going result }
 {
-    let leaf = item.leaf();
-    match item.act() {
+    match act {
         Act::Turns(count) => report_turns(
             world, tracing, reporting, turns, leaf, count, going, out,
         ),
         Act::Sets(input, number) => print_setting(
             world, tracing, reporting, leaf, input, number, going, out,
         ),
+        Act::Submits(signal) => {
+            print_submission(world, tracing, reporting, leaf, signal, going, out)
+        }
     }
 }
 
-// All turns and settings of a list, and how many turns there were. They allocate no host memory.
+// Turns of a leaf that can take one, at least one and at most so many, before which there were so many of all: those of which nothing is printed, or else one,
+// which is printed. Each is a step. It returns how many there were. They allocate no host memory.
+fn print_steps<W: Write>(
+    world: &mut World,
+    tracing: &mut Tracing,
+    reporting: Reporting,
+    turns: u64,
+    leaf: LeafNo,
+    most: u32,
+    before: &mut Use,
+    going: bool,
+    out: &mut Counted<W>,
+) -> (bool, u32)
+    requires leaf { leaf < length (components world.old.scenario) }
+    requires some { 0 < most }
+    requires few { turns + most ≤ 18446744073709551615 }
+    requires can { CanTrace world.old tracing.old }
+    requires able { can_run (system world.old.scenario) world.old.world leaf ≡ true }
+    requires before { IsUse world.old.scenario world.old.world leaf before.old }
+    ensures some { 0 < result.1 }
+    ensures few { result.1 ≤ most }
+    ensures taken { while_can result.1 (system world.old.scenario) world.old.world leaf ≡ (result.1, world.new.world) }
+    ensures reported { PrintsTurns 0 W.contents (turns_text (prints_all reporting) world.old.scenario (budgets_of world.old.scenario) leaf result.1)
+        (after_turns (system world.old.scenario) leaf result.1) turns result.1 world.old world.new tracing.old tracing.new out.old out.new going result.0 }
+    ensures after { IsUse world.new.scenario world.new.world leaf before.new }
+{
+    counted(world);
+    world.laws();
+    let silent = silent_turns(world, tracing, reporting, leaf, most);
+    if silent > 0 {
+        return (going, silent);
+    }
+    let going = print_turn(world, tracing, reporting, turns, leaf, before, going, out);
+    (going, 1)
+}
+
+// Turns of a leaf as long as it can take one, at most so many, before which there were so many of all. It returns how many there were. They allocate no host
+// memory.
+fn report_able<W: Write>(
+    world: &mut World,
+    tracing: &mut Tracing,
+    reporting: Reporting,
+    turns: u64,
+    leaf: LeafNo,
+    most: u32,
+    going: bool,
+    out: &mut Counted<W>,
+) -> (bool, u32)
+    requires leaf { leaf < length (components world.old.scenario) }
+    requires few { turns + most ≤ 18446744073709551615 }
+    requires can { CanTrace world.old tracing.old }
+    ensures few { result.1 ≤ most }
+    ensures taken { while_can most (system world.old.scenario) world.old.world leaf ≡ (result.1, world.new.world) }
+    ensures reported { PrintsTurns 0 W.contents (turns_text (prints_all reporting) world.old.scenario (budgets_of world.old.scenario) leaf result.1)
+        (after_turns (system world.old.scenario) leaf result.1) turns result.1 world.old world.new tracing.old tracing.new out.old out.new going result.0 }
+{
+    counted(world);
+    let mut going = going;
+    let mut before = use_of(world.machine(), leaf);
+    let mut done = 0;
+    while done < most && world.can_run(leaf) {
+        let (goes, more) = print_steps(
+            world,
+            tracing,
+            reporting,
+            turns + u64::from(done),
+            leaf,
+            most - done,
+            &mut before,
+            going,
+            out,
+        );
+        going = goes;
+        done += more;
+    }
+    (going, done)
+}
+
+// Turns that bring all work to rest, at most 1,000,000, before which there were so many of all. It returns how many there were. They allocate no host memory.
+fn report_rest<W: Write>(
+    world: &mut World,
+    tracing: &mut Tracing,
+    reporting: Reporting,
+    turns: u64,
+    going: bool,
+    out: &mut Counted<W>,
+) -> (bool, u32)
+    requires few { turns + greatest_turns ≤ 18446744073709551615 }
+    requires can { CanTrace world.old tracing.old }
+    ensures few { result.1 ≤ greatest_turns }
+    ensures reported { PrintsTurns 0 W.contents (all_text (prints_all reporting) world.old.scenario (budgets_of world.old.scenario)
+        (as_acts (to_rest (system world.old.scenario) world.old.world).turns))
+        (after_all (system world.old.scenario) (as_acts (to_rest (system world.old.scenario) world.old.world).turns)) turns result.1 world.old world.new
+        tracing.old tracing.new out.old out.new going result.0 }
+{
+    let mut going = going;
+    let mut taken = 0;
+    let mut from = 0;
+    while taken < GREATEST_TURNS {
+        let Some(leaf) = next_able(world, from) else {
+            return (going, taken);
+        };
+        world.laws();
+        let (goes, more) = report_able(
+            world,
+            tracing,
+            reporting,
+            turns + u64::from(taken),
+            leaf,
+            GREATEST_TURNS - taken,
+            going,
+            out,
+        );
+        going = goes;
+        taken += more;
+        from = leaf.index() + 1;
+    }
+    (going, taken)
+}
+
+// What a line gives, before which there were so many turns of all, and how many turns that are. It allocates no host memory.
+fn print_line<W: Write>(
+    world: &mut World,
+    tracing: &mut Tracing,
+    reporting: Reporting,
+    turns: u64,
+    line: TurnLine,
+    going: bool,
+    out: &mut Counted<W>,
+) -> (bool, u32)
+    requires leaf { IsOf (length (components world.old.scenario)) line }
+    requires few { IsFew line }
+    requires turns { turns + greatest_turns ≤ 18446744073709551615 }
+    requires can { CanTrace world.old tracing.old }
+    requires signals { world.old.signals < greatest_lines }
+    ensures few { result.1 ≤ greatest_turns }
+    ensures reported { PrintsTurns 1 W.contents (line_text (prints_all reporting) world.old.scenario (budgets_of world.old.scenario) line)
+        (after_line (system world.old.scenario) line) turns result.1 world.old world.new tracing.old tracing.new out.old out.new going result.0 }
+{
+    match line {
+        TurnLine::Gives(leaf, act) => {
+            let leaf = LeafNo::new(leaf);
+            let going = print_act(world, tracing, reporting, turns, leaf, act, going, out);
+            (going, line_turns(line))
+        }
+        TurnLine::Rests => report_rest(world, tracing, reporting, turns, going, out),
+    }
+}
+
+// What all lines of a list give, and how many turns that are. It allocates no host memory.
 fn report_all<W: Write>(
     world: &mut World,
     tracing: &mut Tracing,
     reporting: Reporting,
     turns: &[TurnItem],
     out: &mut Counted<W>,
-) -> (bool, u32)
-    requires leaves { AreBelow (length (components world.old.scenario)) turns.now }
-    requires few { turns_in turns.now ≤ 1000000 }
+) -> (bool, u64)
+    requires leaves { AreOf (length (components world.old.scenario)) turns.now }
+    requires each { AreFew turns.now }
     requires can { CanTrace world.old tracing.old }
-    ensures count { result.1 ≡ turns_in turns.now }
-    ensures reported { PrintsTurns W.contents (all_text (prints_all reporting) world.old.scenario (budgets_of world.old.scenario) turns.now)
-        (after_all (system world.old.scenario) turns.now) 0 (turns_in turns.now) world.old world.new tracing.old tracing.new out.old out.new true result.0 }
+    requires signals { world.old.signals + length turns.now ≤ greatest_lines }
+    ensures { PrintsTurns (length turns.now) W.contents
+        (lines_text (prints_all reporting) world.old.scenario (budgets_of world.old.scenario) turns.now) (after_lines (system world.old.scenario) turns.now)
+        0 result.1 world.old world.new tracing.old tracing.new out.old out.new true result.0 }
 {
     let mut going = true;
     let mut taken = 0;
     for item in turns {
-        going = print_act(world, tracing, reporting, taken, item, going, out);
-        taken += item.count();
+        let (goes, more) = print_line(world, tracing, reporting, taken, item.line(), going, out);
+        going = goes;
+        taken += u64::from(more);
     }
     (going, taken)
 }
 
 // Writes how many turns there were.
-fn write_end<W: Write>(turns: u32, going: bool, out: &mut Counted<W>) -> bool
+fn write_end<W: Write>(turns: u64, going: bool, out: &mut Counted<W>) -> bool
     ensures { Goes W.contents out.old out.new going result (codes "end after " ++ decimal turns ++ codes " turns\n") }
 {
     let mut line = ArrayVec::new();
-    extend_entry(&mut line, b"end after", u64::from(turns));
+    extend_entry(&mut line, b"end after", turns);
     extend(&mut line, b" turns\n");
     write_on(out, going, line.as_slice())
 }
 
-/// The turns and settings of a text, of the leaves of a world.
+/// What the lines of a text give, of turns of the leaves of a world.
 pub(crate) fn turns_of(
     alloc: Global,
     world: &World,
     turns: &[u8],
 ) -> Result<Vec<TurnItem>, RunFault<'static>>
-    ensures read { IfOk result (λ t. turned world.now.scenario turns.now ≡ Ok t.items) }
-    ensures refused { IfErr result (λ f. IsTurnsFault f (turned world.now.scenario turns.now)) }
+    ensures read { IfOk result (λ t. listed world.now.scenario turns.now ≡ Ok t.items) }
+    ensures refused { IfErr result (λ f. IsTurnsFault f (listed world.now.scenario turns.now)) }
 {
-    match read_items(alloc, turns, world.table()) {
+    match read_turns(alloc, turns, world.table()) {
         Ok(turns) => Ok(turns),
         Err(TurnsError::Memory(_)) => Err(RunFault::Memory),
         Err(TurnsError::Fault { fault, line }) => Err(RunFault::Turns { fault, line }),
     }
 }
 
-// Takes all turns and settings of a list from the start of a world, and writes what they did and then the accounts of all nodes.
+// Takes what all lines of a list give from the start of a world, and writes what that did and then the accounts of all nodes.
 fn write_trace<W: Write>(
     world: &mut World,
     tracing: &mut Tracing,
@@ -440,11 +602,13 @@ fn write_trace<W: Write>(
     turns: &[TurnItem],
     out: &mut Counted<W>,
 ) -> Result<(), RunFault<'static>>
-    requires leaves { AreBelow (length (components world.old.scenario)) turns.now }
-    requires few { turns_in turns.now ≤ 1000000 }
+    requires leaves { AreOf (length (components world.old.scenario)) turns.now }
+    requires each { AreFew turns.now }
     requires can { CanTrace world.old tracing.old }
+    requires signals { world.old.signals + length turns.now ≤ greatest_lines }
     requires on { IsOn tracing.old.programs.items tracing.old.aheads.items world.old 0 (start_traced (system world.old.scenario)) }
-    ensures { WritesAs W.contents (Ok (trace_text (prints_all reporting) world.old.scenario turns.now)) out.old out.new result }
+    ensures { WritesAs W.contents (Ok (trace_text (prints_all reporting) world.old.scenario
+        (acts_along (system world.old.scenario) turns.now (start_traced (system world.old.scenario))))) out.old out.new result }
 {
     let (going, taken) = report_all(world, tracing, reporting, turns, out);
     let going = write_end(taken, going, out);
@@ -458,7 +622,7 @@ fn write_trace<W: Write>(
     }
 }
 
-// Reads turns and settings, takes all of them from the start of a world, and writes what they did.
+// Reads turns, settings and signals, takes all of them from the start of a world, and writes what they did.
 fn trace_world<W: Write>(
     alloc: Global,
     world: &mut World,
@@ -468,6 +632,9 @@ fn trace_world<W: Write>(
 ) -> Result<(), RunFault<'static>>
     requires start { world.old.world ≡ start (system world.old.scenario) }
     requires running { world.old.stopped ≡ false }
+    requires signals { world.old.signals ≡ 0 }
+    requires same { (turns : Acts) → (after_all (system world.old.scenario) turns (start_traced (system world.old.scenario))).world
+        ≡ (run (system world.old.scenario) turns).world }
     ensures { WritesAs W.contents (trace_from (prints_all reporting) world.old.scenario turns.now) out.old out.new result }
 {
     let turns = turns_of(alloc, world, turns)?;
@@ -480,7 +647,8 @@ fn trace_world<W: Write>(
 /// - A step has a line with the number of its turn, its leaf and its place in the text of the program.
 /// - Below it stand the line that it writes, the account of each node that it changes in anything but its steps, and each session that it changes.
 /// - A step of which there is nothing of this is printed if all are asked for.
-/// - A setting of an input has a line if it changes the value, or if all are asked for. It is no turn.
+/// - A setting of an input has a line if it changes the value, and a submitted signal if it was not submitted yet, or if all are asked for. Both are no turns.
+/// - Turns of a line `rest` are counted and reported as others.
 ///
 /// If the scenario or the turns are refused, or the host refuses memory, nothing is written; turns need none. After a failed write a prefix of the text was
 /// written.
@@ -493,6 +661,7 @@ pub fn trace<W: Write>(
 ) -> Result<(), RunFault<'static>>
     ensures { WritesAs W.contents (trace_written (prints_all reporting) scenario.now turns.now) out.old out.new result }
 {
+    place_laws();
     let mut world = World::load(alloc, scenario)?;
     let traced = trace_world(alloc, &mut world, turns, reporting, out);
     world.end();

@@ -9,14 +9,13 @@ ghost use Rattle.gq_model.specs.machine.World.{section_of};
 ghost use Rattle.gq_traces.specs.declared.tracker.Ahead as places;
 ghost use Rattle.gq_traces.specs.internal.Alone_positions.{IsStraight};
 ghost use Rattle.gq_traces.specs.internal.Flat.{AllStand, AreAheads, ArePrograms, Passes, Stands, another_round, plain_after, plain_ahead, programs_of};
-ghost use Rattle.gq_traces.specs.internal.Printed_steps.{GoesOn, IsTop, PassesBy, PassesOwn, PassesRequest, PlaceIs, PlacePrinted, StepPrinted, PrintsDue};
-ghost use Rattle.gq_traces.specs.internal.Printed_steps.{entry_place, place_of};
+ghost use Rattle.gq_traces.specs.internal.Printed_steps.{GoesOn, IsTop, PassesBy, PassesOwn, PlaceIs, PlacePrinted, PrintsDue, StartsSection, StepPrinted};
+ghost use Rattle.gq_traces.specs.internal.Printed_steps.{entry_place, place_of, section_due};
 ghost use Rattle.gq_traces.specs.internal.Printed_steps.{statement_text, way_text};
 
 use crate::numbered_program::{Next, NumberedProgram, NumberedSection, Way};
 use arrayvec::ArrayVec;
 use gq_machine::machine::Machine;
-use gq_machine::world_reads::Asked;
 use gq_model::limits::GREATEST_DEPTH;
 use gq_model::phase::Phase;
 use gq_model::section::Section;
@@ -339,17 +338,33 @@ fn step_due<'a>(
     requires aheads { AllStand programs.now aheads.now }
     ensures { StepPrinted programs.now aheads.now machine.now.scenario machine.now.world leaf result }
 {
-    due_in(programs, aheads, leaf, section_of(machine.current(leaf)))
+    let section = section_of(machine.current(leaf), machine.reacting(leaf));
+    due_in(programs, aheads, leaf, section)
 }
 
-// The place of the step that takes a request.
-fn request_due(asked: Asked) -> Due<'static>
-    ensures { place_of result ≡ place asked.section 0 [] }
+// The place of the start of a section.
+fn start_due(section: Section) -> Due<'static>
+    ensures { place_of result ≡ place section 0 [] }
 {
     Due {
-        section: asked.section,
+        section,
         number: 0,
         statement: TrackedStatement::Nothing,
+    }
+}
+
+// The section that a serving leaf takes next, if it can take one: for a signal that is submitted, else for the oldest request.
+fn next_section(machine: &Machine, leaf: LeafNo) -> Option<Section>
+    requires leaf { leaf < length (components machine.now.scenario) }
+    requires leaves { length machine.now.world.leaves ≡ length (components machine.now.scenario) }
+    ensures { IfSome (slice_get machine.now.world.leaves leaf) (λ l. result ≡ section_due machine.now.world leaf l) }
+{
+    match machine.signals(leaf).first() {
+        Some(signal) => Some(Section::Reacting(signal)),
+        None => match machine.oldest(leaf) {
+            None => None,
+            Some(asked) => Some(asked.section),
+        },
     }
 }
 
@@ -368,9 +383,9 @@ pub(crate) fn next_due<'a>(
 {
     match machine.phase(leaf) {
         Phase::Pending | Phase::Blocked | Phase::Exited => None,
-        Phase::Serving => match machine.oldest(leaf) {
+        Phase::Serving => match next_section(machine, leaf) {
             None => None,
-            Some(asked) => Some(request_due(asked)),
+            Some(section) => Some(start_due(section)),
         },
         Phase::Running => Some(step_due(programs, aheads, machine, leaf)),
         Phase::Handling => Some(step_due(programs, aheads, machine, leaf)),
@@ -437,11 +452,11 @@ fn pass_own(programs: &[NumberedProgram], aheads: &mut [Ahead], machine: &Machin
     pass_by(programs, aheads, leaf, machine.top(leaf));
 }
 
-// Goes on at the start of the section of a request.
-fn pass_request(programs: &[NumberedProgram], aheads: &mut [Ahead], leaf: LeafNo, section: Section)
+// Goes on at the start of a section.
+fn start_section(programs: &[NumberedProgram], aheads: &mut [Ahead], leaf: LeafNo, section: Section)
     requires leaf { leaf < length programs.now }
     requires aheads { length aheads.old ≡ length programs.now }
-    ensures { PassesRequest programs.now aheads.old aheads.new leaf section }
+    ensures { StartsSection programs.now aheads.old aheads.new leaf section }
 {
     let part = programs[leaf.index()].part(section);
     aheads[leaf.index()] = Ahead::new(part);
@@ -462,9 +477,9 @@ pub(crate) fn go_on(
 {
     match machine.phase(leaf) {
         Phase::Pending | Phase::Blocked | Phase::Exited => (),
-        Phase::Serving => match machine.oldest(leaf) {
+        Phase::Serving => match next_section(machine, leaf) {
             None => (),
-            Some(asked) => pass_request(programs, aheads, leaf, asked.section),
+            Some(section) => start_section(programs, aheads, leaf, section),
         },
         Phase::Running => pass_own(programs, aheads, machine, leaf),
         Phase::Handling => pass_own(programs, aheads, machine, leaf),

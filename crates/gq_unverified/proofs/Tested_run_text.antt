@@ -4,10 +4,11 @@ use Rattle.std.specs.Io.KnownBytes.{Appends}
 use Rattle.gq_model.specs.declared.fault.TurnFault.{TurnFault}
 use Rattle.gq_model.specs.declared.fault.Wrong.{Wrong}
 use Rattle.gq_model.specs.machine.Accounts.{account_lines, text_of}
-use Rattle.gq_model.specs.machine.Run.{Ran, Acts, run, run_on}
+use Rattle.gq_model.specs.declared.act.TurnLine.{TurnLine}
+use Rattle.gq_model.specs.machine.Run.{Ran, Acts, begun, run}
 use Rattle.gq_model.specs.machine.Scenario.{Scenario, system}
 use Rattle.gq_model.specs.machine.World.{World, start}
-use Rattle.gq_model.specs.texts.Turns.{turned}
+use Rattle.gq_model.specs.texts.Turns.{acts_of, listed}
 use Rattle.gq_load.specs.Load.{LoadRefusal}
 use Rattle.gq_load.specs.Unverified.{unverified}
 use Rattle.gq_load.specs.Load_faults.{Refuses}
@@ -18,19 +19,23 @@ use Rattle.gq_output.proofs.Written_byte_facts.{appends_both}
 use Rattle.gq_world.specs.Account_lines.{accounts_by}
 use Rattle.gq_reports.specs.Command_outcomes.{run_fault_of}
 use Rattle.gq_reports.specs.Whole.{refused_with, turn_fault_text}
-use Rattle.gq_world.specs.internal.Act_transitions.{going}
+use Rattle.gq_world.specs.internal.Act_transitions.{acts_of_lines, going, lines_on}
+use Rattle.gq_world.proofs.Turn_sequence_runs.{lines_are}
 use Rattle.gq_world.proofs.Line_text_prefixes.{prefix_by, prefix_after}
 use Rattle.gq_world.proofs.Run_text.{rest_of}
 use Rattle.gq_unverified.specs.Tested_run_ends.{IsTestFault}
 use Rattle.gq_unverified.specs.Tested.{tested_text, first_wrong, named, tested_from, tested_turns, run_tested}
 use Rattle.gq_unverified.specs.internal.Taking.{HasCome, IsCut}
 
-module _ (s : Scenario) (turns : Acts) (old : World) (starts : old ≡ start (system s)) (before between after : Option (List ℕ)) where
+module _ (s : Scenario) (lines : List TurnLine) (old : World) (starts : old ≡ start (system s)) (before between after : Option (List ℕ)) where
   abbrev taken : Ran → Ran
-  taken = run_on (system s) turns
+  taken = lines_on (system s) lines
+
+  abbrev turns : Acts
+  turns = acts_of_lines s lines
 
   from_start : run (system s) turns ≡ taken (going old [])
-  from_start = ap (λ w. taken (going w [])) (sym starts)
+  from_start = lines_are (system s) lines (begun (system s)) ∙ ap (λ w. taken (going w [])) (sym starts)
 
   -- the wrong step that the turns come to is the first
   pub wrong_is : (new : World) (wrong : Option (ℕ × Wrong)) → HasCome taken old new wrong before between → wrong ≡ first_wrong s turns
@@ -72,13 +77,13 @@ module _ (s : Scenario) (turns : Acts) (old : World) (starts : old ≡ start (sy
 -- TEXTS
 
 -- what the definition gives
-pub tested_is : (scenario text : List ℕ) (s : Scenario) (turns : Acts) → unverified scenario ≡ Ok s → turned s text ≡ Ok turns
-    → run_tested scenario text ≡ Ok (tested_text s turns, named s (first_wrong s turns))
-tested_is scenario text s turns load e = ap (λ l. tested_from l text) load ∙ ap (tested_turns s) e
+pub tested_is : (scenario text : List ℕ) (s : Scenario) (lines : List TurnLine) → unverified scenario ≡ Ok s → listed s text ≡ Ok lines
+    → run_tested scenario text ≡ Ok (tested_text s (acts_of_lines s lines), named s (first_wrong s (acts_of_lines s lines)))
+tested_is scenario text s lines load e = ap (λ l. tested_from l text) load ∙ ap (λ l. tested_turns s (acts_of (system s) l)) e
 
-pub refused_is : (scenario text : List ℕ) (s : Scenario) (fault : TurnFault × ℕ) → unverified scenario ≡ Ok s → turned s text ≡ Err fault
+pub refused_is : (scenario text : List ℕ) (s : Scenario) (fault : TurnFault × ℕ) → unverified scenario ≡ Ok s → listed s text ≡ Err fault
     → run_tested scenario text ≡ Err (refused_with (turn_fault_text fault.0 fault.1))
-refused_is scenario text s fault load e = ap (λ l. tested_from l text) load ∙ ap (tested_turns s) e
+refused_is scenario text s fault load e = ap (λ l. tested_from l text) load ∙ ap (λ l. tested_turns s (acts_of (system s) l)) e
 
 -- why nothing is read is why nothing is written
 pub unread_is : (e : LoadError) (read : Result Scenario LoadRefusal) (text : List ℕ) → Refuses e read → IsTestFault (run_fault_of e) (tested_from read text)

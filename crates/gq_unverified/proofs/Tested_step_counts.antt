@@ -5,12 +5,13 @@ use Rattle.std.proofs.lemmas.List.{length-set}
 use Rattle.std.specs.Prelude.{slice_get, slice_index, slice_set}
 use Rattle.gq_model.specs.machine.Doing.{Event, Stepped}
 use Rattle.gq_model.specs.machine.Scenario.{System, Component}
-use Rattle.gq_model.specs.machine.Run.{set_input}
+use Rattle.gq_model.specs.machine.Run.{set_input, signals_with, submit}
 use Rattle.gq_model.specs.machine.Step.{next}
 use Rattle.gq_model.specs.machine.World.{Leaf, World, start, start_leaves}
-use Rattle.gq_laws.specs.Turn_effects.{CountsSteps, KeepsLeaves, StandsStill, can_run, steps_of}
-use Rattle.gq_laws.proofs.input_settings.Setting_keeps_invariants.{of_setting}
-use Rattle.gq_laws.proofs.input_settings.Setting_counts_nothing.{set_steps}
+use Rattle.gq_model.specs.machine.Rest.{can_run}
+use Rattle.gq_laws.specs.Turn_effects.{CountsSteps, KeepsLeaves, StandsStill, steps_of}
+use Rattle.gq_laws.proofs.input_settings.Setting_keeps_invariants.{of_setting, of_submit}
+use Rattle.gq_laws.proofs.input_settings.Setting_counts_nothing.{set_steps, submit_steps}
 use Rattle.gq_laws.proofs.step_shapes.Step_counting.{index_there}
 use Rattle.gq_machine.specs.Machines.{IsCountable}
 use Rattle.gq_unverified.specs.internal.Taking.{HasRoom, IsNear}
@@ -61,6 +62,20 @@ near_set system old new x i n e =
     (record {
       leaves = set_leaves system old x i n;
       steps = λ y. let h = ap (λ (l : List ℕ). slice_index l y) (set_steps system old x i n) in omega (arith, h);
+    })
+
+-- so does a signal
+submit_leaves : (w : World) (x i : ℕ) → length (submit w x i).leaves ≡ length w.leaves
+submit_leaves w x i =
+    of_submit (λ v. length v.leaves ≡ length w.leaves) w x i
+    (λ leaf there. length-set w.leaves x (record leaf { signals = signals_with leaf.signals i })) refl
+
+pub near_submit : (old new : World) (x i : ℕ) → new ≡ submit old x i → IsNear old new 0
+near_submit old new x i e =
+    subst (λ (w : World). IsNear old w 0) (sym e)
+    (record {
+      leaves = submit_leaves old x i;
+      steps = λ y. let h = ap (λ (l : List ℕ). slice_index l y) (submit_steps old x i) in omega (arith, h);
     })
 
 -- there is room for what is left

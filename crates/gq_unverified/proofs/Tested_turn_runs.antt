@@ -4,17 +4,19 @@ use Rattle.std.proofs.Common.{append_assoc, append-nil}
 use Rattle.std.proofs.lemmas.List.{take-append-drop}
 use Rattle.std.specs.Io.KnownBytes.{Appends}
 use Rattle.gq_model.specs.declared.act.Act.{Act}
-use Rattle.gq_model.specs.declared.act.Act.TheVariants.{Turns, Sets}
+use Rattle.gq_model.specs.declared.act.Act.TheVariants.{Turns, Sets, Submits}
+use Rattle.gq_model.specs.declared.act.TurnLine.{TurnLine}
+use Rattle.gq_model.specs.texts.Turns.{line_acts}
 use Rattle.gq_model.specs.declared.fault.Wrong.{Wrong}
 use Rattle.gq_model.specs.machine.Doing as doing
-use Rattle.gq_model.specs.machine.Run.{Ran, Acts, after_step, turn_from, turns_of, set_input, set_from, act_on, run_on}
+use Rattle.gq_model.specs.machine.Run.{Ran, Acts, after_step, turn_from, turns_of, set_input, set_from, submit, submit_from, act_on, run_on}
 use Rattle.gq_model.specs.machine.Scenario.{Scenario, System, system}
 use Rattle.gq_model.specs.machine.Step.{next}
 use Rattle.gq_model.specs.machine.World.{World}
 use Rattle.gq_output.specs.Writes.{IsPrefix}
 use Rattle.gq_output.proofs.Written_byte_facts.{appends_nothing, appends_both}
 use Rattle.gq_world.specs.World_between_turns.{line_reported}
-use Rattle.gq_world.specs.internal.Act_transitions.{going}
+use Rattle.gq_world.specs.internal.Act_transitions.{going, lines_on}
 use Rattle.gq_world.proofs.Turn_sequence_runs.{joined}
 use Rattle.gq_unverified.specs.internal.Taking.{HasCome, HasLeft, IsCut}
 
@@ -66,6 +68,16 @@ came_set system x i n old new before same =
       ran = λ prefix. (λ k. record { world = sym same k; text = sym (append-nil prefix) k; wrong = None });
     }
 
+-- so does a signal
+pub came_submit : (system : System) (x i : ℕ) (old new : World) (before : Option (List ℕ)) → new ≡ submit old x i
+    → HasCome (act_on system x (Submits i)) old new None before before
+came_submit system x i old new before same =
+    record {
+      text = [];
+      written = appends_nothing before;
+      ran = λ prefix. (λ k. record { world = sym same k; text = sym (append-nil prefix) k; wrong = None });
+    }
+
 -- AFTER A WRONG STEP
 
 pub turns_stuck : (system : System) (x n : ℕ) (ran : Ran) (p : ℕ × Wrong) → ran.wrong ≡ Some p → turns_of system x n ran ≡ ran
@@ -77,10 +89,16 @@ turns_stuck system x (suc n) ran p e =
 pub act_stuck : (system : System) (x : ℕ) (a : Act) (ran : Ran) (p : ℕ × Wrong) → ran.wrong ≡ Some p → act_on system x a ran ≡ ran
 act_stuck system x (Turns n) ran p e = turns_stuck system x n ran p e
 act_stuck system x (Sets i n) ran p e = ap (set_from system x i n ran) e
+act_stuck system x (Submits i) ran p e = ap (submit_from x i ran) e
 
 pub runs_stuck : (system : System) (turns : Acts) (ran : Ran) (p : ℕ × Wrong) → ran.wrong ≡ Some p → run_on system turns ran ≡ ran
 runs_stuck system [] ran p e = refl
 runs_stuck system (t ∷ turns) ran p e = ap (run_on system turns) (act_stuck system t.0 t.1 ran p e) ∙ runs_stuck system turns ran p e
+
+pub lines_stuck : (system : System) (lines : List TurnLine) (ran : Ran) (p : ℕ × Wrong) → ran.wrong ≡ Some p → lines_on system lines ran ≡ ran
+lines_stuck system [] ran p e = refl
+lines_stuck system (line ∷ lines) ran p e =
+    ap (lines_on system lines) (runs_stuck system (line_acts system ran line) ran p e) ∙ lines_stuck system lines ran p e
 
 -- TURNS AND WHAT FOLLOWS THEM
 
@@ -139,12 +157,12 @@ pub ends : (system : System) (x left : ℕ) → left ≡ 0 → (all : Ran → Ra
 ends system x left e all old new before after h =
     record { text = h.text; written = h.written; ran = λ prefix. sym (h.same prefix) ∙ ap (λ n. turns_of system x n (going new (prefix ++ h.text))) e }
 
-pub ends_all : (system : System) (left : Acts) → left ≡ [] → (all : Ran → Ran) (old new : World) (before after : Option (List ℕ))
-    → HasLeft (run_on system left) all old new before after → HasCome all old new None before after
+pub ends_all : (system : System) (left : List TurnLine) → left ≡ [] → (all : Ran → Ran) (old new : World) (before after : Option (List ℕ))
+    → HasLeft (lines_on system left) all old new before after → HasCome all old new None before after
 ends_all system left e all old new before after h =
-    record { text = h.text; written = h.written; ran = λ prefix. sym (h.same prefix) ∙ ap (λ l. run_on system l (going new (prefix ++ h.text))) e }
+    record { text = h.text; written = h.written; ran = λ prefix. sym (h.same prefix) ∙ ap (λ l. lines_on system l (going new (prefix ++ h.text))) e }
 
-one_less : (count i : ℕ) → i < count → count - i ≡ suc (count - (i + 1))
+pub one_less : (count i : ℕ) → i < count → count - i ≡ suc (count - (i + 1))
 one_less count i less = omega (arith, less)
 
 -- turns that are left are one and the rest

@@ -10,5 +10,6 @@
 #![tactic(auto)]
 
 pub mod step;
+mod tested_rest;
 pub mod tested_run;
 mod tested_turns;

@@ -1,17 +1,20 @@
-// Turns with tests and settings, one after the other, up to a wrong step.
-ghost use Rattle.std.specs.Prelude.{◌≡◌, ◌<◌, length, IfOk, IfSome, OnErr};
-ghost use Rattle.gq_model.specs.machine.Run.{act_on, turns_of, run_on};
+// Turns with tests, settings and signals, one after the other, up to a wrong step.
+ghost use Rattle.std.specs.Prelude.{◌≡◌, ◌<◌, length, IfOk, IfSome, OnOk, OnErr};
+ghost use Rattle.gq_model.specs.machine.Run.{act_on, turns_of};
 ghost use Rattle.gq_model.specs.machine.Scenario.{components, system};
 ghost use Rattle.gq_model.specs.texts.Turns.{turns_given};
 ghost use Rattle.gq_output.specs.Writer_failures.{written_to};
-ghost use Rattle.gq_world.specs.internal.Act_transitions.{AreBelow};
-ghost use Rattle.gq_unverified.specs.internal.Taking.{CountsFailures, HasCome, HasRoom, IsCut, IsNear, turns_in};
+ghost use Rattle.gq_init.specs.Turn_items.{IsOf};
+ghost use Rattle.gq_world.specs.internal.Act_transitions.{AreOf, line_on, lines_on};
+ghost use Rattle.gq_unverified.specs.internal.Taking.{CountsFailures, HasCome, HasRoom, IsCut, IsNear, most_turns, turns_in};
 
+use crate::tested_rest::take_rest;
 use arrayvec::ArrayVec;
+use gq_init::TurnItem;
 use gq_laws::turn_step_laws::turn_laws;
 use gq_machine::event::Event;
 use gq_machine::machine::Machine;
-use gq_model::act::Act;
+use gq_model::act::{Act, TurnLine};
 use gq_model::fault::Wrong;
 use gq_output::counted::{Counted, WriteFault};
 use gq_scenario::scenario::LeafNo;
@@ -19,7 +22,7 @@ use gq_world::leaf_lines::write_line;
 use std::io::Write;
 
 // A turn of a leaf, with its line. Answers the leaf and what is wrong, if the step is.
-fn take_turn<W: Write>(
+pub(crate) fn take_turn<W: Write>(
     machine: &mut Machine,
     leaf: LeafNo,
     out: &mut Counted<W>,
@@ -78,7 +81,8 @@ fn take_turns<W: Write>(
     Ok(None)
 }
 
-// Gives a leaf turns, up to the first that is wrong or whose line is not written whole, or another value of an input. It allocates no host memory.
+// Gives a leaf turns, up to the first that is wrong or whose line is not written whole, or another value of an input, or a signal. It allocates no host
+// memory.
 fn take_act<W: Write>(
     machine: &mut Machine,
     leaf: LeafNo,
@@ -102,28 +106,61 @@ fn take_act<W: Write>(
             let _set = machine.set_input(leaf, usize::from(input), number);
             Ok(None)
         }
+        Act::Submits(signal) => {
+            let _submitted = machine.submit(leaf, usize::from(signal));
+            Ok(None)
+        }
     }
 }
 
-// All turns and settings of a list, up to the first turn that is wrong or whose line is not written whole. They allocate no host memory.
-pub(crate) fn take_all<W: Write>(
+// What a line of a list of turns gives, up to the first turn that is wrong or whose line is not written whole. It allocates no host memory.
+fn take_line<W: Write>(
     machine: &mut Machine,
-    turns: &[(LeafNo, Act)],
+    line: TurnLine,
     out: &mut Counted<W>,
 ) -> Result<Option<(LeafNo, Wrong)>, WriteFault>
-    requires leaves { AreBelow (length (components machine.old.scenario)) turns.now }
-    requires room { HasRoom machine.old.world (turns_in turns.now) }
+    requires count { length machine.old.world.leaves ≡ length (components machine.old.scenario) }
+    requires leaf { IsOf (length (components machine.old.scenario)) line }
+    requires room { HasRoom machine.old.world (most_turns line) }
     ensures scenario { machine.new.scenario ≡ machine.old.scenario }
     ensures leaves { length machine.new.world.leaves ≡ length machine.old.world.leaves }
-    ensures come { IfOk result (λ wrong. HasCome (run_on (system machine.old.scenario) turns.now) machine.old.world machine.new.world wrong
+    ensures near { OnOk result (IsNear machine.old.world machine.new.world (most_turns line)) }
+    ensures come { IfOk result (λ wrong. HasCome (line_on (system machine.old.scenario) line) machine.old.world machine.new.world wrong
         (written_to W.contents out.old) (written_to W.contents out.new)) }
     ensures there { IfOk result (λ wrong. IfSome wrong (λ p. p.0 < length (components machine.old.scenario))) }
-    ensures cut { OnErr result (IsCut (run_on (system machine.old.scenario) turns.now) machine.old.world (written_to W.contents out.old)
+    ensures cut { OnErr result (IsCut (line_on (system machine.old.scenario) line) machine.old.world (written_to W.contents out.old)
         (written_to W.contents out.new)) }
     ensures failures { CountsFailures out.old out.new result }
 {
-    for (leaf, act) in turns {
-        match take_act(machine, *leaf, *act, out) {
+    match line {
+        TurnLine::Gives(leaf, act) => take_act(machine, LeafNo::new(leaf), act, out),
+        TurnLine::Rests => match take_rest(machine, out) {
+            Ok(()) => Ok(None),
+            Err(fault) => Err(fault),
+        },
+    }
+}
+
+// What all lines of a list give, up to the first turn that is wrong or whose line is not written whole. They allocate no host memory.
+pub(crate) fn take_all<W: Write>(
+    machine: &mut Machine,
+    turns: &[TurnItem],
+    out: &mut Counted<W>,
+) -> Result<Option<(LeafNo, Wrong)>, WriteFault>
+    requires count { length machine.old.world.leaves ≡ length (components machine.old.scenario) }
+    requires leaves { AreOf (length (components machine.old.scenario)) turns.now }
+    requires room { HasRoom machine.old.world (turns_in turns.now) }
+    ensures scenario { machine.new.scenario ≡ machine.old.scenario }
+    ensures leaves { length machine.new.world.leaves ≡ length machine.old.world.leaves }
+    ensures come { IfOk result (λ wrong. HasCome (lines_on (system machine.old.scenario) turns.now) machine.old.world machine.new.world wrong
+        (written_to W.contents out.old) (written_to W.contents out.new)) }
+    ensures there { IfOk result (λ wrong. IfSome wrong (λ p. p.0 < length (components machine.old.scenario))) }
+    ensures cut { OnErr result (IsCut (lines_on (system machine.old.scenario) turns.now) machine.old.world (written_to W.contents out.old)
+        (written_to W.contents out.new)) }
+    ensures failures { CountsFailures out.old out.new result }
+{
+    for item in turns {
+        match take_line(machine, item.line(), out) {
             Ok(None) => (),
             Ok(Some(wrong)) => return Ok(Some(wrong)),
             Err(fault) => return Err(fault),

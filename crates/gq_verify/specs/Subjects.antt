@@ -7,10 +7,10 @@ use Rattle.gq_model.specs.machine.Scenario.{Interfaces, service_in}
 use Rattle.gq_model.specs.rules.Kinds.{Subject}
 use Rattle.gq_model.specs.rules.Budgets.{section_cost}
 
--- a program, the interface of the service that it provides, all interfaces, and the greatest values of its inputs
-abbrev pub subject_of : Program → Option (List ℕ) → Interfaces → List ℕ → Subject
-subject_of program provides interfaces inputs =
-    record { program = program; provided = service_in provides interfaces; interfaces = interfaces; inputs = inputs }
+-- a program, the interface of the service that it provides, all interfaces, the greatest values of its inputs, and the number of its signals
+abbrev pub subject_of : Program → Option (List ℕ) → Interfaces → List ℕ → ℕ → Subject
+subject_of program provides interfaces inputs signals =
+    record { program = program; provided = service_in provides interfaces; interfaces = interfaces; inputs = inputs; signals = signals }
 
 -- what a section costs, where it is among these
 abbrev pub cost_in : Section → List (Section × Statements) → Option ℕ

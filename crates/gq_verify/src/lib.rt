@@ -4,8 +4,8 @@
 //! use gq_verify::verify;
 //!
 //! // A program from `gq_asm` or `gq_code` whose `main` has the statement `space o0 8192`, and the interfaces of its scenario. It provides no service,
-//! // and has no inputs.
-//! let verified = verify(&program, None, &interfaces, &[])?;
+//! // and has no inputs and no signals.
+//! let verified = verify(&program, None, &interfaces, &[], 0)?;
 //! assert_eq!(rt; verified.own(), 8192);
 //! assert_eq!(rt; verified.cost(Section::Main), Some(2));
 //! ```

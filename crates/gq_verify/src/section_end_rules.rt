@@ -39,14 +39,14 @@ fn are_empty(kinds: &[Kind]) -> bool
     true
 }
 
-/// Who provides nothing ends without a link.
+/// Who provides nothing and has no signals ends without a link.
 fn main_end(subject: &Subject<'_>, state: &AbstractState) -> Result<(), Rule>
-    ensures { after result state.now ≡ main_end subject.now.provided state.now }
+    ensures { after result state.now ≡ main_end subject.now.provided subject.now.signals state.now }
 {
     let has_link = has_link(state.own().kinds());
-    match subject.provided() {
-        Some(_) => Ok(()),
-        None => must(!has_link, Rule::LinkLeftOpen),
+    match (subject.provided(), subject.signals()) {
+        (None, 0) => must(!has_link, Rule::LinkLeftOpen),
+        _ => Ok(()),
     }
 }
 

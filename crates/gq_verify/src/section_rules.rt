@@ -38,13 +38,14 @@ fn section_flow(
     Ok(state)
 }
 
-/// Whether a program that provides a service of this interface, or none, has this section.
-fn is_wanted(provided: Option<&Interface>, section: Section) -> bool
-    ensures { result ≡ is_wanted (option_copied provided.entry) section }
+/// Whether a program with so many signals that provides a service of this interface, or none, has this section.
+fn is_wanted(provided: Option<&Interface>, signals: u8, section: Section) -> bool
+    ensures { result ≡ is_wanted (option_copied provided.entry) signals section }
 {
     match (provided, section) {
         (_, Section::Main) => true,
-        (None, _) | (_, Section::Reacting(_)) => false,
+        (_, Section::Reacting(signal)) => signal < signals,
+        (None, _) => false,
         (Some(_), Section::Opening) => true,
         (
             Some(interface),
@@ -58,7 +59,7 @@ fn first_unwanted(subject: &Subject<'_>, sections: &[Section]) -> Option<Section
     ensures { result ≡ first_unwanted subject.now sections.now }
 {
     for section in sections {
-        if subject.has(*section) != is_wanted(subject.provided(), *section) {
+        if subject.has(*section) != is_wanted(subject.provided(), subject.signals(), *section) {
             return Some(*section);
         }
     }

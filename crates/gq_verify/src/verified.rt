@@ -132,24 +132,25 @@ impl<'a> Verified<'a> {
     }
 }
 
-/// Judges a program by its service, if it provides one, all interfaces, and the greatest values of its inputs. Returns what the program
-/// uses at most, or the rule that it breaks first. A service without an interface counts as none. The call goes over the statements a
-/// fixed number of times, and allocates no host memory.
+/// Judges a program by its service, if it provides one, all interfaces, the greatest values of its inputs, and the number of its signals.
+/// Returns what the program uses at most, or the rule that it breaks first. A service without an interface counts as none. The call goes
+/// over the statements a fixed number of times, and allocates no host memory.
 pub fn verify<'a>(
     program: &'a Program,
     provides: Option<&Name>,
     interfaces: &'a Interfaces,
     inputs: &'a [u32],
+    signals: u8,
 ) -> Result<Verified<'a>, BrokenRule>
-    ensures subject { IfOk result (λ v. v ≡ subject_of program.now (option_copied provides.entry) interfaces.now inputs.now) }
-    ensures accepted { IfOk result (λ v. verdict program.now (option_copied provides.entry) interfaces.now inputs.now ≡ Ok (verified v)) }
-    ensures refused { IfErr result (λ fault. verdict program.now (option_copied provides.entry) interfaces.now inputs.now ≡ Err (known_fault fault)) }
+    ensures subject { IfOk result (λ v. v ≡ subject_of program.now (option_copied provides.entry) interfaces.now inputs.now signals) }
+    ensures accepted { IfOk result (λ v. verdict program.now (option_copied provides.entry) interfaces.now inputs.now signals ≡ Ok (verified v)) }
+    ensures refused { IfErr result (λ fault. verdict program.now (option_copied provides.entry) interfaces.now inputs.now signals ≡ Err (known_fault fault)) }
 {
     let provided = match provides {
         Some(service) => interfaces.named(service.as_bytes()),
         None => None,
     };
-    let subject = Subject::new(program, provided, interfaces, inputs);
+    let subject = Subject::new(program, provided, interfaces, inputs, signals);
     let starts = Starts::new(&subject);
     if let Some(fault) = program_fault(&subject, &starts) {
         return Err(fault);

@@ -1,5 +1,5 @@
 -- An accepted scenario as a tree, and as a graph for Graphviz.
-use Rattle.std.specs.Prelude.{ℕ, suc, ◌+◌, ◌-◌, if◌then◌else◌, List, [], ◌∷◌, ◌++◌, Option, Some, None, decimal, codes, slice_get}
+use Rattle.std.specs.Prelude.{ℕ, suc, ◌+◌, ◌-◌, ◌==◌, if◌then◌else◌, List, [], ◌∷◌, ◌++◌, Option, Some, None, decimal, codes, slice_get}
 use Rattle.std.specs.Prelude.{slice_index}
 use Rattle.gq_model.specs.machine.Amounts.{Resource, Ram, Caps, Amount, part}
 use Rattle.gq_model.specs.machine.Accounts.{entry, leaf_count, reported}
@@ -47,15 +47,24 @@ abbrev pub inputs_entry : List ℕ → List ℕ
 inputs_entry [] = []
 inputs_entry (n ∷ rest) = codes " inputs" ++ amounts (n ∷ rest)
 
+-- the number of signals, where there are any
+abbrev pub signals_entry : ℕ → List ℕ
+signals_entry n = if n == 0 then [] else entry (codes "signals") n
+
 abbrev pub budget_entries : ℕ → Option Budget → List ℕ
 budget_entries version None = []
-budget_entries version (Some b) = entry (codes "own") b.own.ram ++ reported version (entry (codes "caps") b.own.caps) ++ entry (codes "steps") b.steps
+budget_entries version (Some b) =
+    entry (codes "own") b.own.ram ++ reported version (entry (codes "caps") b.own.caps) ++ entry (codes "steps") b.steps.from_start
 
-abbrev pub leaf_text : ℕ → LeafNode → Option Budget → List ℕ
-leaf_text version node b =
+-- what the scenario says of a leaf
+abbrev pub leaf_words : ℕ → LeafNode → List ℕ
+leaf_words version node =
     node.name ++ entry (codes "quantum") node.quantum.ram ++ reported version (entry (codes "caps") node.quantum.caps)
-    ++ named_entry (codes "provides") node.provides ++ named_entry (codes "after") node.after ++ inputs_entry node.inputs
-    ++ budget_entries version b
+    ++ named_entry (codes "provides") node.provides ++ named_entry (codes "after") node.after ++ inputs_entry node.inputs ++ signals_entry node.signals
+
+-- and what it uses at most
+abbrev pub leaf_text : ℕ → LeafNode → Option Budget → List ℕ
+leaf_text version node b = leaf_words version node ++ budget_entries version b
 
 -- SERVICES
 
@@ -113,15 +122,21 @@ abbrev pub inputs_part : List ℕ → List ℕ
 inputs_part [] = []
 inputs_part (n ∷ rest) = next_part (codes "inputs" ++ amounts (n ∷ rest))
 
+abbrev pub signals_part : ℕ → List ℕ
+signals_part n = if n == 0 then [] else next_part (codes "signals " ++ decimal n)
+
 abbrev pub budget_part : ℕ → Option Budget → List ℕ
 budget_part version None = []
 budget_part version (Some b) =
-    next_part (codes "own " ++ decimal b.own.ram ++ reported version (entry (codes "caps") b.own.caps) ++ entry (codes "steps") b.steps)
+    next_part (codes "own " ++ decimal b.own.ram ++ reported version (entry (codes "caps") b.own.caps) ++ entry (codes "steps") b.steps.from_start)
+
+abbrev pub leaf_parts : ℕ → LeafNode → List ℕ
+leaf_parts version node =
+    node.name ++ next_part (codes "quantum " ++ decimal node.quantum.ram ++ reported version (entry (codes "caps") node.quantum.caps))
+    ++ provides_part node.provides ++ inputs_part node.inputs ++ signals_part node.signals
 
 abbrev pub leaf_label : ℕ → LeafNode → Option Budget → List ℕ
-leaf_label version node b =
-    node.name ++ next_part (codes "quantum " ++ decimal node.quantum.ram ++ reported version (entry (codes "caps") node.quantum.caps))
-    ++ provides_part node.provides ++ inputs_part node.inputs ++ budget_part version b
+leaf_label version node b = leaf_parts version node ++ budget_part version b
 
 abbrev pub in_quotes : List ℕ → List ℕ
 in_quotes text = codes "\"" ++ text ++ codes "\""

@@ -165,10 +165,10 @@ impl<'a> Drawn<'a> {
     }
 
     // What the leaf at this place uses at most.
-    pub(crate) fn budget(&self, place: usize) -> Option<Budget>
-        ensures { result ≡ slice_get (accept.budgets self.now) place }
+    pub(crate) fn budget(&self, place: usize) -> Option<&Budget>
+        ensures { option_map (λ b. b.now) result ≡ slice_get (accept.budgets self.now) place }
     {
-        self.budgets.get(place).copied()
+        self.budgets.get(place)
     }
 
     // The leaf that the leaf at this place starts after.

@@ -13,6 +13,7 @@ ghost use Rattle.gq_views.specs.internal.Opened_services.{arrows_of, opened_at};
 ghost use Rattle.gq_views.specs.Listing.{line};
 ghost use Rattle.gq_views.specs.Tree.{all_afters, all_services, arrow, arrow_from, arrow_to, budget_part, cluster, graph_text, in_quotes};
 ghost use Rattle.gq_views.specs.Tree.{init_label, inputs_part, leaf_label, next_part, node_boxes, node_name, point_line, provides_part};
+ghost use Rattle.gq_views.specs.Tree.{leaf_parts, signals_part};
 ghost use Rattle.gq_views.specs.Views_written.{graph_written};
 ghost use Rattle.gq_reports.specs.Command_outcomes.{WritesAs};
 
@@ -100,32 +101,37 @@ fn push_inputs_part(text: &mut Vec<u8>, inputs: &[u32]) -> Result<(), AllocError
     push_amounts(text, inputs)
 }
 
+// The number of a leaf's signals, in a label, where it has signals.
+fn push_signals_part(text: &mut Vec<u8>, signals: u8) -> Result<(), AllocError>
+    ensures { OnOk result (text.new.items ≡ text.old.items ++ signals_part signals) }
+{
+    if signals == 0 {
+        return Ok(());
+    }
+    push_part(text, b"signals", u64::from(signals))
+}
+
 // What a leaf uses at most, in a label.
 fn push_budget_part(
     text: &mut Vec<u8>,
     version: Version,
-    budget: Option<Budget>,
+    budget: Option<&Budget>,
 ) -> Result<(), AllocError>
-    ensures { OnOk result (text.new.items ≡ text.old.items ++ budget_part (version_number version) budget) }
+    ensures { OnOk result (text.new.items ≡ text.old.items ++ budget_part (version_number version) (option_map (λ b. b.now) budget.entry)) }
 {
     match budget {
         Some(budget) => {
             push_part(text, b"own", budget.own())?;
             push_caps(text, version, budget.own_caps())?;
-            push_entry(text, b"steps", budget.steps())
+            push_entry(text, b"steps", budget.steps().from_start())
         }
         None => Ok(()),
     }
 }
 
-// The label of a leaf.
-fn push_leaf_label(
-    text: &mut Vec<u8>,
-    version: Version,
-    leaf: &Leaf,
-    budget: Option<Budget>,
-) -> Result<(), AllocError>
-    ensures { OnOk result (text.new.items ≡ text.old.items ++ leaf_label (version_number version) leaf.now budget) }
+// What the scenario says of a leaf, in a label.
+fn push_leaf_parts(text: &mut Vec<u8>, version: Version, leaf: &Leaf) -> Result<(), AllocError>
+    ensures { OnOk result (text.new.items ≡ text.old.items ++ leaf_parts (version_number version) leaf.now) }
 {
     let quantum = leaf.quantum();
     text.extend_from_slice(leaf.name().as_bytes())?;
@@ -133,6 +139,19 @@ fn push_leaf_label(
     push_caps(text, version, u64::from(quantum.caps()))?;
     push_provides(text, leaf.provides())?;
     push_inputs_part(text, leaf.inputs())?;
+    push_signals_part(text, leaf.signals())
+}
+
+// The label of a leaf.
+fn push_leaf_label(
+    text: &mut Vec<u8>,
+    version: Version,
+    leaf: &Leaf,
+    budget: Option<&Budget>,
+) -> Result<(), AllocError>
+    ensures { OnOk result (text.new.items ≡ text.old.items ++ leaf_label (version_number version) leaf.now (option_map (λ b. b.now) budget.entry)) }
+{
+    push_leaf_parts(text, version, leaf)?;
     push_budget_part(text, version, budget)
 }
 

@@ -10,8 +10,8 @@ ghost use Rattle.gq_scenario.specs.Sizes.{node_count};
 ghost use Rattle.gq_scenario.specs.Component_trees.{version_number};
 ghost use Rattle.gq_views.specs.internal.Opened_services.{opens_of};
 ghost use Rattle.gq_views.specs.Listing.{line};
-ghost use Rattle.gq_views.specs.Tree.{budget_entries, init_lines, init_text, inputs_entry, leaf_opens, leaf_text, left_entries, named_entry, nodes_text};
-ghost use Rattle.gq_views.specs.Tree.{offers_lines, server_label, tree_text};
+ghost use Rattle.gq_views.specs.Tree.{budget_entries, init_lines, init_text, inputs_entry, leaf_opens, leaf_text, leaf_words, left_entries, named_entry};
+ghost use Rattle.gq_views.specs.Tree.{nodes_text, offers_lines, server_label, signals_entry, tree_text};
 ghost use Rattle.gq_views.specs.Views_written.{tree_written};
 ghost use Rattle.gq_reports.specs.Command_outcomes.{WritesAs};
 
@@ -66,19 +66,29 @@ fn push_inputs(text: &mut Vec<u8>, inputs: &[u32]) -> Result<(), AllocError>
     push_amounts(text, inputs)
 }
 
+// Puts the number of a leaf's signals at the end of a text, where it has signals.
+fn push_signals(text: &mut Vec<u8>, signals: u8) -> Result<(), AllocError>
+    ensures { OnOk result (text.new.items ≡ text.old.items ++ signals_entry signals) }
+{
+    if signals == 0 {
+        return Ok(());
+    }
+    push_entry(text, b"signals", u64::from(signals))
+}
+
 // Puts what a leaf uses at most at the end of a text.
 fn push_budget(
     text: &mut Vec<u8>,
     version: Version,
-    budget: Option<Budget>,
+    budget: Option<&Budget>,
 ) -> Result<(), AllocError>
-    ensures { OnOk result (text.new.items ≡ text.old.items ++ budget_entries (version_number version) budget) }
+    ensures { OnOk result (text.new.items ≡ text.old.items ++ budget_entries (version_number version) (option_map (λ b. b.now) budget.entry)) }
 {
     match budget {
         Some(budget) => {
             push_entry(text, b"own", budget.own())?;
             push_caps(text, version, budget.own_caps())?;
-            push_entry(text, b"steps", budget.steps())
+            push_entry(text, b"steps", budget.steps().from_start())
         }
         None => Ok(()),
     }
@@ -93,20 +103,28 @@ fn push_quantum(text: &mut Vec<u8>, version: Version, quantum: Quantum) -> Resul
     push_caps(text, version, u64::from(quantum.caps()))
 }
 
-// Puts what is reported of a leaf at the end of a text.
-fn push_leaf_text(
-    text: &mut Vec<u8>,
-    version: Version,
-    leaf: &Leaf,
-    budget: Option<Budget>,
-) -> Result<(), AllocError>
-    ensures { OnOk result (text.new.items ≡ text.old.items ++ leaf_text (version_number version) leaf.now budget) }
+// Puts what the scenario says of a leaf at the end of a text.
+fn push_leaf_words(text: &mut Vec<u8>, version: Version, leaf: &Leaf) -> Result<(), AllocError>
+    ensures { OnOk result (text.new.items ≡ text.old.items ++ leaf_words (version_number version) leaf.now) }
 {
     text.extend_from_slice(leaf.name().as_bytes())?;
     push_quantum(text, version, leaf.quantum())?;
     push_named(text, b"provides", leaf.provides())?;
     push_named(text, b"after", leaf.after())?;
     push_inputs(text, leaf.inputs())?;
+    push_signals(text, leaf.signals())
+}
+
+// Puts what is reported of a leaf at the end of a text.
+fn push_leaf_text(
+    text: &mut Vec<u8>,
+    version: Version,
+    leaf: &Leaf,
+    budget: Option<&Budget>,
+) -> Result<(), AllocError>
+    ensures { OnOk result (text.new.items ≡ text.old.items ++ leaf_text (version_number version) leaf.now (option_map (λ b. b.now) budget.entry)) }
+{
+    push_leaf_words(text, version, leaf)?;
     push_budget(text, version, budget)
 }
 

@@ -6,7 +6,7 @@ use Rattle.gq_model.specs.machine.Program.{Statements}
 use Rattle.gq_model.specs.machine.Scenario.{Component, System}
 use Rattle.gq_model.specs.rules.Budgets.{section_cost, section_requests}
 use Rattle.gq_model.specs.rules.Kinds.{Subject}
-use Rattle.gq_model.specs.rules.Use.{times}
+use Rattle.gq_model.specs.rules.Use.{Cause, times}
 use Rattle.gq_model.specs.rules.Verdict.{greatest_cost}
 use Rattle.gq_model.proofs.Small_facts.{add_next, add_none, none_add, none_some, some_same}
 use Rattle.gq_verify.specs.Saturated_numbers.{saturated}
@@ -64,10 +64,10 @@ table_at f y (d ∷ cs) zero c e = (λ i. row_of (f (add_none y i)) (some_same e
 table_at f y (d ∷ cs) (suc x) c e = table_at f (suc y) cs x c e ∙ ap (λ n. row_of (f n) c.node.program.sections) (add_next y x)
 
 -- how often a section runs
-pub often_at : (system : System) (x : ℕ) (c : Component) (k : ℕ) (p : Section × Statements) → slice_get system.components x ≡ Some c
-    → slice_get c.node.program.sections k ≡ Some p → time_at (times_table system) x k ≡ saturated (times (length system.components) system x p.0)
-often_at system x c k p there is =
-    let f = times (length system.components) system in
+pub often_at : (cause : Cause) (system : System) (x : ℕ) (c : Component) (k : ℕ) (p : Section × Statements) → slice_get system.components x ≡ Some c
+    → slice_get c.node.program.sections k ≡ Some p → time_at (times_table cause system) x k ≡ saturated (times (length system.components) cause system x p.0)
+often_at cause system x c k p there is =
+    let f = times (length system.components) cause system in
     ap (λ (row : List ℕ). get_or row k 0) (table_at f 0 system.components x c there ∙ ap (λ n. row_of (f n) c.node.program.sections) (none_add x))
     ∙ row_at (f x) c.node.program.sections k p is
 

@@ -1,26 +1,26 @@
 -- What the numbers of a leaf add up to.
-use Rattle.std.proofs.Common.{◌≡◌, ℕ, suc, ◌+◌, ◌*◌, max, Bool, true, false, List, [], ◌∷◌, ◌++◌, Option, Some, None, refl, ap, sym, ◌∙◌, arith}
+use Rattle.std.proofs.Common.{◌≡◌, ℕ, zero, suc, ◌+◌, ◌*◌, max, length, Bool, true, false, List, [], ◌∷◌, ◌++◌, Option, Some, None, refl, ap, sym, ◌∙◌, arith}
 use Rattle.std.specs.Prelude.{nat_lt, if◌then◌else◌, sum_by}
 use Rattle.std.proofs.lemmas.Bool.Decides.{nat_tests}
 use Rattle.std.proofs.lemmas.List.Sums.{sum_by-cons}
 use Rattle.gq_tariff.specs.Prices.{classes}
 use Rattle.gq_model.specs.declared.program.Form.TheVariants.{Slice}
 use Rattle.gq_model.specs.declared.section.Section.{Section}
-use Rattle.gq_model.specs.declared.section.Section.TheVariants.{Main}
+use Rattle.gq_model.specs.declared.section.Section.TheVariants.{Main, Opening, Upgrading, Calling, Closing, Reacting}
 use Rattle.gq_model.specs.machine.Amounts.{Resource}
 use Rattle.gq_model.specs.machine.Lists.{greatest}
 use Rattle.gq_model.specs.machine.Resource_prices.{chunks}
 use Rattle.gq_model.specs.machine.Program.{Statements, Done, Do, If, Loop, size}
-use Rattle.gq_model.specs.machine.Scenario.{Interface}
+use Rattle.gq_model.specs.machine.Scenario.{Component, Interface, System}
 use Rattle.gq_model.specs.rules.Budgets.{heap_cost, own, section_cost}
 use Rattle.gq_model.specs.rules.Flow.{at, body, context, flow, points, start_of, state_or}
 use Rattle.gq_model.specs.rules.Kinds.{Kind, Memory, AbstractState, Subject, Context, inside, kind_lent, kind_price, kinds_cost, session_cost}
 use Rattle.gq_model.specs.rules.Rules.{judged}
-use Rattle.gq_model.specs.rules.Use.{steps_of}
+use Rattle.gq_model.specs.rules.Use.{Cause, The_start, A_signal, steps_for, steps_of, times}
 use Rattle.gq_verify.specs.Visits.{slots_of}
 use Rattle.gq_verify.proofs.Visited_point_maxima.{greatest-append}
-use Rattle.gq_why.specs.Why.{Point, after_each, highest, kind_cost, or_later, places_at, points_of}
-use Rattle.gq_why.specs.Adds.{classes_sum, number_at}
+use Rattle.gq_why.specs.Why.{Point, after_each, highest, kind_cost, often, or_later, places_at, points_of}
+use Rattle.gq_why.specs.Adds.{classes_sum, number_at, shown_times}
 
 -- SLOTS
 
@@ -38,12 +38,39 @@ session_adds r i bank = ap (λ n. kind_price r (Memory Slice i.object) + n) (ite
 
 -- STEPS
 
-pub steps_add : (often : Section → ℕ) (sections : List (Section × Statements)) →
-    sum_by (λ (p : Section × Statements). often p.0 * section_cost p.0 p.1) sections ≡ steps_of often sections
-steps_add often [] = refl
-steps_add often (p ∷ rest) =
-    sum_by-cons (λ (p : Section × Statements). often p.0 * section_cost p.0 p.1) p rest
-    ∙ ap (λ n. often p.0 * section_cost p.0 p.1 + n) (steps_add often rest)
+none_runs : (d : ℕ) (all : System) (x i : ℕ) → times d The_start all x (Reacting i) ≡ 0
+none_runs zero all x i = refl
+none_runs (suc d) all x i = refl
+
+some_run : (t : ℕ) → (if nat_lt 0 t then t else 0) ≡ t
+some_run t = by (nat_lt 0 t) refl
+  where
+    by : (b : Bool) → nat_lt 0 t ≡ b → (if b then t else 0) ≡ t
+    by true e = refl
+    by false e = grind (arith, nat_tests)
+
+-- a section without a line does not run
+pub shown_same : (cause : Cause) (all : System) (x : ℕ) (section : Section) → shown_times cause all x section ≡ often cause all x section
+shown_same The_start all x Main = refl
+shown_same The_start all x Opening = refl
+shown_same The_start all x (Upgrading l) = refl
+shown_same The_start all x (Calling l) = refl
+shown_same The_start all x (Closing l) = refl
+shown_same The_start all x (Reacting i) = sym (none_runs (length all.components) all x i)
+shown_same (A_signal y j) all x section = some_run (often (A_signal y j) all x section)
+
+products_add : (runs : Section → ℕ) (sections : List (Section × Statements)) →
+    sum_by (λ (p : Section × Statements). runs p.0 * section_cost p.0 p.1) sections ≡ steps_of runs sections
+products_add runs [] = refl
+products_add runs (p ∷ rest) =
+    sum_by-cons (λ (p : Section × Statements). runs p.0 * section_cost p.0 p.1) p rest
+    ∙ ap (λ n. runs p.0 * section_cost p.0 p.1 + n) (products_add runs rest)
+
+pub steps_add : (cause : Cause) (all : System) (x : ℕ) (c : Component) →
+    sum_by (λ (p : Section × Statements). shown_times cause all x p.0 * section_cost p.0 p.1) c.node.program.sections ≡ steps_for cause all x c
+steps_add cause all x c =
+    products_add (shown_times cause all x) c.node.program.sections
+    ∙ ap (λ (runs : Section → ℕ). steps_of runs c.node.program.sections) (λ i p. shown_same cause all x p i)
 
 -- OWN
 

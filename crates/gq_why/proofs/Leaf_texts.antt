@@ -56,11 +56,11 @@ module _ (free : Scenario) (cs : List Component) (ps : List Program) (x : ℕ) (
   program_is : p ≡ c.node.program
   program_is = is ∙ (ap (λ (l : List Program). get_or l x p) programs ∙ program_at cs x c p there)
 
-  pub subject_is : subject_of p c.node.provides free.interfaces c.node.inputs ≡ subject (system free) c
-  subject_is = ap (λ (q : Program). subject_of q c.node.provides free.interfaces c.node.inputs) program_is
+  pub subject_is : subject_of p c.node.provides free.interfaces c.node.inputs c.node.signals ≡ subject (system free) c
+  subject_is = ap (λ (q : Program). subject_of q c.node.provides free.interfaces c.node.inputs c.node.signals) program_is
 
   -- it breaks no rule
-  pub breaks_none : unsized_fault free ≡ None → program_fault (subject_of p c.node.provides free.interfaces c.node.inputs) ≡ None
+  pub breaks_none : unsized_fault free ≡ None → program_fault (subject_of p c.node.provides free.interfaces c.node.inputs c.node.signals) ≡ None
   breaks_none faultless = ap program_fault subject_is ∙ fine free faultless x c (ap (λ (l : List Component). slice_get l x) (sym all) ∙ there)
 
 -- THE TEXT

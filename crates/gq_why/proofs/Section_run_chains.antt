@@ -11,9 +11,9 @@ use Rattle.gq_model.specs.machine.Routes.{server_of}
 use Rattle.gq_model.specs.rules.Kinds.{Subject}
 use Rattle.gq_model.specs.machine.Sections.{is_own_section}
 use Rattle.gq_model.specs.rules.Budgets.{section_requests}
-use Rattle.gq_model.specs.rules.Use.{subject, is_there, from_sections, from_leaves, asked_of, provided_by, times}
+use Rattle.gq_model.specs.rules.Use.{Cause, subject, is_there, from_sections, from_leaves, asked_of, provided_by, times}
 use Rattle.gq_model.specs.rules.Resolve.{cycle_fault}
-use Rattle.gq_laws.proofs.verified_programs.Times_bound.{counts_bounded}
+use Rattle.gq_laws.proofs.verified_programs.Times_bound.{counts_bounded, times_by}
 
 -- what is asked for by sections that run no less often is no less
 
@@ -44,23 +44,19 @@ asked_more : (system : System) (often more : ℕ → Section → ℕ) → ((x : 
 asked_more system often more less x section None = omega arith
 asked_more system often more less x section (Some service) = leaves_more system often more less x service section 0 system.components
 
-main_once : (d : ℕ) (system : System) (x : ℕ) → times d system x Main ≡ 1
-main_once zero system x = refl
-main_once (suc d) system x = refl
+-- a section but a leaf's own runs as often as it is asked for by chains that are one use shorter
+pub times_asked : (d : ℕ) (cause : Cause) (system : System) (x : ℕ) (section : Section) → is_own_section section ≡ false
+    → times (suc d) cause system x section ≡ asked_of (times d cause system) system x section (provided_by (slice_get system.components x))
+times_asked d cause system x Main e = absurd (true≢false e)
+times_asked d cause system x (Reacting i) e = absurd (true≢false e)
+times_asked d cause system x Opening e = refl
+times_asked d cause system x (Upgrading l) e = refl
+times_asked d cause system x (Calling l) e = refl
+times_asked d cause system x (Closing l) e = refl
 
--- `main` apart, a section runs as often as it is asked for by chains that are one use shorter
-pub times_asked : (d : ℕ) (system : System) (x : ℕ) (section : Section) → is_own_section section ≡ false
-    → times (suc d) system x section ≡ asked_of (times d system) system x section (provided_by (slice_get system.components x))
-times_asked d system x Main e = absurd (true≢false e)
-times_asked d system x (Reacting i) e = absurd (true≢false e)
-times_asked d system x Opening e = refl
-times_asked d system x (Upgrading l) e = refl
-times_asked d system x (Calling l) e = refl
-times_asked d system x (Closing l) e = refl
-
-module _ (system : System) where
+module _ (cause : Cause) (system : System) where
   -- by longer chains no less often
-  longer_more : (d x : ℕ) (section : Section) → times d system x section ≤ times (suc d) system x section
+  longer_more : (d x : ℕ) (section : Section) → times d cause system x section ≤ times (suc d) cause system x section
   longer_more zero x Main = omega arith
   longer_more zero x (Reacting i) = omega arith
   longer_more zero x Opening = omega arith
@@ -70,33 +66,53 @@ module _ (system : System) where
   longer_more (suc d) x Main = omega arith
   longer_more (suc d) x (Reacting i) = omega arith
   longer_more (suc d) x Opening =
-      asked_more system (times d system) (times (suc d) system) (longer_more d) x Opening (provided_by (slice_get system.components x))
+      asked_more system (times d cause system) (times (suc d) cause system) (longer_more d) x Opening (provided_by (slice_get system.components x))
   longer_more (suc d) x (Upgrading l) =
-      asked_more system (times d system) (times (suc d) system) (longer_more d) x (Upgrading l) (provided_by (slice_get system.components x))
+      asked_more system (times d cause system) (times (suc d) cause system) (longer_more d) x (Upgrading l) (provided_by (slice_get system.components x))
   longer_more (suc d) x (Calling l) =
-      asked_more system (times d system) (times (suc d) system) (longer_more d) x (Calling l) (provided_by (slice_get system.components x))
+      asked_more system (times d cause system) (times (suc d) cause system) (longer_more d) x (Calling l) (provided_by (slice_get system.components x))
   longer_more (suc d) x (Closing l) =
-      asked_more system (times d system) (times (suc d) system) (longer_more d) x (Closing l) (provided_by (slice_get system.components x))
+      asked_more system (times d cause system) (times (suc d) cause system) (longer_more d) x (Closing l) (provided_by (slice_get system.components x))
+
+  -- where the leaf's own sections run as often as by chains of some length, all do
+  own_same : (n d x : ℕ) (section : Section) → times_by (times n cause system) d system x section ≡ times d cause system x section
+  own_same zero zero x Main = refl
+  own_same zero zero x (Reacting i) = refl
+  own_same (suc n) zero x Main = refl
+  own_same (suc n) zero x (Reacting i) = refl
+  own_same n zero x Opening = refl
+  own_same n zero x (Upgrading l) = refl
+  own_same n zero x (Calling l) = refl
+  own_same n zero x (Closing l) = refl
+  own_same zero (suc d) x Main = refl
+  own_same zero (suc d) x (Reacting i) = refl
+  own_same (suc n) (suc d) x Main = refl
+  own_same (suc n) (suc d) x (Reacting i) = refl
+  own_same n (suc d) x Opening = λ i. asked_of (λ y p. own_same n d y p i) system x Opening (provided_by (slice_get system.components x))
+  own_same n (suc d) x (Upgrading l) = λ i. asked_of (λ y p. own_same n d y p i) system x (Upgrading l) (provided_by (slice_get system.components x))
+  own_same n (suc d) x (Calling l) = λ i. asked_of (λ y p. own_same n d y p i) system x (Calling l) (provided_by (slice_get system.components x))
+  own_same n (suc d) x (Closing l) = λ i. asked_of (λ y p. own_same n d y p i) system x (Closing l) (provided_by (slice_get system.components x))
 
   -- and by chains that are longer than there are leaves just as often
   pub times_end : cycle_fault system 0 system.components ≡ None → (x : ℕ) (section : Section)
-      → times (suc (length system.components)) system x section ≡ times (length system.components) system x section
+      → times (suc (length system.components)) cause system x section ≡ times (length system.components) cause system x section
   times_end resolved x section =
       let n = length system.components in
-      let once = λ (y : ℕ). main_once (suc n) system y in
-      let less = counts_bounded system resolved (times (suc n) system) (λ y. omega (arith, once y)) (λ y i. refl) (λ y s outside.
-      let e = times_asked n system y s outside in
-      let more = asked_more system (times n system) (times (suc n) system) (longer_more n) y s (provided_by (slice_get system.components y)) in
+      let same = own_same (suc n) n x section in
+      let less = counts_bounded system resolved (times (suc n) cause system) (λ y s outside.
+      let e = times_asked n cause system y s outside in
+      let more = asked_more system (times n cause system) (times (suc n) cause system) (longer_more n) y s (provided_by (slice_get system.components y)) in
       omega (arith, e, more)) x section in
       let more = longer_more n x section in
-      omega (arith, less, more)
+      omega (arith, less, more, same)
 
-  -- so a section but `main` runs as often as all ask for it
+  -- so a section but a leaf's own runs as often as all ask for it
   pub adds_up : cycle_fault system 0 system.components ≡ None → (x : ℕ) (c : Component) (service : List ℕ) (section : Section)
       → slice_get system.components x ≡ Some c → c.node.provides ≡ Some service → is_own_section section ≡ false
-      → from_leaves (times (length system.components) system) system x service section 0 system.components
-      ≡ times (length system.components) system x section
+      → from_leaves (times (length system.components) cause system) system x service section 0 system.components
+      ≡ times (length system.components) cause system x section
   adds_up resolved x c service section there provides outside =
       let n = length system.components in
       let given = ap provided_by there ∙ provides in
-      sym (ap (λ o. asked_of (times n system) system x section o) given) ∙ (sym (times_asked n system x section outside) ∙ times_end resolved x section)
+      sym (ap (λ o. asked_of (times n cause system) system x section o) given)
+      ∙ (sym (times_asked n cause system x section outside) ∙ times_end resolved x section)

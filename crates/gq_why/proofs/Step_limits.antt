@@ -1,8 +1,8 @@
 -- How large the numbers of a leaf's steps are: each product, and each factor, is within its step budget or within what a section may cost.
-use Rattle.std.proofs.Common.{◌≡◌, ◌≤◌, ℕ, zero, suc, ◌+◌, ◌*◌, Bool, true, false, ◌&&◌, List, [], ◌∷◌, Option, Some, None, Ok, Err}
+use Rattle.std.proofs.Common.{◌≡◌, ◌<◌, ◌≤◌, ℕ, zero, suc, ◌+◌, ◌*◌, Bool, true, false, ◌&&◌, List, [], ◌∷◌, Option, Some, None, Ok, Err}
 use Rattle.std.proofs.Common.{refl, ap, sym, ◌∙◌, subst, arith, nat_le}
 use Rattle.std.proofs.Math.Nat.{mul-le-mul_left, le-mul_of_pos_right}
-use Rattle.std.specs.Prelude.{slice_get, if◌then◌else◌}
+use Rattle.std.specs.Prelude.{slice_get, slice_index, slice_index_or, if◌then◌else◌}
 use Rattle.std.proofs.lemmas.Bool.Decides.{nat_tests}
 use Rattle.gq_model.specs.declared.fault.Rule.TheVariants.{BudgetTooLarge}
 use Rattle.gq_model.specs.declared.program.Instruction.{Instruction}
@@ -12,18 +12,23 @@ use Rattle.gq_model.specs.declared.section.Section.TheVariants.{Main, Opening, U
 use Rattle.gq_model.specs.machine.Amounts.{Amount}
 use Rattle.gq_model.specs.machine.Program.{Statements, Done, Do, If, Loop, body_of, section_in, size, text_eq}
 use Rattle.gq_model.specs.machine.Sections.{same_section}
-use Rattle.gq_model.specs.machine.Scenario.{Component}
-use Rattle.gq_model.specs.rules.Accept.{Budget, steps_refusal, Over_steps}
+use Rattle.gq_model.specs.machine.Scenario.{Component, System}
+use Rattle.gq_model.specs.machine.Lists.{all_of}
+use Rattle.gq_model.specs.machine.Step_budgets.{StepBudget}
+use Rattle.gq_model.specs.rules.Accept.{Budget, are_small, is_small, steps_refusal}
 use Rattle.gq_model.specs.rules.Budgets.{asks, by_link, cost, is_one, requests, section_cost, section_requests}
 use Rattle.gq_model.specs.rules.Flow.{Flowed, at, context, flow, section_flow, start_of, state_or}
 use Rattle.gq_model.specs.rules.Kinds.{Context, AbstractState, Subject, inside, kind_at}
 use Rattle.gq_model.specs.rules.Rules.{judged, link_kind}
-use Rattle.gq_model.specs.rules.Use.{steps_of}
+use Rattle.gq_model.specs.rules.Use.{Cause, The_start, A_signal, step_budget, steps_for, steps_for_leaves, steps_for_signals, steps_of}
 use Rattle.gq_model.specs.rules.Verdict.{Fault, fault_of, first_fault, greatest_cost, program_fault}
 use Rattle.gq_model.proofs.Rules_laws.{accepted, same_section_is}
 use Rattle.gq_model.proofs.Section_laws.{same_self}
-use Rattle.std.proofs.lemmas.Bool.{true≢false}
-use Rattle.gq_model.proofs.Small_facts.{none_some, or_first_none, some_none, some_same}
+use Rattle.std.proofs.lemmas.Bool.{and_from, and_parts, leb-true, true≢false}
+use Rattle.gq_model.proofs.Small_facts.{add_next, add_none, none_add, none_some, or_first_none, some_none, some_same}
+use Rattle.gq_load.proofs.Saturated_step_budgets.{small_first}
+use Rattle.gq_load.proofs.Signal_line_steps.{step_at_small}
+use Rattle.gq_why.specs.internal.Step_parts.{IsCauseOf}
 
 -- REQUESTS
 
@@ -164,17 +169,43 @@ module _ (v : Subject) (fine : program_fault v ≡ None) (often : Section → �
 -- BUDGETS
 
 -- where none is refused for its steps, the steps of each leaf are few
-pub steps_few : (cs : List Component) (bs : List Budget) → steps_refusal cs bs ≡ None → (x : ℕ) (c : Component) (b : Budget) → slice_get cs x ≡ Some c
-    → slice_get bs x ≡ Some b → b.steps ≤ greatest_cost
-steps_few [] bs none x c b there is = absurd (none_some there)
-steps_few (d ∷ cs) [] none x c b there is = absurd (none_some is)
-steps_few (d ∷ cs) (a ∷ bs) none x c b there is = by (nat_le a.steps greatest_cost) refl none x there is (λ e y. steps_few cs bs e y c b)
-  where
-    by : (t : Bool) → nat_le a.steps greatest_cost ≡ t → (if t then steps_refusal cs bs else Some (Over_steps d.node.name)) ≡ None → (x : ℕ)
-        → slice_get (d ∷ cs) x ≡ Some c → slice_get (a ∷ bs) x ≡ Some b
-        → (steps_refusal cs bs ≡ None → (y : ℕ) → slice_get cs y ≡ Some c → slice_get bs y ≡ Some b → b.steps ≤ greatest_cost) → b.steps ≤ greatest_cost
-    by false t none x there is further = absurd (some_none none)
-    by true t none zero there is further =
-        let same = ap (λ (b : Budget). b.steps) (some_same is) in
-        let less : a.steps ≤ greatest_cost = grind (arith, nat_tests) in omega (arith, same, less)
-    by true t none (suc x) there is further = further none x there is
+pub budget_small : (cs : List Component) (bs : List Budget) → steps_refusal cs bs ≡ None → (x : ℕ) (c : Component) (b : Budget) → slice_get cs x ≡ Some c
+    → slice_get bs x ≡ Some b → are_small b.steps ≡ true
+budget_small [] bs none x c b there is = absurd (none_some there)
+budget_small (d ∷ cs) [] none x c b there is = absurd (none_some is)
+budget_small (d ∷ cs) (a ∷ bs) none zero c b there is =
+    ap (λ (b : Budget). are_small b.steps) (sym (some_same is)) ∙ (small_first (are_small a.steps) d.node.name (steps_refusal cs bs) none).0
+budget_small (d ∷ cs) (a ∷ bs) none (suc x) c b there is =
+    budget_small cs bs (small_first (are_small a.steps) d.node.name (steps_refusal cs bs) none).1 x c b there is
+
+-- the steps for the signals of a leaf, and those for a signal
+signals_at : (all : System) (x : ℕ) (c : Component) (y : ℕ) (cs : List Component) (k : ℕ) (d : Component) → slice_get cs k ≡ Some d
+    → slice_index_or (steps_for_leaves all x c y cs) k [] ≡ steps_for_signals all x c (y + k) 0 d.node.signals
+signals_at all x c y [] k d e = absurd (none_some e)
+signals_at all x c y (b ∷ cs) zero d e = (λ i. steps_for_signals all x c (add_none y i) 0 (some_same e i).node.signals)
+signals_at all x c y (b ∷ cs) (suc k) d e = signals_at all x c (suc y) cs k d e ∙ ap (λ n. steps_for_signals all x c n 0 d.node.signals) (add_next y k)
+
+signal_at : (all : System) (x : ℕ) (c : Component) (y i n j : ℕ) → j < n
+    → slice_index (steps_for_signals all x c y i n) j ≡ steps_for (A_signal y (i + j)) all x c
+signal_at all x c y i zero j less = absurd (omega (arith, less))
+signal_at all x c y i (suc n) zero less = ap (λ m. steps_for (A_signal y m) all x c) (add_none i)
+signal_at all x c y i (suc n) (suc j) less = signal_at all x c y (suc i) n j (omega (arith, less)) ∙ ap (λ m. steps_for (A_signal y m) all x c) (add_next i j)
+
+-- the budget of a leaf has them
+pub signal_in_budget : (all : System) (x : ℕ) (c : Component) (y i : ℕ) (d : Component) → slice_get all.components y ≡ Some d → i < d.node.signals
+    → slice_index (slice_index_or (step_budget all x c).for_signals y []) i ≡ steps_for (A_signal y i) all x c
+signal_in_budget all x c y i d there less =
+    ap (λ (l : List ℕ). slice_index l i) (signals_at all x c 0 all.components y d there ∙ ap (λ n. steps_for_signals all x c n 0 d.node.signals) (none_add y))
+    ∙ (signal_at all x c y 0 d.node.signals i less ∙ ap (λ m. steps_for (A_signal y m) all x c) (none_add i))
+
+-- so its steps for one cause are few
+pub steps_few : (all : System) (x : ℕ) (c : Component) (b : Budget) → b.steps ≡ step_budget all x c → are_small b.steps ≡ true → (cause : Cause)
+    → IsCauseOf all.components cause → steps_for cause all x c ≤ greatest_cost
+steps_few all x c b is small The_start cause =
+    let least = leb-true b.steps.from_start greatest_cost (and_parts (is_small b.steps.from_start) (all_of (all_of is_small) b.steps.for_signals) small).0 in
+    let same = ap (λ (b : StepBudget). b.from_start) is in
+    omega (arith, least, same)
+steps_few all x c b is small (A_signal y i) cause =
+    let least = step_at_small y i 0 (b ∷ []) b (and_from (are_small b.steps) true small refl) (omega arith) refl in
+    let same = ap (λ (b : StepBudget). slice_index (slice_index_or b.for_signals y []) i) is ∙ signal_in_budget all x c y i cause.0 cause.1 cause.2 in
+    omega (arith, least, same)

@@ -1,5 +1,5 @@
 -- What a leaf's numbers are made of, and where.
-use Rattle.std.specs.Prelude.{ℕ, zero, suc, ◌+◌, ◌*◌, ◌==◌, nat_lt, if◌then◌else◌, Bool, false, List, [], ◌∷◌, ◌++◌, length, sum_by}
+use Rattle.std.specs.Prelude.{ℕ, zero, suc, ◌+◌, ◌*◌, ◌==◌, nat_lt, if◌then◌else◌, Bool, true, false, List, [], ◌∷◌, ◌++◌, length, sum_by}
 use Rattle.std.specs.Prelude.{Option, Some, None, decimal, codes, slice_get}
 use Rattle.gq_tariff.specs.Prices.{classes}
 use Rattle.gq_model.specs.declared.program.Form.{Form}
@@ -11,6 +11,7 @@ use Rattle.gq_model.specs.machine.Amounts.{Amount, Resource, Ram, Caps, part}
 use Rattle.gq_model.specs.machine.Resource_prices.{chunks}
 use Rattle.gq_model.specs.machine.Program.{Statements, Done, Do, If, Loop, size}
 use Rattle.gq_model.specs.machine.Routes.{server_of}
+use Rattle.gq_model.specs.machine.Run.{label_at}
 use Rattle.gq_model.specs.machine.Scenario.{Interface, Scenario, Component, System, components, interface_in, system}
 use Rattle.gq_model.specs.rules.Budgets.{own, section_cost, section_requests}
 use Rattle.gq_model.specs.rules.Flow.{at, body, context, flow, start_of, state_or}
@@ -20,7 +21,7 @@ use Rattle.gq_model.specs.rules.Kinds.{kinds_cost, need_of}
 use Rattle.gq_model.specs.machine.Sections.{level_of, section_word}
 use Rattle.gq_model.specs.rules.Kinds.{session_cost}
 use Rattle.gq_model.specs.rules.Rules.{judged}
-use Rattle.gq_model.specs.rules.Use.{is_there, step_budget, subject, times}
+use Rattle.gq_model.specs.rules.Use.{Cause, The_start, A_signal, is_there, steps_for, subject, times}
 use Rattle.gq_scenario.specs.Without_quantities.{unsized}
 
 -- POINTS
@@ -179,40 +180,78 @@ needs_part s v (Some service) = needs_by s.version v service (interface_in servi
 abbrev pub product : ℕ → ℕ → List ℕ
 product a b = codes ": " ++ decimal a ++ codes " x " ++ decimal b ++ codes " = " ++ decimal (a * b) ++ 10 ∷ []
 
-abbrev pub asker_line : List ℕ → Section → ℕ → ℕ → List ℕ
-asker_line label section t zero = []
-asker_line label section t (suc r) = codes "    " ++ label ++ codes " " ++ section_word section ++ product t (suc r)
+-- whether a section that runs t times has a line: for the start each but those that are done for signals; for a signal each that runs
+abbrev pub is_shown : Cause → Section → ℕ → Bool
+is_shown The_start (Reacting i) t = false
+is_shown The_start section t = true
+is_shown (A_signal y i) section t = nat_lt 0 t
 
--- how often a section of the x-th leaf runs
-abbrev pub often : System → ℕ → Section → ℕ
-often all x section = times (length all.components) all x section
+-- the line of a section that asks r times, each time that it runs
+abbrev pub asker_line : Cause → List ℕ → Section → ℕ → ℕ → List ℕ
+asker_line cause label section t zero = []
+asker_line cause label section t (suc r) =
+    if is_shown cause section t then codes "    " ++ label ++ codes " " ++ section_word section ++ product t (suc r) else []
+
+-- how often a section of the x-th leaf runs for one cause
+abbrev pub often : Cause → System → ℕ → Section → ℕ
+often cause all x section = times (length all.components) cause all x section
 
 -- the requests of the sections of the y-th leaf
-abbrev pub asker_lines : System → ℕ → Component → List ℕ → Section → List (Section × Statements) → List ℕ
-asker_lines all y c service section [] = []
-asker_lines all y c service section (p ∷ rest) =
-    asker_line c.label p.0 (often all y p.0) (section_requests (subject all c) p.0 service section) ++ asker_lines all y c service section rest
+abbrev pub asker_lines : Cause → System → ℕ → Component → List ℕ → Section → List (Section × Statements) → List ℕ
+asker_lines cause all y c service section [] = []
+asker_lines cause all y c service section (p ∷ rest) =
+    asker_line cause c.label p.0 (often cause all y p.0) (section_requests (subject all c) p.0 service section)
+    ++ asker_lines cause all y c service section rest
 
 -- those of the leaves from the y-th on whose route leads to the x-th
-abbrev pub askers_from : System → ℕ → List ℕ → Section → ℕ → List Component → List ℕ
-askers_from all x service section y [] = []
-askers_from all x service section y (c ∷ rest) =
-    (if is_there x (server_of all c service) then asker_lines all y c service section c.node.program.sections else [])
-    ++ askers_from all x service section (suc y) rest
+abbrev pub askers_from : Cause → System → ℕ → List ℕ → Section → ℕ → List Component → List ℕ
+askers_from cause all x service section y [] = []
+askers_from cause all x service section y (c ∷ rest) =
+    (if is_there x (server_of all c service) then asker_lines cause all y c service section c.node.program.sections else [])
+    ++ askers_from cause all x service section (suc y) rest
 
-abbrev pub askers : System → ℕ → Option (List ℕ) → Section → List ℕ
-askers all x None section = []
-askers all x (Some service) Main = []
-askers all x (Some service) (Reacting i) = []
-askers all x (Some service) section = askers_from all x service section 0 all.components
+abbrev pub askers : Cause → System → ℕ → Option (List ℕ) → Section → List ℕ
+askers cause all x None section = []
+askers cause all x (Some service) Main = []
+askers cause all x (Some service) (Reacting i) = []
+askers cause all x (Some service) section = askers_from cause all x service section 0 all.components
 
-abbrev pub section_lines : System → ℕ → Component → List (Section × Statements) → List ℕ
-section_lines all x c [] = []
-section_lines all x c (p ∷ rest) =
-    codes "  " ++ section_word p.0 ++ product (often all x p.0) (section_cost p.0 p.1) ++ askers all x c.node.provides p.0 ++ section_lines all x c rest
+-- the lines of a section that runs t times, at so many steps each time
+abbrev pub section_part : Cause → System → ℕ → Option (List ℕ) → Section → ℕ → ℕ → List ℕ
+section_part cause all x provided section t steps =
+    if is_shown cause section t then codes "  " ++ section_word section ++ product t steps ++ askers cause all x provided section else []
+
+abbrev pub section_lines : Cause → System → ℕ → Component → List (Section × Statements) → List ℕ
+section_lines cause all x c [] = []
+section_lines cause all x c (p ∷ rest) =
+    section_part cause all x c.node.provides p.0 (often cause all x p.0) (section_cost p.0 p.1) ++ section_lines cause all x c rest
+
+-- what stands behind the number of steps for a signal
+abbrev pub cause_words : List Component → Cause → List ℕ
+cause_words all The_start = []
+cause_words all (A_signal y i) = codes " for signal " ++ decimal i ++ codes " of " ++ label_at (slice_get all y)
+
+-- the steps of the x-th leaf for one cause, and the lines of its sections
+abbrev pub cause_part : Cause → System → ℕ → Component → List ℕ
+cause_part cause all x c =
+    codes "steps " ++ decimal (steps_for cause all x c) ++ cause_words all.components cause ++ 10 ∷ section_lines cause all x c c.node.program.sections
+
+-- those for a signal, where there are any
+abbrev pub signal_part : System → ℕ → Component → ℕ → ℕ → List ℕ
+signal_part all x c y i = let cause = A_signal y i in if steps_for cause all x c == 0 then [] else cause_part cause all x c
+
+-- those for the signals of the y-th leaf, from the i-th on
+abbrev pub signal_parts : System → ℕ → Component → ℕ → ℕ → ℕ → List ℕ
+signal_parts all x c y i zero = []
+signal_parts all x c y i (suc n) = signal_part all x c y i ++ signal_parts all x c y (suc i) n
+
+-- those for the signals of the leaves from the y-th on
+abbrev pub parts_of_leaves : System → ℕ → Component → ℕ → List Component → List ℕ
+parts_of_leaves all x c y [] = []
+parts_of_leaves all x c y (d ∷ rest) = signal_parts all x c y 0 d.node.signals ++ parts_of_leaves all x c (suc y) rest
 
 abbrev pub steps_part : System → ℕ → Component → List ℕ
-steps_part all x c = codes "steps " ++ decimal (step_budget all x c) ++ 10 ∷ section_lines all x c c.node.program.sections
+steps_part all x c = cause_part The_start all x c ++ parts_of_leaves all x c 0 all.components
 
 -- A LEAF
 

@@ -104,7 +104,7 @@ fn named_text<'a>(
 
 /// Writes what the numbers of a leaf are made of, in bytes, capabilities where they are counted, and steps.
 ///
-/// - What it uses of its own account, what a session of each level needs, and its steps.
+/// - What it uses of its own account, what a session of each level needs, and its steps, for the start and for each signal for which it takes some.
 /// - Of each the point at which it is greatest, what is held there, and who asks how often.
 ///
 /// It does so for every scenario that passes the rules that quantities do not decide. Another is refused by the first of them, in the words of `check`. If it

@@ -11,6 +11,7 @@ use Rattle.gq_model.specs.machine.Scenario.{Component, End, Init_node, Leaf_node
 use Rattle.gq_model.specs.machine.Sums.{held}
 use Rattle.gq_model.specs.machine.World.{Leaf, World}
 use Rattle.gq_model.specs.Promises.{AllKeep, EachOf, IsUpheld, KeepsQuota, KeepsAccounts, SumsToTotal, held_at, held_of}
+use Rattle.gq_model.specs.machine.Step_budgets.{all_steps_in}
 use Rattle.gq_model.specs.rules.Accept.{budgets, step_budgets}
 use Rattle.gq_model.proofs.Small_facts.{get_within}
 use Rattle.gq_scenario.proofs.Preorder_leaves.{components-count}
@@ -117,7 +118,7 @@ first_counted false P h = h.0
 held_within : (s : Scenario) (w : World) → length w.leaves ≡ length (components s) → KeepsAccounts s w → SumsToTotal s w Ram
     → held_by_all Ram w ≤ s.total.ram
 held_within s w count keeps sums =
-    let reported = step_budgets (budgets s) in
+    let reported = all_steps_in w (step_budgets (budgets s)) in
     let nodes = node_accounts s.version (system s) w reported 0 (Rattle.std.specs.Prelude.codes "init") s.nodes in
     let leaves : leaf_count s.nodes ≡ length (components s) = components-count s in
     let all = all_kept (accounts s w reported) keeps in

@@ -1,6 +1,10 @@
+pub mod Counted_submissions
 pub mod World_account_lines
 pub mod World_turn_facts
+pub mod Stored_step_budgets
+pub mod Resting_worlds
 pub mod Turn_sequence_runs
+pub mod Rest_runs
 pub mod Turns_name_leaves
 pub mod Line_text_prefixes
 pub mod Run_text

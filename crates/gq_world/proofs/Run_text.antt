@@ -1,17 +1,17 @@
 -- The text of a run: its turns, then its accounts.
-use Rattle.std.proofs.Common.{◌≡◌, ℕ, List, [], ◌++◌, length, Option, Some, None, Result, Ok, Err, refl, ap, sym, ◌∙◌, subst, append_assoc, append-nil}
+use Rattle.std.proofs.Common.{◌≡◌, ◌≤◌, ℕ, List, [], ◌++◌, length, Option, Some, None, Result, Ok, Err, refl, ap, sym, ◌∙◌, subst, append_assoc, append-nil}
 use Rattle.std.specs.Io.KnownBytes.{Appends}
 use Rattle.gq_model.specs.machine.Scenario.{Scenario, components, system}
 use Rattle.gq_model.specs.machine.World as model
 use Rattle.gq_model.specs.machine.World.{start}
 use Rattle.gq_model.specs.declared.fault.Wrong.{Wrong}
-use Rattle.gq_model.specs.machine.Run.{Ran, Acts, run, run_on}
+use Rattle.gq_model.specs.machine.Run.{Ran, Acts, begun, run}
 use Rattle.gq_model.specs.rules.Accept.{budgets, step_budgets}
 use Rattle.gq_model.specs.machine.Accounts.{accounts, account_lines, text_of}
 use Rattle.gq_output.specs.Writes.{IsPrefix}
 use Rattle.gq_world.specs.World_between_turns.{World}
 use Rattle.gq_world.specs.internal.Act_transitions.{going, HasRun, IsCut}
-use Rattle.gq_world.specs.Account_lines.{accounts_by, all_accounts, accounts_text}
+use Rattle.gq_world.specs.Account_lines.{accounts_by, all_accounts, accounts_text, stored_budgets}
 use Rattle.gq_model.specs.rules.Accept.{IsAccepted}
 use Rattle.gq_model.specs.texts.Turns.{Turned, turned}
 use Rattle.gq_load.specs.Load.{LoadRefusal, loaded}
@@ -23,31 +23,45 @@ use Rattle.gq_reports.specs.declared.run_fault.RunFault.TheVariants.{Load, NoCom
 use Rattle.gq_world.specs.Headline.{Upholding, WritesPromised}
 use Rattle.gq_reports.specs.Command_outcomes.{IsFaultOf, IsWhole, GivesOf}
 use Rattle.gq_reports.specs.Whole.{Written, whole_of, refused_with, with_scenario, written_turns, run_written}
-use Rattle.gq_world.specs.internal.Act_transitions.{AreBelow, turns_written}
-use Rattle.gq_world.proofs.Turns_name_leaves.{AreBelowIn, turned_below}
+use Rattle.gq_model.specs.declared.act.TurnLine.{TurnLine}
+use Rattle.gq_model.specs.texts.Turns.{listed}
+use Rattle.gq_model.specs.machine.Step_budgets.{StepBudget, all_steps_in}
+use Rattle.gq_world.specs.World_between_turns.{greatest_lines}
+use Rattle.gq_world.specs.internal.Act_transitions.{AreOf, acts_of_lines, lines_on, turns_written}
+use Rattle.gq_world.proofs.Turn_sequence_runs.{lines_are}
+use Rattle.gq_world.proofs.World_account_lines.{stored_lines}
+use Rattle.gq_world.proofs.Turns_name_leaves.{AreFewIn, AreOfIn, listed_few, listed_of}
 use Rattle.gq_output.proofs.Written_byte_facts.{appends_both}
 use Rattle.gq_world.proofs.Line_text_prefixes.{prefix_by, prefix_after}
 
 -- the text of what ran, and the rest of the whole
-pub rest_of : (s : Scenario) (steps : List ℕ) (ran : Ran) (wrong : Option (ℕ × Wrong)) → (rest : List ℕ) × (text_of s steps ran wrong ≡ ran.text ++ rest)
-rest_of s steps ran None = (account_lines s.version (accounts s ran.world steps), refl)
+pub rest_of : (s : Scenario) (steps : List StepBudget) (ran : Ran) (wrong : Option (ℕ × Wrong))
+    → (rest : List ℕ) × (text_of s steps ran wrong ≡ ran.text ++ rest)
+rest_of s steps ran None = (account_lines s.version (accounts s ran.world (all_steps_in ran.world steps)), refl)
 rest_of s steps ran (Some p) = ([], sym (append-nil ran.text))
 
-module _ (s : Scenario) (turns : Acts) (old : World) (starts : old.world ≡ start (system s)) (before between after : Option (List ℕ)) where
+module _ (s : Scenario) (lines : List TurnLine) (old : World) (starts : old.world ≡ start (system s)) (before between after : Option (List ℕ)) where
   abbrev taken : Ran → Ran
-  taken = run_on (system s) turns
+  taken = lines_on (system s) lines
+
+  abbrev turns : Acts
+  turns = acts_of_lines s lines
 
   abbrev lines_of : Scenario → model.World → List ℕ
-  lines_of t w = account_lines t.version (accounts t w (step_budgets (budgets t)))
+  lines_of t w = account_lines t.version (accounts t w (all_steps_in w (step_budgets (budgets t))))
+
+  abbrev stored_of : Scenario → model.World → List ℕ
+  stored_of t w = account_lines t.version (accounts t w (stored_budgets w (step_budgets (budgets t))))
 
   from_start : run (system s) turns ≡ taken (going old.world [])
-  from_start = ap (λ w. taken (going w [])) (sym starts)
+  from_start = lines_are (system s) lines (begun (system s)) ∙ ap (λ w. taken (going w [])) (sym starts)
 
   -- the whole is what the turns gave and the accounts after them
   whole_is : (new : World) → new.scenario ≡ s → (ran : HasRun taken old new before between) → whole_of s turns ≡ ran.text ++ accounts_text new
   unfolding whole_of all_accounts accounts_by
   whole_is new same ran =
-      ap (λ r. text_of s (step_budgets (budgets s)) r r.wrong) (from_start ∙ ran.ran []) ∙ ap (λ t. ran.text ++ lines_of t new.world) (sym same)
+      ap (λ r. text_of s (step_budgets (budgets s)) r r.wrong) (from_start ∙ ran.ran [])
+      ∙ (ap (λ l. ran.text ++ l) (sym (stored_lines s new.world (step_budgets (budgets s)))) ∙ ap (λ t. ran.text ++ stored_of t new.world) (sym same))
 
   pub complete : (new : World) → new.scenario ≡ s → HasRun taken old new before between → Appends between after (accounts_text new)
       → Appends before after (whole_of s turns)
@@ -71,10 +85,13 @@ module _ (s : Scenario) (turns : Acts) (old : World) (starts : old.world ≡ sta
 
 -- TEXTS THAT ARE LOADED AND READ
 
--- turns that were read are of leaves that are there
-pub below_of : (s t : Scenario) (text : List ℕ) (turns : Acts) → t ≡ s → turned t text ≡ Ok turns → AreBelow (length (components s)) turns
-below_of s t text turns same e = subst (λ r. AreBelow (length (components r)) turns) same
-    (subst (AreBelowIn (length (components t))) e (turned_below t text))
+-- lines that were read are of leaves that are there
+pub lines_of_leaves : (s t : Scenario) (text : List ℕ) (lines : List TurnLine) → t ≡ s → listed t text ≡ Ok lines → AreOf (length (components s)) lines
+lines_of_leaves s t text lines same e = subst (λ r. AreOf (length (components r)) lines) same (subst (AreOfIn (length (components t))) e (listed_of t text))
+
+-- and few
+pub lines_are_few : (t : Scenario) (text : List ℕ) (lines : List TurnLine) → listed t text ≡ Ok lines → length lines ≤ greatest_lines
+lines_are_few t text lines e = subst (AreFewIn greatest_lines) e (listed_few t text)
 
 load_by : (fault : LoadFault) (l : Result Scenario LoadRefusal) (go : Scenario → Written) → Refuses (error.Fault fault) l
     → with_scenario l go ≡ Err (refused_with (load_fault_text fault))

@@ -1,7 +1,7 @@
 -- The accounts of a world, node by node, and their lines.
 use Rattle.std.proofs.Common.{◌≡◌, ◌<◌, ◌+◌, ℕ, zero, suc, List, [], ◌∷◌, ◌++◌, drop, length, Option, Some, None, IfSome, refl, take, length-append}
-use Rattle.std.proofs.Common.{get_or, ◌≤◌, append_assoc, append-nil, ap, sym, ◌∙◌, subst, arith, add-one, codes}
-use Rattle.std.specs.Prelude.{slice_get, slice_index}
+use Rattle.std.proofs.Common.{◌≤◌, ◌-◌, ◌^◌, Bool, true, false, map, option_map, append_assoc, append-nil, ap, sym, ◌∙◌, subst, arith, add-one, codes}
+use Rattle.std.specs.Prelude.{slice_get, slice_index, nat_lt, decimal, if◌then◌else◌}
 use Rattle.std.proofs.Math.Logic.{∥∥₁_elim}
 use Rattle.std.specs.Coded.{Coded-set, coded_ℕ, le_prop}
 use Rattle.gq_model.specs.machine.Amounts.{Amount, amount}
@@ -11,14 +11,16 @@ use Rattle.gq_model.specs.machine.Scenario.{Route, Nodes, End, Leaf_node, Init_n
 use Rattle.gq_model.specs.machine.Scenario.{components, system}
 use Rattle.gq_model.specs.machine.World.{Leaf, World}
 use Rattle.gq_model.specs.machine.Accounts.{LeafAccount, Account, leaf_count, leaf_account, account_at, node_accounts, accounts, account_line}
-use Rattle.gq_model.specs.machine.Accounts.{account_lines}
+use Rattle.gq_model.specs.machine.Accounts.{account_lines, entry, init_account, phase_word, reported, shown}
+use Rattle.gq_model.specs.machine.Step_budgets.{StepBudget, all_steps_in, steps_in}
+use Rattle.gq_model.proofs.Small_facts.{some_same}
 use Rattle.gq_model.specs.rules.Accept.{Budget, budgets, step_budgets}
 use Rattle.gq_scenario.specs.Sizes.{node_count}
 use Rattle.gq_resolve.specs.NodeTables.{NodeRow, leaf_node, rows_of, node_rows}
 use Rattle.gq_laws.specs.Stands.{Stands}
 use Rattle.gq_world.specs.World_between_turns as worlds
 use Rattle.gq_output.specs.Account_values.{AccountValues, reported_of, with_label}
-use Rattle.gq_world.specs.Account_lines.{ReportsOf, accounts_by, all_accounts, accounts_text}
+use Rattle.gq_world.specs.Account_lines.{ReportsOf, accounts_by, all_accounts, accounts_text, stored_budgets}
 
 -- LEAVES
 
@@ -173,16 +175,17 @@ module _ (s : Scenario) (w : World) (reported : List ℕ) (count : length w.leav
 -- so are those of a world of the code
 pub all_count : (w : worlds.World) → length w.world.leaves ≡ length (components w.scenario) → length (all_accounts w) ≡ length (node_rows w.scenario)
 unfolding all_accounts
-all_count w count = accounts_count w.scenario w.world (step_budgets (budgets w.scenario)) count
+all_count w count = accounts_count w.scenario w.world (stored_budgets w.world (step_budgets (budgets w.scenario))) count
 
 -- and those that the machine has are those of its world
 pub all_by : (s : Scenario) (v : World) (bs : List Budget) (w : worlds.World) → s ≡ w.scenario → v ≡ w.world → bs ≡ budgets s
-    → accounts_by s v (step_budgets bs) ≡ all_accounts w
+    → accounts_by s v (stored_budgets v (step_budgets bs)) ≡ all_accounts w
 unfolding all_accounts
-all_by s v bs w e f g = let same : bs ≡ budgets w.scenario = g ∙ ap budgets e in λ i. accounts_by (e i) (f i) (step_budgets (same i))
+all_by s v bs w e f g =
+    let same : bs ≡ budgets w.scenario = g ∙ ap budgets e in λ i. accounts_by (e i) (f i) (stored_budgets (f i) (step_budgets (same i)))
 
 pub lines_by : (s : Scenario) (v : World) (bs : List Budget) (w : worlds.World) → s ≡ w.scenario → v ≡ w.world → bs ≡ budgets s
-    → account_lines s.version (accounts_by s v (step_budgets bs)) ≡ accounts_text w
+    → account_lines s.version (accounts_by s v (stored_budgets v (step_budgets bs))) ≡ accounts_text w
 lines_by s v bs w e f g = let all = all_by s v bs w e f g in λ i. account_lines ((e i).version) (all i)
 
 -- what was found of a node's leaf
@@ -242,53 +245,157 @@ pub line_of_node : (w : worlds.World) → length w.world.leaves ≡ length (comp
 unfolding all_accounts
 line_of_node w leaves n less label line account version same is labelled reported a there =
     let s = w.scenario in
-    let b = step_budgets (budgets s) in
+    let b = stored_budgets w.world (step_budgets (budgets s)) in
     let p = account_at_node s w.world b leaves n less in
     subst (λ (o : Option Account). IfSome o (λ z. line ≡ account_line s.version z)) there
     (line_is s w.world b (accounts_by s w.world b) n p label line account version same is labelled reported)
 
 -- BUDGETS
 
-pub steps_at : (all : List Budget) (x : ℕ) (b : Budget) → x < length all → b ≡ get_or all x b → slice_index (step_budgets all) x ≡ b.steps
-steps_at [] x b less e = absurd (omega (arith, less))
-steps_at (a ∷ all) zero b less e = ap (λ c. c.steps) (sym e)
-steps_at (a ∷ all) (suc x) b less e = steps_at all x b (omega (arith, less)) e
+stored_at : (w : World) (bs : List StepBudget) (x : ℕ) → slice_index (stored_budgets w bs) x ≡ shown (slice_index (all_steps_in w bs) x)
+stored_at w [] x = refl
+stored_at w (b ∷ bs) zero = refl
+stored_at w (b ∷ bs) (suc x) = stored_at w bs x
 
--- who has no budget is reported none
-pub steps_past : (all : List Budget) (x : ℕ) → length all ≤ x → slice_index (step_budgets all) x ≡ 0
-steps_past [] x least = refl
-steps_past (a ∷ all) zero least = absurd (omega (arith, least))
-steps_past (a ∷ all) (suc x) least = steps_past all x (omega (arith, least))
+-- a budget of this leaf
+pub stored_of : (w : World) (all : List Budget) (x : ℕ) (b : Budget) → slice_get all x ≡ Some b
+    → slice_index (stored_budgets w (step_budgets all)) x ≡ shown (steps_in w b.steps)
+stored_of w [] x b e = cc
+stored_of w (a ∷ all) zero b e = ap (λ (o : Budget). shown (steps_in w o.steps)) (some_same e)
+stored_of w (a ∷ all) (suc x) b e = stored_of w all x b e
+
+-- who has none is reported none
+pub stored_past : (w : World) (all : List Budget) (x : ℕ) → slice_get all x ≡ None → slice_index (stored_budgets w (step_budgets all)) x ≡ 0
+stored_past w [] x e = refl
+stored_past w (a ∷ all) zero e = cc
+stored_past w (a ∷ all) (suc x) e = stored_past w all x e
+
+-- the account with its budget as 64 bits store it
+abbrev stored_leaf : LeafAccount → LeafAccount
+stored_leaf l = record l { budget = shown l.budget }
+
+abbrev stored : Account → Account
+stored a = record a { leaf = option_map stored_leaf a.leaf }
+
+map_both : (xs ys : List Account) → map stored (xs ++ ys) ≡ map stored xs ++ map stored ys
+map_both [] ys = refl
+map_both (x ∷ xs) ys = ap (λ l. stored x ∷ l) (map_both xs ys)
+
+module _ (s : Scenario) (w : World) (bs : List StepBudget) where
+  at_stored : (x : ℕ) (c : Option Component) (o : Option Leaf)
+      → account_at s.version w x c o (slice_index (stored_budgets w bs) x) ≡ map stored (account_at s.version w x c o (slice_index (all_steps_in w bs) x))
+  at_stored x (Some c) (Some leaf) = ap (λ n. leaf_account s.version w x c leaf n ∷ []) (stored_at w bs x)
+  at_stored x (Some c) None = refl
+  at_stored x None o = refl
+
+  nodes_stored : (x : ℕ) (label : List ℕ) (nodes : Nodes) → node_accounts s.version (system s) w (stored_budgets w bs) x label nodes
+      ≡ map stored (node_accounts s.version (system s) w (all_steps_in w bs) x label nodes)
+  nodes_stored x label End = refl
+  nodes_stored x label (Leaf_node node rest) =
+      let here = at_stored x (slice_get (components s) x) (slice_get w.leaves x) in
+      let later = nodes_stored (suc x) label rest in
+      (λ i. here i ++ later i)
+      ∙ sym (map_both (account_at s.version w x (slice_get (components s) x) (slice_get w.leaves x) (slice_index (all_steps_in w bs) x))
+      (node_accounts s.version (system s) w (all_steps_in w bs) (suc x) label rest))
+  nodes_stored x label (Init_node node children rest) =
+      let name = below label node.name in
+      let account = init_account s.version w x name node.quantum children in
+      let under = nodes_stored x name children in
+      let later = nodes_stored (x + leaf_count children) label rest in
+      (λ i. account ∷ (under i ++ later i))
+      ∙ ap (λ l. account ∷ l) (sym (map_both (node_accounts s.version (system s) w (all_steps_in w bs) x name children)
+      (node_accounts s.version (system s) w (all_steps_in w bs) (x + leaf_count children) label rest)))
+
+  accounts_stored : accounts s w (stored_budgets w bs) ≡ map stored (accounts s w (all_steps_in w bs))
+  accounts_stored = ap (λ l. init_account s.version w 0 (codes "init") s.total s.nodes ∷ l) (nodes_stored 0 (codes "init") s.nodes)
+
+twice_by : (b : Bool) (n : ℕ) → nat_lt n (2 ^ 64) ≡ b → shown (if b then n else 2 ^ 64 - 1) ≡ (if b then n else 2 ^ 64 - 1)
+twice_by true n e = ap (λ (c : Bool). if c then n else 2 ^ 64 - 1) e
+twice_by false n e = refl
+
+twice : (n : ℕ) → shown (shown n) ≡ shown n
+twice n = twice_by (nat_lt n (2 ^ 64)) n refl
+
+line_stored : (version : ℕ) (a : Account) → account_line version (stored a) ≡ account_line version a
+line_stored version a = by a.leaf
+  where
+    by : (o : Option LeafAccount) → account_line version (record a { leaf = option_map stored_leaf o }) ≡ account_line version (record a { leaf = o })
+    by None = refl
+    by (Some l) =
+        ap (λ (n : ℕ). codes "account " ++ a.label ++ entry (codes "quota") a.quota.ram ++ entry (codes "used") l.used.ram
+        ++ reported version (entry (codes "caps") a.quota.caps ++ entry (codes "taken") l.used.caps)
+        ++ (entry (codes "steps") (shown l.steps) ++ codes "/" ++ decimal n ++ codes " " ++ phase_word l.phase) ++ 10 ∷ []) (twice l.budget)
+
+lines_stored : (version : ℕ) (all : List Account) → account_lines version (map stored all) ≡ account_lines version all
+lines_stored version [] = refl
+lines_stored version (a ∷ all) =
+    let here = line_stored version a in
+    let later = lines_stored version all in
+    (λ i. here i ++ later i)
+
+-- lines show a budget as it is stored
+pub stored_lines : (s : Scenario) (w : World) (bs : List StepBudget)
+    → account_lines s.version (accounts s w (stored_budgets w bs)) ≡ account_lines s.version (accounts s w (all_steps_in w bs))
+stored_lines s w bs = ap (account_lines s.version) (accounts_stored s w bs) ∙ lines_stored s.version (accounts s w (all_steps_in w bs))
 
 -- WHAT ACCOUNTS KEEP
 
-module _ (low high : LeafAccount → Amount → ℕ) (by : (q : Amount) (l : LeafAccount) → KeepsAccount q l → low l q ≤ high l q) where
+-- an account whose steps are held
+abbrev KeepsHeld : (LeafAccount → Amount → ℕ) → (LeafAccount → Amount → ℕ) → Type 0
+KeepsHeld low high = (q : Amount) (l : LeafAccount) → KeepsAccount q l → l.steps < 2 ^ 64 → low (stored_leaf l) q ≤ high (stored_leaf l) q
+
+within_shown : (n m : ℕ) → n ≤ m → n < 2 ^ 64 → n ≤ shown m
+within_shown n m few less = by (nat_lt m (2 ^ 64)) few less
+  where
+    by : (b : Bool) → n ≤ m → n < 2 ^ 64 → n ≤ (if b then m else 2 ^ 64 - 1)
+    by true few less = few
+    by false few less = omega (arith, less)
+
+pub keeps_bytes : KeepsHeld (λ l q. l.used.ram) (λ l q. q.ram)
+keeps_bytes q l k less = k.bytes
+
+pub keeps_caps : KeepsHeld (λ l q. l.used.caps) (λ l q. q.caps)
+keeps_caps q l k less = k.caps
+
+pub keeps_steps : KeepsHeld (λ l q. l.steps) (λ l q. l.budget)
+keeps_steps q l k less = within_shown l.steps l.budget k.steps less
+
+module _ (low high : LeafAccount → Amount → ℕ) (by : KeepsHeld low high) where
   abbrev Fits : Amount → Option LeafAccount → Type 0
   Fits q o = IfSome o (λ l. low l q ≤ high l q)
+
+  abbrev AreHeld : Option LeafAccount → Type 0
+  AreHeld o = IfSome o (λ l. l.steps < 2 ^ 64)
 
   fits_once : (q : Amount) (o : Option LeafAccount) (a b : Fits q o) → a ≡ b
   fits_once q None a b = refl
   fits_once q (Some l) a b = le_prop a b
 
-  fits_by : (q : Amount) (o : Option LeafAccount) → promises.KeepsQuota q o → Fits q o
-  fits_by q None h = tt
-  fits_by q (Some l) h = by q l h
+  fits_by : (q : Amount) (o : Option LeafAccount) → promises.KeepsQuota q o → AreHeld (option_map stored_leaf o) → Fits q (option_map stored_leaf o)
+  fits_by q None h k = tt
+  fits_by q (Some l) h k = by q l h k
 
-  fits_in : (all : List Account) (n : ℕ) (reported : AccountValues) → n < length all → AllKeep all → IfSome (slice_get all n) (λ a. reported ≡ reported_of a)
-      → Fits reported.quota reported.leaf
-  fits_in [] n reported less h e = absurd (omega (arith, less))
-  fits_in (a ∷ all) zero reported less h e = subst (λ (t : AccountValues). Fits t.quota t.leaf) (sym e) (fits_by a.quota a.leaf h.0)
-  fits_in (a ∷ all) (suc n) reported less h e = fits_in all n reported (omega (arith, less)) h.1 e
+  fits_in : (all : List Account) (n : ℕ) (reported : AccountValues) → n < length (map stored all) → AllKeep all
+      → IfSome (slice_get (map stored all) n) (λ a. reported ≡ reported_of a) → AreHeld reported.leaf → Fits reported.quota reported.leaf
+  fits_in [] n reported less h e k = absurd (omega (arith, less))
+  fits_in (a ∷ all) zero reported less h e k =
+      subst (λ (t : AccountValues). Fits t.quota t.leaf) (sym e)
+      (fits_by a.quota a.leaf h.0 (subst (λ (t : AccountValues). AreHeld t.leaf) e k))
+  fits_in (a ∷ all) (suc n) reported less h e k = fits_in all n reported (omega (arith, less)) h.1 e k
 
   -- so it is of each node
   pub fits_at : ((s : Scenario) (v : World) → Stands s v → IsUpheld s v) → ((s : Scenario) (v : World) → IsUpheld s v → KeepsAccounts s v) → (w : worlds.World)
-      → ∥ Stands w.scenario w.world ∥₁ → (n : ℕ) (reported : AccountValues) → n < length (all_accounts w) → IfSome (slice_get (all_accounts w) n)
-      (λ a. reported ≡ reported_of a)
+      → ∥ Stands w.scenario w.world ∥₁ → (n : ℕ) (reported : AccountValues) → n < length (all_accounts w)
+      → IfSome (slice_get (all_accounts w) n) (λ a. reported ≡ reported_of a) → AreHeld reported.leaf
       → IfSome reported.leaf (λ l. low l reported.quota ≤ high l reported.quota)
   unfolding all_accounts accounts_by
-  fits_at promised kept w stands n reported less e =
+  fits_at promised kept w stands n reported less e k =
+      let bs = step_budgets (budgets w.scenario) in
+      let same = accounts_stored w.scenario w.world bs in
       ∥∥₁_elim stands (fits_once reported.quota reported.leaf) (λ h.
-      fits_in (accounts w.scenario w.world (step_budgets (budgets w.scenario))) n reported less (kept w.scenario w.world (promised w.scenario w.world h)) e)
+      fits_in (accounts w.scenario w.world (all_steps_in w.world bs)) n reported (subst (λ (l : List Account). n < length l) same less)
+      (kept w.scenario w.world (promised w.scenario w.world h))
+      (subst (λ (l : List Account). IfSome (slice_get l n) (λ a. reported ≡ reported_of a)) same e) k)
 
 -- LINES
 

@@ -1,28 +1,36 @@
 -- What a turn of a world leaves.
-use Rattle.std.proofs.Common.{◌≡◌, ◌≢◌, ℕ, ◌+◌, ◌<◌, ◌^◌, List, None, [], ◌∷◌, length, Option, Some, IfSome, refl, ap, sym, ◌∙◌, subst, zero, suc, arith}
+use Rattle.std.proofs.Common.{◌≡◌, ◌≢◌, ℕ, Bool, true, false, ◌+◌, ◌<◌, ◌≤◌, ◌^◌, ◌&&◌, List, None, [], ◌∷◌, length, Option, Some, IfSome}
+use Rattle.std.proofs.Common.{refl, ap, sym, ◌∙◌, subst, zero, suc, arith}
 use Rattle.std.specs.Prelude.{slice_get, Ok, Err, IsOk, is_ok}
 use Rattle.std.proofs.Math.Logic.{∥∥₁_elim}
 use Rattle.std.specs.Coded.{Coded-set, coded_bool, le_prop}
 use Rattle.std.proofs.lemmas.Option.{slice_get_within}
-use Rattle.gq_model.specs.machine.Scenario.{Scenario, Component, components, system}
+use Rattle.gq_model.specs.machine.Scenario.{Scenario, Component, System, components, system}
 use Rattle.gq_model.proofs.Small_facts.{some_same}
 use Rattle.gq_model.specs.machine.World as model
 use Rattle.gq_model.specs.machine.Doing as doing
 use Rattle.gq_model.specs.machine.Doing.{Stepped}
 use Rattle.gq_model.specs.machine.Step.{next}
 use Rattle.gq_model.specs.declared.fault.Wrong.{Wrong}
-use Rattle.gq_model.specs.machine.Run.{Ran, after_step, label_at, line_of, set_input, turn_from, turns_of}
-use Rattle.gq_model.specs.Promises.{IsUpheld}
+use Rattle.gq_model.specs.machine.Run.{Ran, after_step, label_at, line_of, set_input, submit, turn_from, turns_of}
+use Rattle.gq_model.specs.Promises.{IsUpheld, budget_of}
 use Rattle.gq_laws.specs.Stands.{Stands}
+use Rattle.gq_laws.specs.Turn_effects.{signals_of}
+use Rattle.gq_laws.proofs.step_shapes.Step_counting.{stands_still}
+use Rattle.gq_laws.proofs.upheld_worlds.Standing_world_invariant.{stands_submit}
 use Rattle.gq_bytecode.specs.Nexts.{GoesAlone, leaf_with}
 use Rattle.gq_machine.specs.Events.{event_of}
-use Rattle.gq_machine.specs.Machines.{AreCountable, IsCountable}
+use Rattle.gq_machine.specs.Machines.{AreCountable}
 use Rattle.gq_machine.specs.declared.event.Event.{Event}
 use Rattle.gq_machine.specs.declared.event.Event.TheVariants as events
 use Rattle.gq_machine.specs.Turn_bursts.{OutputsLines, lines_of, output_to}
-use Rattle.gq_model.specs.rules.Accept.{Budget, budgets}
+use Rattle.gq_model.specs.rules.Accept.{Budget, are_small, budgets}
+use Rattle.gq_model.proofs.Component_laws.{budgets_count}
+use Rattle.gq_load.specs.internal.Small_budgets.{all_small}
+use Rattle.gq_world.specs.World_between_turns as worlds
 use Rattle.gq_world.specs.World_between_turns.{HasTaken, World, line_reported, shown}
-use Rattle.gq_world.specs.internal.World_invariant.{IsBudgeted}
+use Rattle.gq_world.specs.internal.World_invariant.{AreCounted, IsBudgeted, IsCounted, IsKept, all_submitted}
+use Rattle.gq_world.proofs.Counted_submissions.{budget_few, none_at_start, setting_same, step_same, submit_more}
 use Rattle.gq_world.specs.internal.Act_transitions.{going}
 
 there_is : {A : Type 0} (xs : List A) (i : ℕ) → i < length xs → (a : A) × (slice_get xs i ≡ Some a)
@@ -46,9 +54,10 @@ pub defined : Promises → (s : Scenario) (w : model.World) (x : ℕ) → ∥ St
 defined promises s w x stands =
     ∥∥₁_elim stands (Coded-set coded_bool _ _) (λ h. let g = (promises s w h).goes_on x in defined_in (next (system s) w x) g.0 g.1)
 
--- so many steps more of a leaf can be counted
-pub countable_turns : Promises → (s : Scenario) (w : model.World) (x n : ℕ) → n < 2 ^ 32 → ∥ Stands s w ∥₁ → AreCountable w x n
-countable_turns promises s w x n few stands = by (slice_get w.leaves x) refl
+-- so many steps more of a leaf can be counted where signals are
+pub countable_turns : Promises → (s : Scenario) (w : model.World) (x n signals : ℕ) → n < 2 ^ 32 → ∥ Stands s w ∥₁ → AreCounted w signals → AreCountable w x n
+unfolding worlds.greatest_lines
+countable_turns promises s w x n signals few stands counted = by (slice_get w.leaves x) refl
   where
     by : (o : Option model.Leaf) → slice_get w.leaves x ≡ o → IfSome o (λ (l : model.Leaf). l.steps + n < 2 ^ 64)
     by None e = tt
@@ -58,12 +67,52 @@ countable_turns promises s w x n few stands = by (slice_get w.leaves x) refl
         let c = there_is (components s) x (omega (arith, less, count)) in
         let keeps = (promises s w h).keeps_budgets x c.0 c.1 in
         let steps = keeps.steps in
-        let limited = keeps.limited in
+        let limited = budget_few w (budget_of s x c.0).steps signals keeps.limited counted.submitted in
+        let greatest = counted.few in
         let same = ap (λ (l : model.Leaf). l.steps) (some_same (sym keeps.there ∙ e)) in
-        omega (arith, steps, limited, same, few))
+        omega (arith, steps, limited, greatest, same, few))
 
-pub countable : Promises → (s : Scenario) (w : model.World) (x : ℕ) → ∥ Stands s w ∥₁ → IsCountable w x
-countable promises s w x stands = countable_turns promises s w x 1 (omega arith) stands
+-- so they can in a world that is not stopped
+pub countable_running : Promises → (s : Scenario) (w : model.World) (all : List Budget) (stopped : Bool) (x n signals : ℕ) → n < 2 ^ 32
+    → IsKept s w all stopped signals → stopped ≡ false → AreCountable w x n
+countable_running promises s w all stopped x n signals few h running =
+    countable_turns promises s w x n signals few h.budgeted.stands (h.counted running)
+
+-- where it was found that they can
+pub countable_found : (w : model.World) (x n steps : ℕ) → steps + n < 2 ^ 64 → IfSome (slice_get w.leaves x) (λ (l : model.Leaf). steps ≡ l.steps)
+    → AreCountable w x n
+countable_found w x n steps less found = by (slice_get w.leaves x) found
+  where
+    by : (o : Option model.Leaf) → IfSome o (λ (l : model.Leaf). steps ≡ l.steps) → IfSome o (λ (l : model.Leaf). l.steps + n < 2 ^ 64)
+    by None e = tt
+    by (Some leaf) e = omega (arith, less, e)
+
+-- BUDGETS
+
+small_all : (bs : List Budget) → ((x : ℕ) (b : Budget) → slice_get bs x ≡ Some b → are_small b.steps ≡ true) → all_small bs ≡ true
+small_all [] each = refl
+small_all (b ∷ bs) each =
+    ap (λ (t : Bool). t && all_small bs) (each 0 b refl) ∙ small_all bs (λ x c e. each (suc x) c e)
+
+budgets_many : (s : Scenario) → length (budgets s) ≡ length (components s)
+budgets_many s = budgets_count s.version (system s) 0 (components s)
+
+-- those of an accepted scenario are small
+pub budgets_small : Promises → (s : Scenario) (w : model.World) → ∥ Stands s w ∥₁ → all_small (budgets s) ≡ true
+budgets_small promises s w stands =
+    ∥∥₁_elim stands (Coded-set coded_bool _ _) (λ h. small_all (budgets s) (λ x b e.
+    let less = slice_get_within (budgets s) x b e in
+    let many = budgets_many s in
+    let c = there_is (components s) x (omega (arith, less, many)) in
+    let keeps = (promises s w h).keeps_budgets x c.0 c.1 in
+    ap (λ (d : Budget). are_small d.steps) (some_same (sym e ∙ keeps.reported)) ∙ keeps.limited))
+
+pub budgets_few : (s t : Scenario) (bs : List Budget) → t ≡ s → bs ≡ budgets s → length (components t) ≤ 64 → length bs ≤ 64
+budgets_few s t bs same are few =
+    let many = budgets_many s in
+    let count = ap (λ (r : Scenario). length (components r)) same in
+    let all = ap (λ (l : List Budget). length l) are in
+    omega (arith, few, many, count, all)
 
 pub stands_after : Keeps → (s : Scenario) (w after : model.World) (x : ℕ) (e : doing.Event) → next (system s) w x ≡ Ok (after, e) → ∥ Stands s w ∥₁
     → ∥ Stands s after ∥₁
@@ -78,13 +127,22 @@ stands_seen s t v w e f h = subst (λ (r : Scenario). ∥ Stands r w ∥₁) e (
 
 -- A STEP
 
--- what stands stands after the step, and the budgets stay
-pub kept_by_step : Keeps → (s t : Scenario) (w v : model.World) (all : List Budget) (x : ℕ) (e : doing.Event) → t ≡ s → next (system s) w x ≡ Ok (v, e)
-    → IsBudgeted s w all → IsBudgeted t v all
-kept_by_step keeps s t w v all x e same n h =
+-- what was counted is counted in a world in which no more was submitted
+counted_by : (w v : model.World) (stopped : Bool) (signals : ℕ) → all_submitted (signals_of v) ≡ all_submitted (signals_of w) → IsCounted w stopped signals
+    → IsCounted v stopped signals
+counted_by w v stopped signals same h running =
+    let was = h running in record { few = was.few; submitted = (let few = was.submitted in omega (arith, few, same)) }
+
+-- what stands stands after the step, and the budgets and signals stay
+pub kept_by_step : Keeps → (s t : Scenario) (w v : model.World) (all : List Budget) (stopped : Bool) (signals x : ℕ) (e : doing.Event) → t ≡ s
+    → next (system s) w x ≡ Ok (v, e) → IsKept s w all stopped signals → IsKept t v all stopped signals
+kept_by_step keeps s t w v all stopped signals x e same n h =
     record {
-      stands = subst (λ (r : Scenario). ∥ Stands r v ∥₁) (sym same) (stands_after keeps s w v x e n h.stands);
-      budgets_are = h.budgets_are ∙ ap budgets (sym same);
+      budgeted = record {
+        stands = subst (λ (r : Scenario). ∥ Stands r v ∥₁) (sym same) (stands_after keeps s w v x e n h.budgeted.stands);
+        budgets_are = h.budgeted.budgets_are ∙ ap budgets (sym same);
+      };
+      counted = counted_by w v stopped signals (step_same (system s) w x v e (stands_still (system s) w x) n) h.counted;
     }
 
 -- the step, as of the world that contracts see
@@ -104,6 +162,10 @@ has_taken s old w x n same is count less reported =
     let taken : n ≡ leaf.0.steps = subst (λ (o : Option model.Leaf). IfSome o (λ (l : model.Leaf). n ≡ l.steps)) leaf.1 reported in
     record { leaf = leaf.0; there = sym (ap (λ (v : model.World). slice_get v.leaves x) is) ∙ leaf.1; taken = sym taken }
 
+-- a leaf has taken one number of steps
+pub taken_once : (w : model.World) (x n m : ℕ) → HasTaken w x n → HasTaken w x m → n ≡ m
+taken_once w x n m h k = sym h.taken ∙ (ap (λ (l : model.Leaf). l.steps) (some_same (sym h.there ∙ k.there)) ∙ k.taken)
+
 -- STEPS THAT A LEAF TAKES ALONE
 
 -- what stands stands after them
@@ -112,13 +174,23 @@ alone_stands keeps s x zero w v e h = subst (Stands s) e h
 alone_stands keeps s x (suc n) w v g h =
     let mid = model.with_leaf w x (leaf_with g.0 g.1) in alone_stands keeps s x n mid v g.5 (keeps s w x mid doing.Quiet h g.4)
 
--- and the budgets stay
-pub kept_alone : Keeps → (s t : Scenario) (w v : model.World) (all : List Budget) (x n : ℕ) → t ≡ s → GoesAlone (system s) x n w v → IsBudgeted s w all
-    → IsBudgeted t v all
-kept_alone keeps s t w v all x n same goes h =
+alone_same : (system : System) (x n : ℕ) (w v : model.World) → GoesAlone system x n w v → all_submitted (signals_of v) ≡ all_submitted (signals_of w)
+alone_same system x zero w v e = ap (λ (u : model.World). all_submitted (signals_of u)) (sym e)
+alone_same system x (suc n) w v g =
+    let mid = model.with_leaf w x (leaf_with g.0 g.1) in
+    alone_same system x n mid v g.5 ∙ step_same system w x mid doing.Quiet (stands_still system w x) g.4
+
+-- and the budgets and signals stay
+pub kept_alone : Keeps → (s t : Scenario) (w v : model.World) (all : List Budget) (stopped : Bool) (signals x n : ℕ) → t ≡ s → GoesAlone (system s) x n w v
+    → IsKept s w all stopped signals → IsKept t v all stopped signals
+kept_alone keeps s t w v all stopped signals x n same goes h =
     record {
-      stands = subst (λ (r : Scenario). ∥ Stands r v ∥₁) (sym same) (∥∥₁_elim h.stands (hlevel) (λ i. ∣ alone_stands keeps s x n w v goes i ∣₁));
-      budgets_are = h.budgets_are ∙ ap budgets (sym same);
+      budgeted = record {
+        stands = subst (λ (r : Scenario). ∥ Stands r v ∥₁) (sym same)
+            (∥∥₁_elim h.budgeted.stands (hlevel) (λ i. ∣ alone_stands keeps s x n w v goes i ∣₁));
+        budgets_are = h.budgeted.budgets_are ∙ ap budgets (sym same);
+      };
+      counted = counted_by w v stopped signals (alone_same (system s) x n w v goes) h.counted;
     }
 
 -- as of the world that contracts see
@@ -161,6 +233,21 @@ pub stands_then : Promises → Keeps → (s : Scenario) (w : model.World) (x n :
     → ∥ Stands s r.world ∥₁
 stands_then promises keeps s w x n r e stands = ∥∥₁_elim stands (hlevel) (λ h. ∣ (right_end promises keeps s w x n r e h).good ∣₁)
 
+-- turns submit nothing
+turn_same : (system : System) (x : ℕ) (ran : Ran) (r : Stepped) → next system ran.world x ≡ r
+    → all_submitted (signals_of (after_step system x ran r).world) ≡ all_submitted (signals_of ran.world)
+turn_same system x ran (Ok p) e = step_same system ran.world x p.0 p.1 (stands_still system ran.world x) e
+turn_same system x ran (Err wrong) e = refl
+
+turn_by : (system : System) (x : ℕ) (ran : Ran) (o : Option (ℕ × Wrong))
+    → all_submitted (signals_of (turn_from system x ran o).world) ≡ all_submitted (signals_of ran.world)
+turn_by system x ran None = turn_same system x ran (next system ran.world x) refl
+turn_by system x ran (Some p) = refl
+
+turns_same : (system : System) (x n : ℕ) (ran : Ran) → all_submitted (signals_of (turns_of system x n ran).world) ≡ all_submitted (signals_of ran.world)
+turns_same system x zero ran = refl
+turns_same system x (suc n) ran = turns_same system x n (turn_from system x ran ran.wrong) ∙ turn_by system x ran ran.wrong
+
 some_none : {A : Type 0} {a : A} → ◌≡◌ {A = Option A} (Some a) None → ⊥
 some_none e = cc
 
@@ -177,14 +264,18 @@ reported_seen s w v u old x n e lines a b same reports =
     subst (λ z. OutputsLines old.scenario x n old.world z (Ok e) lines) (sym same)
     (subst (λ z. OutputsLines old.scenario x n z v (Ok e) lines) b (subst (λ t. OutputsLines t x n w v (Ok e) lines) a reports))
 
--- what stands stands after them, and the budgets stay
-pub kept_reported : Promises → Keeps → (s t : Scenario) (w v : model.World) (all : List Budget) (x n : ℕ) (e : Event) (lines : List ℕ) → t ≡ s
-    → OutputsLines s x n w v (Ok e) lines → IsBudgeted s w all → IsBudgeted t v all
-kept_reported promises keeps s t w v all x n e lines same reports h =
+-- what stands stands after them, and the budgets and signals stay
+pub kept_reported : Promises → Keeps → (s t : Scenario) (w v : model.World) (all : List Budget) (stopped : Bool) (signals x n : ℕ) (e : Event)
+    (lines : List ℕ) → t ≡ s → OutputsLines s x n w v (Ok e) lines → IsKept s w all stopped signals → IsKept t v all stopped signals
+kept_reported promises keeps s t w v all stopped signals x n e lines same reports h =
     record {
-      stands = subst (λ (r : Scenario). ∥ Stands r v ∥₁) (sym same)
-          (stands_then promises keeps s w x n (output_to x (Ok e) lines v []) (reports []) h.stands);
-      budgets_are = h.budgets_are ∙ ap budgets (sym same);
+      budgeted = record {
+        stands = subst (λ (r : Scenario). ∥ Stands r v ∥₁) (sym same)
+            (stands_then promises keeps s w x n (output_to x (Ok e) lines v []) (reports []) h.budgeted.stands);
+        budgets_are = h.budgeted.budgets_are ∙ ap budgets (sym same);
+      };
+      counted = counted_by w v stopped signals
+          (ap (λ (r : Ran). all_submitted (signals_of r.world)) (sym (reports [])) ∙ turns_same (system s) x n (going w [])) h.counted;
     }
 
 -- no lines were given
@@ -227,17 +318,99 @@ shown-event_of events.Line text = refl
 abbrev pub KeepsSet : Type 0
 KeepsSet = (s : Scenario) (w : model.World) (x i n : ℕ) → Stands s w → Stands s (set_input (system s) w x i n)
 
--- what stands stands after the setting, and the budgets stay
-pub kept_by_setting : KeepsSet → (s t : Scenario) (w v : model.World) (all : List Budget) (x i n : ℕ) → t ≡ s → v ≡ set_input (system s) w x i n
-    → IsBudgeted s w all → IsBudgeted t v all
-kept_by_setting keeps s t w v all x i n same is h =
+-- what stands stands after the setting, and the budgets and signals stay
+pub kept_by_setting : KeepsSet → (s t : Scenario) (w v : model.World) (all : List Budget) (stopped : Bool) (signals x i n : ℕ) → t ≡ s
+    → v ≡ set_input (system s) w x i n → IsKept s w all stopped signals → IsKept t v all stopped signals
+kept_by_setting keeps s t w v all stopped signals x i n same is h =
     record {
-      stands = subst (λ (r : Scenario). ∥ Stands r v ∥₁) (sym same)
-          (subst (λ (u : model.World). ∥ Stands s u ∥₁) (sym is) (∥∥₁_elim h.stands (hlevel) (λ k. ∣ keeps s w x i n k ∣₁)));
-      budgets_are = h.budgets_are ∙ ap budgets (sym same);
+      budgeted = record {
+        stands = subst (λ (r : Scenario). ∥ Stands r v ∥₁) (sym same) (subst (λ (u : model.World). ∥ Stands s u ∥₁) (sym is)
+            (∥∥₁_elim h.budgeted.stands (hlevel) (λ k. ∣ keeps s w x i n k ∣₁)));
+        budgets_are = h.budgeted.budgets_are ∙ ap budgets (sym same);
+      };
+      counted = counted_by w v stopped signals
+          (ap (λ (u : model.World). all_submitted (signals_of u)) is ∙ setting_same (system s) w x i n) h.counted;
     }
 
 -- the setting, as of the world that contracts see
 pub set_seen : (s : Scenario) (w v : model.World) (old : World) (x i n : ℕ) → s ≡ old.scenario → w ≡ old.world → v ≡ set_input (system s) w x i n
     → v ≡ set_input (system old.scenario) old.world x i n
 set_seen s w v old x i n a b is = is ∙ (λ k. set_input (system (a k)) (b k) x i n)
+
+-- A SIGNAL
+
+signal_stands : (s t : Scenario) (w v : model.World) (x i : ℕ) → t ≡ s → v ≡ submit w x i → ∥ Stands s w ∥₁ → ∥ Stands t v ∥₁
+signal_stands s t w v x i same is h =
+    subst (λ (r : Scenario). ∥ Stands r v ∥₁) (sym same) (subst (λ (u : model.World). ∥ Stands s u ∥₁) (sym is)
+    (∥∥₁_elim h (hlevel) (λ k. ∣ stands_submit s w x i k ∣₁)))
+
+signal_budgeted : (s t : Scenario) (w v : model.World) (all : List Budget) (x i : ℕ) → t ≡ s → v ≡ submit w x i → IsBudgeted s w all → IsBudgeted t v all
+signal_budgeted s t w v all x i same is h =
+    record { stands = signal_stands s t w v x i same is h.stands; budgets_are = h.budgets_are ∙ ap budgets (sym same) }
+
+-- what stands stands after the signal, the budgets stay, and it is counted
+pub kept_by_signal : (s t : Scenario) (w v : model.World) (all : List Budget) (stopped : Bool) (signals x i : ℕ) → t ≡ s → v ≡ submit w x i
+    → signals < worlds.greatest_lines → IsKept s w all stopped signals → IsKept t v all stopped (signals + 1)
+kept_by_signal s t w v all stopped signals x i same is less h =
+    record {
+      budgeted = signal_budgeted s t w v all x i same is h.budgeted;
+      counted = λ running.
+          let was = h.counted running in
+          let few = was.submitted in
+          let more = submit_more w x i in
+          let there = ap (λ (u : model.World). all_submitted (signals_of u)) is in
+          record { few = omega (arith, less); submitted = omega (arith, few, more, there) };
+    }
+
+-- the signals of a leaf are those of its component
+leaf_signals : (s : Scenario) (w : model.World) (x : ℕ) (P : ℕ → Type 0) → ((n : ℕ) (a b : P n) → a ≡ b) → ∥ Stands s w ∥₁
+    → IfSome (slice_get w.leaves x) (λ (l : model.Leaf). P (length l.signals)) → IfSome (slice_get (components s) x) (λ (c : Component). P c.node.signals)
+leaf_signals s w x P once stands h = by (slice_get (components s) x) refl
+  where
+    by : (o : Option Component) → slice_get (components s) x ≡ o → IfSome o (λ (c : Component). P c.node.signals)
+    by None e = tt
+    by (Some c) e = ∥∥₁_elim stands (once c.node.signals) (λ k.
+        let less = slice_get_within (components s) x c e in
+        let count = k.whole.count in
+        let leaf = there_is w.leaves x (omega (arith, less, count)) in
+        subst P (k.whole.signals x c leaf.0 e leaf.1)
+        (subst (λ (o : Option model.Leaf). IfSome o (λ (l : model.Leaf). P (length l.signals))) leaf.1 h))
+
+pub signal_there : (s : Scenario) (w : model.World) (x i : ℕ) → ∥ Stands s w ∥₁ → IfSome (slice_get w.leaves x) (λ (l : model.Leaf). i < length l.signals)
+    → IfSome (slice_get (components s) x) (λ (c : Component). i < c.node.signals)
+signal_there s w x i stands h = leaf_signals s w x (λ n. i < n) (λ n a b. le_prop a b) stands h
+
+pub signal_past : (s : Scenario) (w : model.World) (x i : ℕ) → ∥ Stands s w ∥₁ → IfSome (slice_get w.leaves x) (λ (l : model.Leaf). length l.signals ≤ i)
+    → IfSome (slice_get (components s) x) (λ (c : Component). c.node.signals ≤ i)
+signal_past s w x i stands h = leaf_signals s w x (λ n. n ≤ i) (λ n a b. le_prop a b) stands h
+
+not_running : true ≡ false → ⊥
+not_running e = cc
+
+-- where it is not counted, the world is stopped
+pub kept_uncounted : (s t : Scenario) (w v : model.World) (all : List Budget) (stopped : Bool) (signals x i : ℕ) → t ≡ s → v ≡ submit w x i
+    → IsKept s w all stopped signals → IsKept t v all true signals
+kept_uncounted s t w v all stopped signals x i same is h =
+    record { budgeted = signal_budgeted s t w v all x i same is h.budgeted; counted = λ running. absurd (not_running running) }
+
+-- and where nothing was done all is as it was
+pub kept_as : (s t : Scenario) (w v : model.World) (all : List Budget) (stopped : Bool) (signals : ℕ) → t ≡ s → v ≡ w → IsKept s w all stopped signals
+    → IsKept t v all stopped signals
+kept_as s t w v all stopped signals same is h =
+    subst (λ (r : Scenario). IsKept r v all stopped signals) (sym same) (subst (λ (u : model.World). IsKept s u all stopped signals) (sym is) h)
+
+-- a world that is stopped
+pub kept_stopped : (s : Scenario) (w : model.World) (all : List Budget) (stopped : Bool) (signals : ℕ) → IsKept s w all stopped signals
+    → IsKept s w all true signals
+kept_stopped s w all stopped signals h = record { budgeted = h.budgeted; counted = λ running. absurd (not_running running) }
+
+-- the start of a world
+pub kept_at_start : (s : Scenario) (w : model.World) (all : List Budget) → Stands s w → w ≡ model.start (system s) → all ≡ budgets s → IsKept s w all false 0
+unfolding worlds.greatest_lines
+kept_at_start s w all stands is same =
+    record {
+      budgeted = record { stands = ∣ stands ∣₁; budgets_are = same };
+      counted = λ running.
+          let none = ap (λ (u : model.World). all_submitted (signals_of u)) is ∙ none_at_start (system s) in
+          record { few = omega arith; submitted = omega (arith, none) };
+    }

@@ -1,19 +1,25 @@
 -- The accounts of a world, and their lines.
-use Rattle.std.specs.Prelude.{◌≡◌, ℕ, List, Some, slice_get, slice_index}
+use Rattle.std.specs.Prelude.{◌≡◌, ℕ, List, [], ◌∷◌, Some, slice_get, slice_index}
 use Rattle.gq_model.specs.machine.Scenario.{Scenario, Component, components}
 use Rattle.gq_model.specs.machine.World as model
 use Rattle.gq_model.specs.machine.World.{Leaf}
 use Rattle.gq_model.specs.rules.Accept.{budgets, step_budgets}
-use Rattle.gq_model.specs.machine.Accounts.{LeafAccount, Account, leaf_account, accounts, account_lines}
+use Rattle.gq_model.specs.machine.Accounts.{LeafAccount, Account, leaf_account, accounts, account_lines, shown}
+use Rattle.gq_model.specs.machine.Step_budgets.{StepBudget, steps_in}
 use Rattle.gq_world.specs.World_between_turns.{World}
 
 -- the accounts of all nodes, by these step budgets
 unfoldable pub accounts_by : Scenario → model.World → List ℕ → List Account
 accounts_by s w reported = accounts s w reported
 
--- those of a world, with the step budgets of the scenario
+-- step budgets in a world, as 64 bits store them: they stay at the greatest number once there
+abbrev pub stored_budgets : model.World → List StepBudget → List ℕ
+stored_budgets w [] = []
+stored_budgets w (b ∷ rest) = shown (steps_in w b) ∷ stored_budgets w rest
+
+-- those of a world, with the step budgets of the scenario in it
 unfoldable pub all_accounts : World → List Account
-all_accounts w = accounts_by w.scenario w.world (step_budgets (budgets w.scenario))
+all_accounts w = accounts_by w.scenario w.world (stored_budgets w.world (step_budgets (budgets w.scenario)))
 
 -- their lines
 abbrev pub accounts_text : World → List ℕ

@@ -1,7 +1,7 @@
 -- What is promised of every run of an accepted scenario, from bytes to bytes.
 use Rattle.std.specs.Prelude.{◌≡◌, ℕ, List, Option, Ok}
 use Rattle.std.specs.Io.KnownBytes.{Appends}
-use Rattle.gq_model.specs.machine.Scenario.{Scenario, components}
+use Rattle.gq_model.specs.machine.Scenario.{Scenario}
 use Rattle.gq_model.specs.machine.Accounts.{whole}
 use Rattle.gq_model.specs.rules.Accept.{budgets, step_budgets, IsAccepted}
 use Rattle.gq_model.specs.Promises.{IsUpheld, Upholds}
@@ -19,12 +19,12 @@ Upheld w = ∥ IsUpheld w.scenario w.world ∥₁
 abbrev pub Standing : worlds.World → Type 0
 Standing w = ∥ Stands w.scenario w.world ∥₁
 
--- whatever the turns and settings, a run of it upholds what is promised
+-- whatever the turns, settings and signals, a run of it upholds what is promised
 abbrev pub Upholding : Scenario → Type 0
 Upholding s = (turns : Acts) → Upholds s turns
 
 -- from bytes to bytes: the scenario is loaded and accepted, the turns are read, the text is the whole text of their run, and the runs of the scenario over all
--- lists of turns and settings uphold what is promised, hence also each world on the way
+-- lists of turns, settings and signals uphold what is promised, hence also each world on the way
 pub record IsPromised (scenario turns text : List ℕ) : Type 0 where
   pub accepted : Scenario
   pub loads : loaded scenario ≡ Ok accepted

@@ -1,20 +1,29 @@
 -- A world between two turns, what it keeps, and what a turn does.
-use Rattle.std.specs.Prelude.{◌≡◌, ◌<◌, ℕ, Bool, true, List, [], ◌∷◌, slice_get, Option, Some, Ok}
+use Rattle.std.specs.Prelude.{◌≡◌, ℕ, Bool, true, List, [], ◌∷◌, slice_get, Option, Some, Ok}
 use Rattle.std.specs.Io.KnownBytes.{Appends}
 use Rattle.gq_model.specs.machine.Scenario.{Scenario, components, system}
 use Rattle.gq_model.specs.machine.World as model
 use Rattle.gq_model.specs.machine.Doing as doing
 use Rattle.gq_model.specs.machine.Step.{next}
-use Rattle.gq_model.specs.machine.Run.{Acts, label_at, line_of}
+use Rattle.gq_model.specs.machine.Run.{label_at, line_of}
+use Rattle.gq_model.specs.declared.act.TurnLine.{TurnLine}
+use Rattle.gq_init.specs.Turn_items.{IsOf}
 use Rattle.gq_machine.specs.declared.event.Event.{Event}
 use Rattle.gq_machine.specs.declared.event.Event.TheVariants as events
 use Rattle.gq_output.specs.Writes.{IsPrefix}
 
--- an accepted scenario, the world of the abstract machine, and whether a turn has stopped it
+-- the most lines that a list of turns has
+unfoldable pub greatest_lines : ℕ
+greatest_lines = 16777217
+
+-- an accepted scenario, the world of the abstract machine, whether a write failed, whether it was stopped, and how many signals were submitted while it was
+-- not; a world that is not stopped has had no failed write, and no more signals than a list of turns has lines
 pub record World : Type 0 where
   pub scenario : Scenario
   pub world : model.World
+  pub failed : Bool
   pub stopped : Bool
+  pub signals : ℕ
 
 -- what a step shows, without its text
 abbrev pub shown : doing.Event → Event
@@ -38,13 +47,14 @@ pub record IsTurn (old new : World) (leaf : ℕ) (event : Event) (before after :
 pub record StopsWriting (old new : World) (leaf : ℕ) (before after : Option (List ℕ)) : Type 0 where
   pub step : doing.Event
   pub next : next (system old.scenario) old.world leaf ≡ Ok (new.world, step)
+  pub failed : new.failed ≡ true
   pub stopped : new.stopped ≡ true
   pub written : IsPrefix before after (line_reported old.scenario leaf step)
 
--- each turn and setting is of a leaf below this number
-abbrev pub AreBelow : ℕ → Acts → Type 0
-AreBelow n [] = Unit {0}
-AreBelow n (t ∷ turns) = (t.0 < n) × AreBelow n turns
+-- each line is of a leaf below this number, or brings all work to rest
+abbrev pub AreOf : ℕ → List TurnLine → Type 0
+AreOf n [] = Unit {0}
+AreOf n (line ∷ rest) = IsOf n line × AreOf n rest
 
 -- the x-th leaf is there, and has taken so many steps
 pub record HasTaken (w : model.World) (x steps : ℕ) : Type 0 where

@@ -5,7 +5,7 @@ ghost use Rattle.gq_model.specs.machine.Scenario.{components};
 ghost use Rattle.gq_model.specs.rules.Accept.{step_budgets};
 ghost use Rattle.gq_resolve.specs.NodeTables.{node_rows};
 ghost use Rattle.gq_output.specs.Writer_failures.{Writes};
-ghost use Rattle.gq_world.specs.Account_lines.{accounts_by};
+ghost use Rattle.gq_world.specs.Account_lines.{accounts_by, stored_budgets};
 
 use crate::node_accounts::account_of;
 use gq_load::budget::Budget;
@@ -20,7 +20,7 @@ use std::io::Write;
 fn line_of(machine: &Machine, budgets: &[Budget], node: NodeNo) -> Line
     requires leaves { length machine.now.world.leaves ≡ length (components machine.now.scenario) }
     requires node { node < length (node_rows machine.now.scenario) }
-    ensures { IfSome (slice_get (accounts_by machine.now.scenario machine.now.world (step_budgets budgets.now)) node)
+    ensures { IfSome (slice_get (accounts_by machine.now.scenario machine.now.world (stored_budgets machine.now.world (step_budgets budgets.now))) node)
         (λ a. result.items ≡ account_line machine.now.scenario.version a) }
 {
     let account = account_of(machine, budgets, node);
@@ -32,14 +32,14 @@ fn line_of(machine: &Machine, budgets: &[Budget], node: NodeNo) -> Line
 fn account_count(machine: &Machine, budgets: &[Budget]) -> usize
     requires { length machine.now.world.leaves ≡ length (components machine.now.scenario) }
     ensures nodes { result ≡ length (node_rows machine.now.scenario) }
-    ensures accounts { result ≡ length (accounts_by machine.now.scenario machine.now.world (step_budgets budgets.now)) }
+    ensures accounts { result ≡ length (accounts_by machine.now.scenario machine.now.world (stored_budgets machine.now.world (step_budgets budgets.now))) }
     ensures few { result ≤ 129 }
 {
     machine.table().node_count()
 }
 
 /// Writes the lines of the accounts of all nodes in preorder, up to the first that is not written whole. The step budget of a leaf is that of these
-/// budgets, of all leaves in preorder, and 0 where it has none there. They allocate no host memory.
+/// budgets, of all leaves in preorder, in the machine's world, and 0 where it has none there. They allocate no host memory.
 pub fn write_accounts<W: Write>(
     machine: &Machine,
     budgets: &[Budget],
@@ -47,7 +47,8 @@ pub fn write_accounts<W: Write>(
 ) -> Result<(), WriteFault>
     requires { length machine.now.world.leaves ≡ length (components machine.now.scenario) }
     ensures { Writes W.contents out.old out.new
-        (account_lines machine.now.scenario.version (accounts_by machine.now.scenario machine.now.world (step_budgets budgets.now))) result }
+        (account_lines machine.now.scenario.version
+        (accounts_by machine.now.scenario machine.now.world (stored_budgets machine.now.world (step_budgets budgets.now)))) result }
 {
     for number in 0..account_count(machine, budgets) {
         let line = line_of(machine, budgets, NodeNo::new(number as u32));

@@ -17,9 +17,11 @@ pub mod leaf_lines;
 pub mod load;
 mod node_accounts;
 pub mod run;
+mod step_budgets;
+mod to_rest;
 pub mod world;
 
-pub use gq_machine::{event, input_settings};
+pub use gq_machine::{event, input_settings, submitted_signals};
 pub use gq_output::counted::Counted;
 pub use gq_output::{account_report, counted};
 pub use gq_reports::{RunFault, asm, check};

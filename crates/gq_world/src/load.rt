@@ -21,7 +21,9 @@ impl World {
     pub fn load(alloc: Global, text: &[u8]) -> Result<World, RunFault<'static>>
         ensures loaded { IfOk result (λ w. loaded text.now ≡ Ok w.scenario) }
         ensures world { IfOk result (λ w. w.world ≡ start (system w.scenario)) }
+        ensures whole { IfOk result (λ w. w.failed ≡ false) }
         ensures running { IfOk result (λ w. w.stopped ≡ false) }
+        ensures signals { IfOk result (λ w. w.signals ≡ 0) }
 
         // The verifier accepts the scenario, and whatever the turns, a run of it upholds what is promised.
         ensures accepted { IfOk result (λ w. IsAccepted w.scenario) }

@@ -8,7 +8,7 @@ abbrev pub no_asker : Asker
 no_asker = record { leaf = 0; part = 0; section = Main; count = 0 }
 
 abbrev pub no_asks : Asks
-no_asks = record { sections = []; askers = [] }
+no_asks = record { number = 0; sections = []; askers = [] }
 
 -- a leaf that these ask may stand at this level: no leaf of them stands as high, and it is no greater than there are uses
 abbrev pub IsPlaced : List Asker → List ℕ → ℕ → ℕ → Type 0

@@ -1,6 +1,7 @@
 -- How often sections run, round by round.
 use Rattle.std.specs.Prelude.{ℕ, zero, suc, ◌+◌, ◌*◌, if◌then◌else◌, Bool, List, [], ◌∷◌, ◌++◌, Option, Some, None, get_or}
 use Rattle.gq_model.specs.machine.Sections.{same_section}
+use Rattle.gq_model.specs.rules.Use.{Cause, starts_main, is_signal}
 use Rattle.gq_model.specs.declared.section.Section.{Section}
 use Rattle.gq_model.specs.declared.section.Section.TheVariants.{Main, Reacting}
 use Rattle.gq_verify.specs.declared.asked.Asker.{Asker}
@@ -12,8 +13,9 @@ use Rattle.gq_budget.specs.internal.Product_sums.{products}
 
 -- WHO ASKS
 
--- the sections of a leaf, and who asks for them
+-- a leaf's number and its sections, and who asks for them
 pub record Asks : Type 0 where
+  pub number : ℕ
   pub sections : List Section
   pub askers : List Asker
 
@@ -37,12 +39,17 @@ abbrev pub askers_for : List Counted → List Bool → Option (List ℕ) → Lis
 askers_for leaves leads None = []
 askers_for leaves leads (Some service) = askers_by service 0 leaves leads
 
--- of each of these leaves
-abbrev pub all_asks : List Counted → List Counted → List (List Bool) → List Asks
-all_asks leaves (leaf ∷ rest) (leads ∷ more) =
-    record { sections = leaf.sections; askers = askers_for leaves leads leaf.provides } ∷ all_asks leaves rest more
-all_asks leaves [] leads = []
-all_asks leaves (leaf ∷ rest) [] = []
+-- of each of these leaves, of which the first is the x-th
+abbrev pub all_asks : List Counted → ℕ → List Counted → List (List Bool) → List Asks
+all_asks leaves x (leaf ∷ rest) (leads ∷ more) =
+    record { number = x; sections = leaf.sections; askers = askers_for leaves leads leaf.provides } ∷ all_asks leaves (suc x) rest more
+all_asks leaves x [] leads = []
+all_asks leaves x (leaf ∷ rest) [] = []
+
+-- who asks for the sections of all leaves, and how many uses a chain has at most
+pub record Used : Type 0 where
+  pub asks : List Asks
+  pub longest : ℕ
 
 -- HOW OFTEN
 
@@ -55,24 +62,24 @@ abbrev pub asked_sum : Section → List Asker → List (List ℕ) → ℕ
 asked_sum section [] table = 0
 asked_sum section (a ∷ rest) table = (if same_section section a.section then a.count else 0) * runs table a + asked_sum section rest table
 
--- `main` runs once; another section as often as it is asked for
-abbrev pub often : Section → List Asker → List (List ℕ) → ℕ
-often Main askers table = 1
-often (Reacting i) askers table = 0
-often section askers table = saturated (asked_sum section askers table)
+-- what the cause runs it runs once; a section of the x-th leaf's service runs as often as it is asked for
+abbrev pub often : Cause → ℕ → Section → List Asker → List (List ℕ) → ℕ
+often cause x Main askers table = starts_main cause
+often cause x (Reacting i) askers table = if is_signal cause x i then 1 else 0
+often cause x section askers table = saturated (asked_sum section askers table)
 
-abbrev pub leaf_round : List Section → List Asker → List (List ℕ) → List ℕ
-leaf_round [] askers table = []
-leaf_round (section ∷ rest) askers table = often section askers table ∷ leaf_round rest askers table
+abbrev pub leaf_round : Cause → ℕ → List Section → List Asker → List (List ℕ) → List ℕ
+leaf_round cause x [] askers table = []
+leaf_round cause x (section ∷ rest) askers table = often cause x section askers table ∷ leaf_round cause x rest askers table
 
-abbrev pub round : List Asks → List (List ℕ) → List (List ℕ)
-round [] table = []
-round (asks ∷ rest) table = leaf_round asks.sections asks.askers table ∷ round rest table
+abbrev pub round : Cause → List Asks → List (List ℕ) → List (List ℕ)
+round cause [] table = []
+round cause (asks ∷ rest) table = leaf_round cause asks.number asks.sections asks.askers table ∷ round cause rest table
 
 -- after so many rounds more
-abbrev pub rounds : ℕ → List Asks → List (List ℕ) → List (List ℕ)
-rounds zero asks table = table
-rounds (suc n) asks table = round asks (rounds n asks table)
+abbrev pub rounds : Cause → ℕ → List Asks → List (List ℕ) → List (List ℕ)
+rounds cause zero asks table = table
+rounds cause (suc n) asks table = round cause asks (rounds cause n asks table)
 
 -- what the sections of each of these leaves cost, where they run so often
 abbrev pub budgets_by : List Counted → List (List ℕ) → List ℕ

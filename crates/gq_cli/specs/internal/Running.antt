@@ -2,9 +2,9 @@
 use Rattle.std.specs.Prelude.{◌≡◌, ℕ, List, ◌++◌, ◌+◌, length, Option, Result, Ok, Err, Vec, string_bytes}
 use Rattle.std.specs.Io.KnownBytes.{Consumes}
 use Rattle.std.specs.declared.alloc.Global.{Global}
-use Rattle.gq_model.specs.declared.act.Act.{Act}
+use Rattle.gq_model.specs.declared.act.TurnLine.{TurnLine}
 use Rattle.gq_model.specs.machine.Scenario.{Scenario}
-use Rattle.gq_model.specs.texts.Turns.{turned}
+use Rattle.gq_model.specs.texts.Turns.{listed}
 use Rattle.gq_init.specs.TurnReading.{Reading, answer}
 use Rattle.gq_reports.specs.Command_outcomes.{IsCutShort, IsWhole}
 use Rattle.gq_reports.specs.Whole.{Written}
@@ -13,9 +13,9 @@ use Rattle.gq_cli.specs.Executed.{ReadsText}
 use Rattle.gq_cli.specs.declared.execute.CommandFault.{CommandFault}
 use Rattle.gq_cli.specs.declared.execute.CommandFault.TheVariants.{Refused, Memory, Read, Write}
 
--- the turns and settings of a scenario were read to the end of a reader, or are refused by this line
-abbrev pub ReadsTurns : Scenario → (old new : Option (List ℕ)) → Result (Vec (ℕ × Act) Global) CommandFault → Type 0
-ReadsTurns s old new (Ok items) = ReadsText old new (λ text. turned s text ≡ Ok items.items)
+-- the turns, settings and signals for a scenario were read to the end of a reader, or are refused by this line
+abbrev pub ReadsTurns : Scenario → (old new : Option (List ℕ)) → Result (Vec TurnLine Global) CommandFault → Type 0
+ReadsTurns s old new (Ok items) = ReadsText old new (λ text. listed s text ≡ Ok items.items)
 ReadsTurns s old new (Err (Refused line)) = ReadsText old new (λ text. turns_written s text ≡ Err (string_bytes line))
 ReadsTurns s old new (Err Memory) = Unit {0}
 ReadsTurns s old new (Err Read) = Unit {0}

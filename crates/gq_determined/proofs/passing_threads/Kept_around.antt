@@ -1,5 +1,5 @@
 -- A step of a leaf in two worlds, continued: requests that are accepted, replies, the end of `main`, and the step as a whole.
-use Rattle.std.proofs.Common.{◌≡◌, ℕ, suc, ◌==◌, ◌||◌, ◌&&◌, Bool, true, false, cond, List, [], ◌∷◌, map, Option, Some, None, Ok, refl, ap, sym, ◌∙◌}
+use Rattle.std.proofs.Common.{◌≡◌, ℕ, zero, suc, ◌==◌, ◌||◌, ◌&&◌, Bool, true, false, cond, List, [], ◌∷◌, map, Option, Some, None, Ok, refl, ap, sym, ◌∙◌}
 use Rattle.std.proofs.Common.{subst}
 use Rattle.std.proofs.lemmas.Option.{slice_get-map}
 use Rattle.std.specs.Prelude.{option_map, nat_lt, slice_get}
@@ -13,19 +13,20 @@ use Rattle.gq_model.specs.declared.fault.Wrong.TheVariants.{WrongKind, ExceededQ
 use Rattle.gq_model.specs.machine.Program.{Statements, Done, Do, If, Loop, section_in, body_of, ◌then◌}
 use Rattle.gq_model.specs.machine.Scenario.{System}
 use Rattle.gq_model.specs.machine.World.{Slot, Empty, Bytes, Pool, Waiting, Link, SlotId, Session, Ask, Ask_open, Ask_upgrade, Ask_close, Ask_call, Request}
-use Rattle.gq_model.specs.machine.World.{Current, Round, Leaf, World}
+use Rattle.gq_model.specs.machine.World.{Current, Signal, Round, Leaf, World}
 use Rattle.gq_model.specs.machine.World.{session_at, with_session, with_slot}
 use Rattle.gq_model.specs.machine.Sums.{paid}
 use Rattle.gq_model.specs.machine.Doing.{Doing, Quiet, Finished, Idle, Stepped, need, when, standing}
 use Rattle.gq_model.specs.machine.Memory.{buffer_of}
 use Rattle.gq_model.specs.machine.Step.{oldest, section_for, first_operands, accepted_as, beginning, accept, is_empty, all_empty, is_space_of, serving}
 use Rattle.gq_model.specs.machine.Step.{unblocked, replied, reply, no_link, exit_of, main_ended, section_ended, body_ended, chosen, perform}
-use Rattle.gq_model.specs.machine.Step.{accept_oldest, step_in, instruct}
+use Rattle.gq_model.specs.machine.Step.{accept_oldest, first_signal, reacting_to, serve, step_in, instruct}
 use Rattle.gq_laws.specs.Session_links.{AreLinked, links}
 use Rattle.gq_laws.specs.Inside_steps.{TakesLeaf}
 use Rattle.gq_laws.proofs.step_shapes.Step_end_worlds.{closed}
 use Rattle.gq_laws.specs.Renamed.{renamed_slot, renamed_slot_id, renamed_current, renamed_session, renamed_request}
 use Rattle.gq_laws.proofs.Paired_step_outcomes.{Both, one_fails, both_give, same_need, both_when, both_pop}
+use Rattle.gq_determined.specs.internal.Threads.{Accepts}
 use Rattle.gq_determined.proofs.passing_threads.Kept_by_steps.{Aside, other_leaf, other_doing, KeepsOwn, IsKept, IsAllowed, both_instruct, stands}
 
 -- a request is taken up, and its session is this from then on
@@ -88,7 +89,7 @@ module _ (f : ℕ → ℕ) (aside : Aside) (d : Doing) (v : World) (K End : Worl
 
   -- the requests that a leaf takes up in both worlds
   pub record AreTaken (p q : Request × List Request) : Type 0 where
-    pub serves : d.leaf.phase ≡ Serving
+    pub serves : Accepts d.leaf
     pub first : oldest d.world d.x d.world.requests ≡ Some p
     pub other : oldest v d.x v.requests ≡ Some q
     pub same : q.0 ≡ renamed_request f p.0
@@ -107,7 +108,7 @@ module _ (f : ℕ → ℕ) (aside : Aside) (d : Doing) (v : World) (K End : Worl
   pub record IsKeptAround : Type 0 where
     pub within : IsKept f aside d v K Mine Ours
     pub over : (w z : World) → K w z → End w z
-    pub matches : d.leaf.phase ≡ Serving → Match (oldest d.world d.x d.world.requests) (oldest v d.x v.requests)
+    pub matches : Accepts d.leaf → Match (oldest d.world d.x d.world.requests) (oldest v d.x v.requests)
     pub take : (p q : Request × List Request) (leaf : Leaf) (s : Session) (t : AreTaken p q) → leaf.slots ≡ d.leaf.slots → leaf.phase ≡ Handling
         → ((section : Section) × (leaf.current ≡ Some (record { session = p.0.session; section = section }))) → IsTaken t.session s
         → End (with_session (record (standing d leaf) { requests = p.1 }) p.0.session s)
@@ -222,26 +223,28 @@ module _ (f : ℕ → ℕ) (aside : Aside) (d : Doing) (v : World) (K End : Worl
 
     -- THE END OF A SECTION
 
-    both_main : (d.leaf.phase ≡ Serving → ⊥) → d.leaf.current ≡ None → (provides : Option (List ℕ)) → d.component.node.provides ≡ provides
-        → Both End (main_ended d provides) (main_ended e provides)
-    both_main busy at (Some service) is = both_give End _ _ Quiet (stand (serving d.leaf) refl (sym at))
-    both_main busy at None is = both_when End (no_link d.leaf.slots) (no_link e.leaf.slots) WrongKind WrongKind (Ok (exit_of d, Finished))
+    both_main : (d.leaf.phase ≡ Serving → ⊥) → d.leaf.current ≡ None → (provides : Option (List ℕ)) (signals : ℕ)
+        → Both End (main_ended d provides signals) (main_ended e provides signals)
+    both_main busy at (Some service) signals = both_give End _ _ Quiet (stand (serving d.leaf) refl (sym at))
+    both_main busy at None (suc n) = both_give End _ _ Quiet (stand (serving d.leaf) refl (sym at))
+    both_main busy at None zero = both_when End (no_link d.leaf.slots) (no_link e.leaf.slots) WrongKind WrongKind (Ok (exit_of d, Finished))
         (Ok (exit_of e, Finished))
         (λ i. links_same d.leaf.slots ∙ i) (both_give End (exit_of d) (exit_of e) Finished (h.exit at busy))
 
-    both_section : (d.leaf.phase ≡ Serving → ⊥) → (current : Option Current) → d.leaf.current ≡ current
-        → Both End (section_ended d current) (section_ended e (option_map (renamed_current f) current))
-    both_section busy None at = both_main busy at d.component.node.provides refl
-    both_section busy (Some g) at =
+    both_section : (d.leaf.phase ≡ Serving → ⊥) → (current : Option Current) (reacting : Option ℕ) → d.leaf.current ≡ current
+        → Both End (section_ended d current reacting) (section_ended e (option_map (renamed_current f) current) reacting)
+    both_section busy None None at = both_main busy at d.component.node.provides d.component.node.signals
+    both_section busy None (Some i) at = both_give End _ _ Quiet (stand (serving d.leaf) refl (sym at))
+    both_section busy (Some g) reacting at =
         let o = h.within.current g at in
         let s = o.3.0 in
-        subst (λ p. Both End (need p WrongKind (reply d g.session g.section)) (section_ended e (Some (renamed_current f g)))) (sym o.3.1)
+        subst (λ p. Both End (need p WrongKind (reply d g.session g.section)) (section_ended e (Some (renamed_current f g)) reacting)) (sym o.3.1)
         (subst (λ p. Both End (reply d g.session g.section s) (need p WrongKind (reply e (f g.session) g.section)))
         (sym (h.within.session d.world v g.session s h.within.first o.0 o.3.1))
         (both_reply g at s o.3.1 g.section))
 
     both_body : (d.leaf.phase ≡ Serving → ⊥) → (loops : List Round) → Both End (body_ended d loops) (body_ended e loops)
-    both_body busy [] = both_section busy d.leaf.current refl
+    both_body busy [] = both_section busy d.leaf.current d.leaf.reacting refl
     both_body busy (r ∷ loops) = by (nat_lt (suc r.round) r.count)
       where
         by : (b : Bool)
@@ -290,7 +293,7 @@ module _ (f : ℕ → ℕ) (aside : Aside) (d : Doing) (v : World) (K End : Worl
 
       both_begun : (i : Instruction) → IsAllowed f aside d v K Mine Ours i → Both End (instruct begun i) (instruct (other_doing f aside begun v) i)
       both_begun i may = both_over K End h.over _ _ (both_instruct f aside begun v K Mine Ours
-          (record { old = t.old; there = t.there; slots = t.slots; phase = t.phase; current = t.current }) linked kept_so i may)
+          (record { old = t.old; there = t.there; slots = t.slots; phase = t.phase; current = t.current; reacting = t.reacting }) linked kept_so i may)
 
     both_perform : (d.leaf.phase ≡ Serving → ⊥) → (todo : Statements) → FirstAllowed todo → Both End (perform d todo) (perform e todo)
     both_perform busy Done may = both_body busy d.leaf.loops
@@ -303,12 +306,21 @@ module _ (f : ℕ → ℕ) (aside : Aside) (d : Doing) (v : World) (K End : Worl
         let entered : Round = record { round = 0; count = count; body = body; rest = rest } in
         both_give End _ _ Quiet (stand (record d.leaf { todo = body; loops = entered ∷ d.leaf.loops }) refl refl)
 
+    -- a signal is taken, or a request
+    both_serve : d.leaf.phase ≡ Serving → (signal : Option (ℕ × List Signal)) → first_signal d.leaf.signals ≡ signal
+        → Both End (serve d signal) (serve e signal)
+    both_serve at None none = oldest_by (oldest d.world d.x d.world.requests) (oldest v d.x v.requests) (h.matches (at, none))
+    both_serve at (Some p) some =
+        same_need End (section_in (Reacting p.0) d.component.node.program.sections) MissingSection
+        (λ body. Ok (standing d (reacting_to d.leaf p.0 p.1 body), Quiet)) (λ body. Ok (standing e (reacting_to e.leaf p.0 p.1 body), Quiet))
+        (λ body. both_give End _ _ Quiet (stand (reacting_to d.leaf p.0 p.1 body) refl refl))
+
     -- the step shows the same in both worlds, and keeps the relation
     pub both_step : (phase : Phase) → d.leaf.phase ≡ phase → ((d.leaf.phase ≡ Serving → ⊥) → FirstAllowed d.leaf.todo)
         → Both End (step_in d phase) (step_in e phase)
     both_step Pending at may = both_give End d.world v Idle (h.over _ _ h.within.first)
     both_step Running at may = both_perform (λ e. running_serving (sym at ∙ e)) d.leaf.todo (may (λ e. running_serving (sym at ∙ e)))
     both_step Blocked at may = both_give End d.world v Idle (h.over _ _ h.within.first)
-    both_step Serving at may = oldest_by (oldest d.world d.x d.world.requests) (oldest v d.x v.requests) (h.matches at)
+    both_step Serving at may = both_serve at (first_signal d.leaf.signals) refl
     both_step Handling at may = both_perform (λ e. handling_serving (sym at ∙ e)) d.leaf.todo (may (λ e. handling_serving (sym at ∙ e)))
     both_step Exited at may = both_give End d.world v Idle (h.over _ _ h.within.first)

@@ -123,19 +123,22 @@ module _ (f : ℕ → ℕ) where
 
   -- a leaf that was blocked goes on, seen with other operands
   abbrev going : (List ℕ → List ℕ) → Leaf → Leaf
-  going go l = record l { phase = resumed l.current; operands = go l.operands }
+  going go l = record l { phase = resumed l.current l.reacting; operands = go l.operands }
 
-  resumed_same : (current : Option Current) → resumed (option_map (renamed_current f) current) ≡ resumed current
-  resumed_same None = refl
-  resumed_same (Some current) = refl
+  resumed_same : (current : Option Current) (reacting : Option ℕ) → resumed (option_map (renamed_current f) current) reacting ≡ resumed current reacting
+  resumed_same None None = refl
+  resumed_same None (Some i) = refl
+  resumed_same (Some current) reacting = refl
 
   going_seen : (go : List ℕ → List ℕ) (l : Leaf) → seen (going go l) ≡ going go (record l { slots = []; peaks = []; steps = 0; inputs = [] })
-  going_seen go l = by l.current
+  going_seen go l = by l.current l.reacting
     where
-      by : (current : Option Current) → seen_by (resumed current) (record l { phase = resumed current; operands = go l.operands })
-          ≡ record l { phase = resumed current; operands = go l.operands; slots = []; peaks = []; steps = 0; inputs = [] }
-      by None = refl
-      by (Some current) = refl
+      by : (current : Option Current) (reacting : Option ℕ)
+          → seen_by (resumed current reacting) (record l { phase = resumed current reacting; operands = go l.operands })
+          ≡ record l { phase = resumed current reacting; operands = go l.operands; slots = []; peaks = []; steps = 0; inputs = [] }
+      by None None = refl
+      by None (Some i) = refl
+      by (Some current) reacting = refl
 
   goes_on : (go : List ℕ → List ℕ) (a b : Leaf) → a.phase ≡ Blocked → seen b ≡ renamed_leaf f (seen a)
       → seen (going go b) ≡ renamed_leaf f (seen (going go a))
@@ -147,7 +150,7 @@ module _ (f : ℕ → ℕ) where
       (record a { phase = Blocked; slots = []; peaks = []; steps = 0; inputs = [] })
       = sym (blocked_seen b blocked_b) ∙ shown in
       going_seen go b ∙ (ap (going go) both
-      ∙ ((λ i. record (renamed_leaf f (record a { phase = resumed_same a.current i; slots = []; peaks = []; steps = 0; inputs = [] })) {
+      ∙ ((λ i. record (renamed_leaf f (record a { phase = resumed_same a.current a.reacting i; slots = []; peaks = []; steps = 0; inputs = [] })) {
         operands = go a.operands;
       })
       ∙ ap (renamed_leaf f) (sym (going_seen go a))))

@@ -19,7 +19,7 @@ use Rattle.gq_model.proofs.Small_facts.{none_some, some_same}
 use Rattle.gq_laws.specs.Inside_steps.{TakesLeaf}
 use Rattle.gq_laws.proofs.session_links.Written_world_links.{set_else}
 use Rattle.gq_laws.proofs.Renamed_world_equality.{place_here, added_here, added_else}
-use Rattle.gq_determined.specs.internal.Threads.{is_active, among, slots_of, seen}
+use Rattle.gq_determined.specs.internal.Threads.{Accepts, is_active, among, slots_of, seen}
 use Rattle.gq_determined.proofs.passing_threads.Kept_by_steps.{IsNamed}
 use Rattle.gq_determined.proofs.regions.Region_changes.{put_at}
 use Rattle.gq_determined.proofs.regions.At_same.{released_seen}
@@ -71,7 +71,7 @@ module _ (d : Doing) (i : ℕ) (own root : ℕ → ℕ) (c : ℕ → Bool) (Ours
 
   -- no request is gone but one that the leaf has taken, the oldest for it
   pub record IsTakenOff (base : List Request) : Type 0 where
-    pub serves : d.leaf.phase ≡ Serving
+    pub serves : Accepts d.leaf
     pub taken : Request × List Request
     pub found : oldest d.world d.x d.world.requests ≡ Some taken
     pub rest : base ≡ taken.1
@@ -92,8 +92,8 @@ module _ (d : Doing) (i : ℕ) (own root : ℕ → ℕ) (c : ℕ → Bool) (Ours
     pub slot_ids : (k : ℕ) (s : Session) → session_at w k ≡ Some s → IsOld k s ⊎ IsNew k s
     pub waits : (q : SlotId) (k : ℕ) → slot_at w q ≡ Some (Waiting k) → Waits q k
     pub blocked : (leaf : Leaf) → slice_get w.leaves d.x ≡ Some leaf → leaf.phase ≡ Blocked → leaf.current ≡ d.leaf.current
-    -- and the same is current at it, if it did not serve and goes on
-    pub mine : (d.leaf.phase ≡ Serving → ⊥) → (leaf : Leaf) → slice_get w.leaves d.x ≡ Some leaf → is_active leaf.phase ≡ true
+    -- and the same is current at it, if it accepted no request and goes on
+    pub mine : (Accepts d.leaf → ⊥) → (leaf : Leaf) → slice_get w.leaves d.x ≡ Some leaf → is_active leaf.phase ≡ true
         → leaf.current ≡ d.leaf.current
     pub asks : Asks w.requests
 
@@ -124,7 +124,7 @@ module _ (d : Doing) (i : ℕ) (own root : ℕ → ℕ) (c : ℕ → Bool) (Ours
     pub slots : own y ≢ i → (o : Leaf) → slice_get w.leaves y ≡ Some o → leaf.slots ≡ o.slots
     pub waits : (a k : ℕ) → slice_get leaf.slots a ≡ Some (Waiting k) → Waits (In_leaf y a) k
     pub blocked : y ≡ d.x → leaf.phase ≡ Blocked → leaf.current ≡ d.leaf.current
-    pub mine : y ≡ d.x → (d.leaf.phase ≡ Serving → ⊥) → is_active leaf.phase ≡ true → leaf.current ≡ d.leaf.current
+    pub mine : y ≡ d.x → (Accepts d.leaf → ⊥) → is_active leaf.phase ≡ true → leaf.current ≡ d.leaf.current
 
   put_same : {A : Type 0} (g : Leaf → A) (w : World) (y z : ℕ) (leaf : Leaf) → (z ≡ y → (o : Leaf) → slice_get w.leaves y ≡ Some o → g leaf ≡ g o)
       → option_map g (slice_get (with_leaf w y leaf).leaves z) ≡ option_map g (slice_get w.leaves z)
@@ -179,7 +179,7 @@ module _ (d : Doing) (i : ℕ) (own root : ℕ → ℕ) (c : ℕ → Bool) (Ours
         | inr t ↦ h.blocked l (sym (set_else w.leaves y d.x leaf t.1) ∙ e) b
       ]
 
-      mine : (d.leaf.phase ≡ Serving → ⊥) → (l : Leaf) → slice_get (slice_set w.leaves y leaf) d.x ≡ Some l → is_active l.phase ≡ true
+      mine : (Accepts d.leaf → ⊥) → (l : Leaf) → slice_get (slice_set w.leaves y leaf) d.x ≡ Some l → is_active l.phase ≡ true
           → l.current ≡ d.leaf.current
       mine busy l e act = elim (eqb_tells d.x y) [
         | inl t ↦

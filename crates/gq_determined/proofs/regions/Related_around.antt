@@ -19,7 +19,7 @@ use Rattle.gq_laws.proofs.session_links.Written_world_links.{set_else, slot_stan
 use Rattle.gq_laws.proofs.step_shapes.Step_end_worlds.{closed}
 use Rattle.gq_laws.proofs.Outside_step_untouched.{outlined}
 use Rattle.gq_laws.specs.Renamed.{renamed_slot, renamed_slot_id, renamed_leaf, renamed_session, renamed_request}
-use Rattle.gq_determined.specs.internal.Threads.{is_active, among, slots_of, seen, IsAtSame}
+use Rattle.gq_determined.specs.internal.Threads.{Accepts, is_active, among, slots_of, seen, IsAtSame}
 use Rattle.gq_determined.proofs.passing_threads.Kept_by_steps.{Aside, other_leaf, other_doing}
 use Rattle.gq_determined.proofs.passing_threads.Kept_around.{IsTaken, AreTaken, Match, IsKeptAround}
 use Rattle.gq_determined.proofs.regions.Region_changes.{region_leaf, region_released, region_session, region_requests, region_there}
@@ -125,9 +125,10 @@ module _ (f : ℕ → ℕ) (aside : Aside) (d : Doing) (v : World) (i : ℕ) (ow
 
   -- A CLIENT THAT GOES ON
 
-  resumed_active : (current : Option Current) → resumed current ≡ Blocked → ⊥
-  resumed_active None e = cc
-  resumed_active (Some current) e = cc
+  resumed_active : (current : Option Current) (reacting : Option ℕ) → resumed current reacting ≡ Blocked → ⊥
+  resumed_active None None e = cc
+  resumed_active None (Some i) e = cc
+  resumed_active (Some current) reacting e = cc
 
   wakes : (w z : World) (y : ℕ) (go : List ℕ → List ℕ) (leaf : Leaf) → slice_get w.leaves y ≡ Some leaf → leaf.phase ≡ Blocked → c y ≡ true → R w z
       → R (unblocked w y go) (unblocked z y go)
@@ -140,21 +141,22 @@ module _ (f : ℕ → ℕ) (aside : Aside) (d : Doing) (v : World) (i : ℕ) (ow
       by None b e g = absurd (none_some (sym e ∙ there))
       by (Some a) None e g = absurd (none_some (sym (both_none seen (λ l. renamed_leaf f (seen l)) _ _ (k.at y ours) g) ∙ e))
       by (Some a) (Some b) e g = record {
-        regions = λ x r. region_leaf f own root other x w z y (record a { phase = resumed a.current; operands = go a.operands })
-            (record b { phase = resumed b.current; operands = go b.operands }) (λ same. some_same (
+        regions = λ x r. region_leaf f own root other x w z y (record a { phase = resumed a.current a.reacting; operands = go a.operands })
+            (record b { phase = resumed b.current b.reacting; operands = go b.operands }) (λ same. some_same (
             ap (option_map slots_of) (sym g)
             ∙ ((k.regions x r).slots y same ∙ ap (option_map (λ l. map (renamed_slot f) (slots_of l))) e))) (k.regions x r);
         at = λ x is. subst (λ o. IsAtSame f x (active_again w y go o) (active_again z y go (Some b))) e
             (subst (λ o. IsAtSame f x (unblocked w y go) (active_again z y go o)) g (at_all x is));
-        rest = else_leaf d i own root c (Ours f aside d v i own root other c) w y (record a { phase = resumed a.current; operands = go a.operands }) (record {
-          ours = ours;
-          current = λ ne o at. ap current_of (some_same (sym e ∙ at));
-          slots = λ ne o at. ap slots_of (some_same (sym e ∙ at));
-          waits = λ p j at. k.rest.waits (In_leaf y p) j (ap (λ o. leaf_slot o p) e ∙ at);
-          blocked = λ same b. absurd (resumed_active a.current b);
-          mine = λ same busy act. k.rest.mine busy a (ap (slice_get w.leaves) (sym same) ∙ e)
-              (ap is_active (ap (λ (l : Leaf). l.phase) (some_same (sym e ∙ there)) ∙ blocked));
-        }) k.rest;
+        rest = else_leaf d i own root c (Ours f aside d v i own root other c) w y
+            (record a { phase = resumed a.current a.reacting; operands = go a.operands }) (record {
+              ours = ours;
+              current = λ ne o at. ap current_of (some_same (sym e ∙ at));
+              slots = λ ne o at. ap slots_of (some_same (sym e ∙ at));
+              waits = λ p j at. k.rest.waits (In_leaf y p) j (ap (λ o. leaf_slot o p) e ∙ at);
+              blocked = λ same b. absurd (resumed_active a.current a.reacting b);
+              mine = λ same busy act. k.rest.mine busy a (ap (slice_get w.leaves) (sym same) ∙ e)
+                  (ap is_active (ap (λ (l : Leaf). l.phase) (some_same (sym e ∙ there)) ∙ blocked));
+            }) k.rest;
       }
 
   -- THE CLIENT OF THE SESSION AT HAND
@@ -360,7 +362,7 @@ module _ (f : ℕ → ℕ) (aside : Aside) (d : Doing) (v : World) (i : ℕ) (ow
         rest = else_leaf d i own root c O d.world d.x (exited d.leaf) (record {
           ours = h.here;
           current = λ ne o there. absurd (ne refl);
-          slots = λ ne o there. absurd (ne (h.main at busy));
+          slots = λ ne o there. absurd (ne (h.main at (λ a. busy a.0)));
           waits = λ a k there. absurd (empty_waits 64 a k there);
           blocked = λ same b. absurd (exited_active b);
           mine = λ same busy act. absurd (true≢false (sym act));
@@ -369,8 +371,8 @@ module _ (f : ℕ → ℕ) (aside : Aside) (d : Doing) (v : World) (i : ℕ) (ow
 
   -- TOGETHER
 
-  pub kept_around : (d.leaf.phase ≡ Serving → Match f aside d v K R M O (oldest d.world d.x d.world.requests) (oldest v d.x v.requests))
-      → (d.leaf.phase ≡ Serving → (p : Request × List Request) → oldest d.world d.x d.world.requests ≡ Some p → IsOne p) → IsKeptAround f aside d v K R M O
+  pub kept_around : (Accepts d.leaf → Match f aside d v K R M O (oldest d.world d.x d.world.requests) (oldest v d.x v.requests))
+      → (Accepts d.leaf → (p : Request × List Request) → oldest d.world d.x d.world.requests ≡ Some p → IsOne p) → IsKeptAround f aside d v K R M O
   kept_around matches ones = record {
     within = kept f aside d v i own root other c h;
     over = λ w z k. k.related;

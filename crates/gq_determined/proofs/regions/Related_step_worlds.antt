@@ -23,7 +23,7 @@ use Rattle.gq_laws.proofs.Outside_step_untouched.{free_none, outlined}
 use Rattle.gq_laws.specs.Renamed.{renamed_slot, renamed_slot_id, renamed_leaf, renamed_session, renamed_request}
 use Rattle.gq_laws.proofs.Paired_step_outcomes.{Both, one_fails, both_give, both_when}
 use Rattle.gq_laws.proofs.Renamed_world_equality.{place_here, added_else}
-use Rattle.gq_determined.specs.internal.Threads.{is_active, among, slots_of, seen, seen_by, IsAtSame, IsSameRegion}
+use Rattle.gq_determined.specs.internal.Threads.{Accepts, is_active, among, slots_of, seen, seen_by, IsAtSame, IsSameRegion}
 use Rattle.gq_determined.proofs.passing_threads.Kept_by_steps.{Aside, other_leaf, other_doing, KeepsOwn, IsNamed, Near, IsKept}
 use Rattle.gq_determined.proofs.regions.Region_changes.{region_leaf, region_session, region_added, region_request, region_there, region_own_slot, region_slot}
 use Rattle.gq_determined.proofs.regions.Region_changes.{region_object}
@@ -141,7 +141,7 @@ module _ (f : ℕ → ℕ) (aside : Aside) (d : Doing) (v : World) (i : ℕ) (ow
     pub current : (g : Current) → d.leaf.current ≡ Some g → root g.session ≡ i
     pub client : (g : Current) (s : Session) → d.leaf.current ≡ Some g → session_at d.world g.session ≡ Some s → c s.client ≡ true
     -- in `main` a leaf works for itself
-    pub main : d.leaf.current ≡ None → (d.leaf.phase ≡ Serving → ⊥) → own d.x ≡ i
+    pub main : d.leaf.current ≡ None → (Accepts d.leaf → ⊥) → own d.x ≡ i
     pub below : (k : ℕ) (s : Session) → session_at d.world k ≡ Some s → IsBelow own root k s.slot_id
     pub fresh : f (free_place d.world.sessions) ≡ free_place v.sessions
     pub fresh_root : root (free_place d.world.sessions) ≡ i
@@ -163,7 +163,7 @@ module _ (f : ℕ → ℕ) (aside : Aside) (d : Doing) (v : World) (i : ℕ) (ow
 
     pub puts_leaf : (w z : World) (leaf new : Leaf) → leaf.slots ≡ d.leaf.slots → new.slots ≡ map (renamed_slot f) leaf.slots
         → seen new ≡ renamed_leaf f (seen leaf) → (leaf.phase ≡ Blocked → leaf.current ≡ d.leaf.current)
-        → ((d.leaf.phase ≡ Serving → ⊥) → is_active leaf.phase ≡ true → leaf.current ≡ d.leaf.current) → IsRelated w z
+        → ((Accepts d.leaf → ⊥) → is_active leaf.phase ≡ true → leaf.current ≡ d.leaf.current) → IsRelated w z
         → IsRelated (with_leaf w d.x leaf) (with_leaf z d.x new)
     puts_leaf w z leaf new slots same at current mine k = record {
       regions = λ y r. region_leaf f own root other y w z d.x leaf new (λ e. same) (k.regions y r);

@@ -129,7 +129,7 @@ module _ (system : System) (g : Tracked) (t : IsPlaced system g) where
           by Running = λ q. record leaf { phase = Running; current = e q; slots = []; peaks = []; steps = 0; inputs = [] }
           by Blocked = λ q. record leaf { phase = Blocked; current = e q; slots = []; peaks = []; steps = 0; inputs = [] }
           by Handling = λ q. record leaf { phase = Handling; current = e q; slots = []; peaks = []; steps = 0; inputs = [] }
-          by Serving = refl
+          by Serving = λ q. record (seen_by Serving leaf) { current = e q }
           by Exited = refl
 
       by : (o : Option Leaf) → slice_get w.leaves y ≡ o

@@ -23,6 +23,7 @@ bare leaf =
     record {
       phase = leaf.phase;
       current = None;
+      reacting = None;
       todo = Done;
       loops = [];
       operands = [];
@@ -31,6 +32,7 @@ bare leaf =
       peaks = leaf.peaks;
       steps = leaf.steps;
       inputs = [];
+      signals = [];
     }
 
 abbrev bare_world : World → World
@@ -124,6 +126,7 @@ module _ (system : System) (g h : Tracked) (t : IsPlaced system g) (th : IsPlace
             λ i. Some (record {
               phase = phase i;
               current = None;
+              reacting = None;
               todo = Done;
               loops = [];
               operands = [];
@@ -132,6 +135,7 @@ module _ (system : System) (g h : Tracked) (t : IsPlaced system g) (th : IsPlace
               peaks = peaks i;
               steps = steps i;
               inputs = [];
+              signals = [];
             })
 
     bare_same : IsSame all merged (bare_world g.world) (bare_world h.world)

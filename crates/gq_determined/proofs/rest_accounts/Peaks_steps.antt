@@ -1,21 +1,24 @@
 -- A step keeps the peaks of a leaf that provides a service, or raises them to what is in use.
-use Rattle.std.proofs.Common.{◌≡◌, ◌≢◌, ◌⊎◌, inl, inr, ℕ, suc, Bool, true, false, cond, nat_lt, List, [], ◌∷◌, Option, Some, None, refl, ap, sym, ◌∙◌, subst}
-use Rattle.std.specs.Prelude.{is_some, slice_get}
+use Rattle.std.proofs.Common.{◌≡◌, ◌≢◌, ◌⊎◌, inl, inr, ℕ, zero, suc, Bool, true, false, cond, nat_lt, List, [], ◌∷◌, Option, Some, None, refl, ap, sym, ◌∙◌}
+use Rattle.std.proofs.Common.{subst}
+use Rattle.std.specs.Prelude.{slice_get}
 use Rattle.std.proofs.lemmas.Bool.{true≢false}
 use Rattle.std.proofs.lemmas.Bool.Decides.{eqb_tells}
 use Rattle.gq_model.specs.declared.program.Instruction.{Instruction}
 use Rattle.gq_model.specs.declared.phase.Phase.{Phase}
 use Rattle.gq_model.specs.declared.phase.Phase.TheVariants.{Pending, Running, Blocked, Serving, Handling, Exited}
-use Rattle.gq_model.specs.machine.Program.{Statements, Done, Do, If, Loop}
+use Rattle.gq_model.specs.machine.Program.{Statements, Done, Do, If, Loop, section_in}
 use Rattle.gq_model.specs.machine.Scenario.{System, Component}
-use Rattle.gq_model.specs.machine.World.{Slot, SlotId, Request, Current, Round, Leaf, World, with_leaf, with_slot}
+use Rattle.gq_model.specs.machine.World.{Slot, SlotId, Request, Current, Signal, Round, Leaf, World, with_leaf, with_slot}
 use Rattle.gq_model.specs.machine.Doing.{Doing, Idle, Quiet, Finished, Stepped, settled, standing}
 use Rattle.gq_model.specs.machine.Step.{oldest, serving, resumed, active_again, unblocked, exited, no_link, instruct, main_ended, section_ended, body_ended}
-use Rattle.gq_model.specs.machine.Step.{perform, accept_oldest, step_in, step_of, next}
+use Rattle.gq_model.specs.machine.Step.{perform, accept_oldest, first_signal, reacting_to, serve, step_in, step_of, next}
 use Rattle.gq_model.specs.machine.Sums.{with_peaks}
-use Rattle.gq_model.specs.declared.fault.Wrong.TheVariants.{WrongKind}
+use Rattle.gq_model.specs.declared.fault.Wrong.TheVariants.{WrongKind, MissingSection}
 use Rattle.gq_model.proofs.Small_facts.{some_same}
+use Rattle.gq_model.specs.declared.section.Section.TheVariants.{Reacting}
 use Rattle.gq_laws.specs.Inside_steps.{TakesLeaf}
+use Rattle.gq_laws.specs.Leaf_phases.{serves}
 use Rattle.gq_laws.specs.internal.Remaining_instructions.{AllAre, IsGood}
 use Rattle.gq_laws.proofs.step_shapes.Step_end_shapes.{Ends, gives, need_ends, when_ends, pop_ends}
 use Rattle.gq_laws.proofs.step_shapes.Step_change_shapes.{slot_by, plain_instruct_by, section_by, accept_by}
@@ -47,14 +50,16 @@ module _ (y : ℕ) (p : List ℕ) where
       by : (o : Option Leaf) → slice_get w.leaves x ≡ o → Has (active_again w x f o)
       by None e = h
       by (Some leaf) e =
-          leaf_has w x (record leaf { phase = resumed leaf.current; operands = f leaf.operands }) (λ same. h.keeps leaf (ap (slice_get w.leaves) same ∙ e)) h
+          leaf_has w x (record leaf { phase = resumed leaf.current leaf.reacting; operands = f leaf.operands })
+          (λ same. h.keeps leaf (ap (slice_get w.leaves) same ∙ e)) h
 
   settled_has : (system : System) (x : ℕ) → y ≢ x → (w : World) → Has w → Ends Has (settled system x w)
   settled_has system x ne w h =
       need_ends Has (slice_get w.leaves x) _ _ (λ leaf. when_ends Has _ _ _ (gives _ _ (leaf_has w x (with_peaks w x leaf) (λ e. absurd (ne e)) h)))
 
   -- a step of this leaf, or of another
-  module _ (d : Doing) (h : Has d.world) (own : y ≡ d.x → d.leaf.peaks ≡ p) (provides : y ≡ d.x → is_some d.component.node.provides ≡ true) where
+  module _ (d : Doing) (h : Has d.world) (own : y ≡ d.x → d.leaf.peaks ≡ p)
+      (lasts : y ≡ d.x → serves d.component.node.provides d.component.node.signals ≡ true) where
     stands_has : (leaf : Leaf) → leaf.peaks ≡ d.leaf.peaks → Has (standing d leaf)
     stands_has leaf same = leaf_has d.world d.x leaf (λ e. same ∙ own e) h
 
@@ -64,22 +69,23 @@ module _ (y : ℕ) (p : List ℕ) where
         (λ w operands hw. leaf_has w d.x _ (λ q. absurd (ne q)) hw) (λ w requests hw. record { keeps = hw.keeps }) (settled_has d.system d.x ne)
         (λ w sessions hw. record { keeps = hw.keeps })
 
-    main_has : (o : Option (List ℕ)) → d.component.node.provides ≡ o → Ends Has (main_ended d o)
-    main_has (Some service) e = gives _ Quiet (stands_has (serving d.leaf) refl)
-    main_has None e = when_ends Has (no_link d.leaf.slots) WrongKind _ (gives _ Finished (record {
+    main_has : (o : Option (List ℕ)) (n : ℕ) → (y ≡ d.x → serves o n ≡ true) → Ends Has (main_ended d o n)
+    main_has (Some service) n e = gives _ Quiet (stands_has (serving d.leaf) refl)
+    main_has None (suc n) e = gives _ Quiet (stands_has (serving d.leaf) refl)
+    main_has None zero e = when_ends Has (no_link d.leaf.slots) WrongKind _ (gives _ Finished (record {
       keeps = λ leaf there.
           (let old = released_same d.component.node.name d.system.components (standing d (exited d.leaf)).leaves y leaf there in
-          let w = leaf_has d.world d.x (exited d.leaf) (λ q. absurd (true≢false (sym (provides q) ∙ ap is_some e))) h in
+          let w = leaf_has d.world d.x (exited d.leaf) (λ q. absurd (true≢false (sym (e q)))) h in
           old.3 ∙ w.keeps old.0 old.1);
     }))
 
-    section_has : (current : Option Current) → Ends Has (section_ended d current)
+    section_has : (current : Option Current) (reacting : Option ℕ) → Ends Has (section_ended d current reacting)
     section_has =
         section_by d Has slot_has (stands_has (serving d.leaf) refl) unblocked_has (λ w k hw. record { keeps = hw.keeps })
-        (main_has d.component.node.provides refl)
+        (main_has d.component.node.provides d.component.node.signals lasts)
 
     body_has : (loops : List Round) → Ends Has (body_ended d loops)
-    body_has [] = section_has d.leaf.current
+    body_has [] = section_has d.leaf.current d.leaf.reacting
     body_has (r ∷ loops) = gives _ Quiet (by (nat_lt (suc r.round) r.count))
       where
         by : (b : Bool) → Has (standing d (cond b (record d.leaf { todo = r.body; loops = record r { round = suc r.round } ∷ loops })
@@ -91,6 +97,11 @@ module _ (y : ℕ) (p : List ℕ) where
     accepted_has None = gives d.world Idle h
     accepted_has (Some q) =
         accept_by Has d q.0 q.1 (λ old there. (let w = stands_has (begun d q.0 old) refl in record { keeps = w.keeps }))
+
+    served_has : (signal : Option (ℕ × List Signal)) → Ends Has (serve d signal)
+    served_has None = accepted_has (oldest d.world d.x d.world.requests)
+    served_has (Some q) = need_ends Has (section_in (Reacting q.0) d.component.node.program.sections) MissingSection _
+        (λ body. gives _ Quiet (stands_has (reacting_to d.leaf q.0 q.1 body) refl))
 
   else_has : (d : Doing) → Has d.world → y ≢ d.x → (todo : Statements) → Ends Has (perform d todo)
   else_has d h ne Done = body_has d h (λ e. absurd (ne e)) (λ e. absurd (ne e)) d.leaf.loops
@@ -107,25 +118,33 @@ module _ (y : ℕ) (p : List ℕ) where
   all_kept r h = record { holds = λ w e is. kept w (h.holds w e is) }
 
 -- a statement, or the end of a section, of the leaf itself
-own_raises : (d : Doing) (takes : TakesLeaf d) → d.leaf.peaks ≡ takes.old.peaks → HasPeaks d.x d.leaf.peaks d.world → is_some d.component.node.provides ≡ true
+own_raises : (d : Doing) (takes : TakesLeaf d) → d.leaf.peaks ≡ takes.old.peaks → HasPeaks d.x d.leaf.peaks d.world
+    → serves d.component.node.provides d.component.node.signals ≡ true
     → AllAre (IsGood d.system d.component) d.leaf.todo → Ends (RaisesPeaks d.x d.leaf.peaks) (perform d d.leaf.todo)
-own_raises d takes same h provides good = by (comes d d.leaf.todo d.leaf.loops good)
+own_raises d takes same h lasts good = by (comes d d.leaf.todo d.leaf.loops good)
   where
     by : Comes d d.leaf.todo d.leaf.loops → Ends (RaisesPeaks d.x d.leaf.peaks) (perform d d.leaf.todo)
     by (Inside inside) = record { holds = λ w e is. record { raises = peaks_inside d takes same w e inside is } }
     by (At_end done out) =
-        let ends = all_kept d.x d.leaf.peaks _ (section_has d.x d.leaf.peaks d h (λ e. refl) (λ e. provides) d.leaf.current) in
+        let ends = all_kept d.x d.leaf.peaks _ (section_has d.x d.leaf.peaks d h (λ e. refl) (λ e. lasts) d.leaf.current d.leaf.reacting) in
         subst (λ t. Ends (RaisesPeaks d.x d.leaf.peaks) (perform d t)) (sym done)
         (subst (λ l. Ends (RaisesPeaks d.x d.leaf.peaks) (body_ended d l)) (sym out) ends)
     by (Asks i rest first served) =
         let e : Doing = record d { leaf = record d.leaf { todo = rest } } in
-        let t : TakesLeaf e = record { old = takes.old; there = takes.there; slots = takes.slots; phase = takes.phase; current = takes.current } in
+        let t : TakesLeaf e = record {
+          old = takes.old;
+          there = takes.there;
+          slots = takes.slots;
+          phase = takes.phase;
+          current = takes.current;
+          reacting = takes.reacting;
+        } in
         subst (λ t. Ends (RaisesPeaks d.x d.leaf.peaks) (perform d t)) (sym first)
         (record { holds = λ w event is. record { raises = λ leaf there. inl (peaks_asked e t same i served w event is leaf there) } })
 
 -- a step of any leaf
 module _ (system : System) (w : World) (x y : ℕ) (old : Leaf) (at : slice_get w.leaves y ≡ Some old)
-    (provides : (c : Component) → slice_get system.components y ≡ Some c → is_some c.node.provides ≡ true)
+    (lasts : (c : Component) → slice_get system.components y ≡ Some c → serves c.node.provides c.node.signals ≡ true)
     (good : (c : Component) (leaf : Leaf) → slice_get system.components x ≡ Some c → slice_get w.leaves x ≡ Some leaf → AllAre (IsGood system c) leaf.todo)
   where
     abbrev Raises : World → Type 0
@@ -141,23 +160,23 @@ module _ (system : System) (w : World) (x y : ℕ) (old : Leaf) (at : slice_get 
       own : y ≡ x → leaf.peaks ≡ old.peaks
       own e = ap (λ (l : Leaf). l.peaks) (some_same (sym there ∙ (ap (slice_get w.leaves) (sym e) ∙ at)))
 
-      own_provides : y ≡ x → is_some c.node.provides ≡ true
-      own_provides e = provides c (ap (slice_get system.components) e ∙ placed)
+      own_lasts : y ≡ x → serves c.node.provides c.node.signals ≡ true
+      own_lasts e = lasts c (ap (slice_get system.components) e ∙ placed)
 
       performed : Ends Raises (perform d leaf.todo)
       performed = elim (eqb_tells y x) [
         | inl q ↦
-            let takes : TakesLeaf d = record { old = leaf; there = there; slots = refl; phase = refl; current = refl } in
+            let takes : TakesLeaf d = record { old = leaf; there = there; slots = refl; phase = refl; current = refl; reacting = refl } in
             let h : HasPeaks x leaf.peaks w = subst (λ z. HasPeaks z leaf.peaks w) q.1 (subst (λ p. HasPeaks y p w) (sym (own q.1)) has) in
             subst (λ z. Ends (RaisesPeaks z old.peaks) (perform d leaf.todo)) (sym q.1)
-            (subst (λ p. Ends (RaisesPeaks x p) (perform d leaf.todo)) (own q.1) (own_raises d takes refl h (own_provides q.1) (good c leaf placed there)))
+            (subst (λ p. Ends (RaisesPeaks x p) (perform d leaf.todo)) (own q.1) (own_raises d takes refl h (own_lasts q.1) (good c leaf placed there)))
         | inr q ↦ all_kept y old.peaks _ (else_has y old.peaks d has q.1 leaf.todo)
       ]
 
       stepped : (phase : Phase) → Ends Raises (step_in d phase)
       stepped Running = performed
       stepped Handling = performed
-      stepped Serving = all_kept y old.peaks _ (accepted_has y old.peaks d has own own_provides (oldest w x w.requests))
+      stepped Serving = all_kept y old.peaks _ (served_has y old.peaks d has own own_lasts (first_signal leaf.signals))
       stepped Pending = all_kept y old.peaks _ (gives w Idle has)
       stepped Blocked = all_kept y old.peaks _ (gives w Idle has)
       stepped Exited = all_kept y old.peaks _ (gives w Idle has)

@@ -50,7 +50,7 @@ module _ (s : Scenario) (w : World) (h : Stands s w) (x : ℕ) (c : Component) (
   v = subject u c
 
   abbrev InSection : Type 0
-  InSection = IsInSection promised (IsBounded u) u w x c leaf leaf.phase (section_of leaf.current)
+  InSection = IsInSection promised (IsBounded u) u w x c leaf leaf.phase (section_of leaf.current leaf.reacting)
 
   -- a leaf at which a session is current is in a section
   in_section : (g : Current) → leaf.current ≡ Some g → InSection
@@ -58,7 +58,7 @@ module _ (s : Scenario) (w : World) (h : Stands s w) (x : ℕ) (c : Component) (
       (subst (Fits leaf.phase) e (h.linked.fits x (stance leaf.phase leaf.current) (ap stance_in there)))
     where
       by : (p : Phase) → StandsBy promised (IsBounded u) u w x c leaf p → Fits p (Some g)
-          → IsInSection promised (IsBounded u) u w x c leaf p (section_of leaf.current)
+          → IsInSection promised (IsBounded u) u w x c leaf p (section_of leaf.current leaf.reacting)
       by Pending t f = t
       by Running t f = t
       by Blocked t f = t
@@ -69,7 +69,7 @@ module _ (s : Scenario) (w : World) (h : Stands s w) (x : ℕ) (c : Component) (
   -- the current session has none
   current_light : (t : InSection) → sum_by (kind_places k) t.state.bank ≡ 0
   current_light t =
-      let section = section_of leaf.current in
+      let section = section_of leaf.current leaf.reacting in
       let same = goes_same u w x leaf.phase t.state t.next t.from in
       let here = point_here (λ (q : AbstractState). sum_by (kind_places k) q.bank) (context v section) t.next leaf.todo leaf.loops in
       let whole = (t.also c placed).0 (λ (q : AbstractState). sum_by (kind_places k) q.bank) in
@@ -97,7 +97,7 @@ module _ (s : Scenario) (w : World) (h : Stands s w) (x : ℕ) (c : Component) (
       at_current : (g : Current) → leaf.current ≡ Some g → g.session ≡ j → sum_by (slot_places k) q.slots ≡ 0
       at_current g e is =
           let t = in_section g e in
-          let m = subst (CurrentMeets promised (within (context v (section_of leaf.current)) leaf.loops) t.state.bank w) e t.meets.bank in
+          let m = subst (CurrentMeets promised (within (context v (section_of leaf.current leaf.reacting)) leaf.loops) t.state.bank w) e t.meets.bank in
           let fit = places_fit promised k m.0.slots t.state.bank m.2.slots in
           let light = current_light t in
           let one = ap (λ (q : Session). sum_by (slot_places k) q.slots) (some_same (sym found ∙ (ap (session_at w) (sym is) ∙ m.1))) in

@@ -1,5 +1,6 @@
 -- The steps that a leaf has taken are those among what all threads have shown.
-use Rattle.std.proofs.Common.{◌≡◌, ◌<◌, ◌≤◌, inl, inr, ℕ, zero, suc, ◌+◌, ◌==◌, Bool, true, false, cond, List, [], ◌∷◌, ◌++◌, length, map, Option, Some, None}
+use Rattle.std.proofs.Common.{◌≡◌, ◌<◌, ◌≤◌, ◌||◌, inl, inr, ℕ, zero, suc, ◌+◌, ◌==◌, Bool, true, false, cond, List, [], ◌∷◌, ◌++◌, length, map, Option, Some}
+use Rattle.std.proofs.Common.{None}
 use Rattle.std.proofs.Common.{refl, ap, sym, ◌∙◌, subst, arith}
 use Rattle.std.specs.Prelude.{is_some, option_map, slice_get, slice_index, slice_set}
 use Rattle.std.proofs.lemmas.Bool.{true≢false}
@@ -7,23 +8,25 @@ use Rattle.std.proofs.lemmas.Bool.Decides.{eqb_tells}
 use Rattle.std.proofs.lemmas.Option.{get_or_from_slice_get, slice_get-map}
 use Rattle.gq_model.specs.declared.phase.Phase.{Phase}
 use Rattle.gq_model.specs.declared.phase.Phase.TheVariants.{Pending, Running, Blocked, Serving, Handling, Exited}
-use Rattle.gq_model.specs.machine.Scenario.{Scenario, Component, System, system}
-use Rattle.gq_model.specs.machine.World.{Current, Request, Leaf, start_leaves}
+use Rattle.gq_model.specs.machine.Scenario.{Scenario, System, system}
+use Rattle.gq_model.specs.machine.World.{Request, Signal, Leaf, World}
 use Rattle.gq_model.specs.machine.Doing.{Event}
-use Rattle.gq_model.specs.machine.Step.{oldest}
+use Rattle.gq_model.specs.machine.Step.{oldest, first_signal}
 use Rattle.gq_model.proofs.Small_facts.{none_some, some_same}
 use Rattle.gq_laws.specs.Sound_scenarios.{IsSound}
-use Rattle.gq_laws.specs.Turn_effects.{can_run, runs, runs_as, steps_of}
+use Rattle.gq_model.specs.machine.Rest.{can_run, runs, runs_as}
+use Rattle.gq_laws.specs.Turn_effects.{steps_of}
 use Rattle.gq_laws.specs.internal.Uncounted.{uncounted}
 use Rattle.gq_laws.proofs.session_links.Written_world_links.{set_else}
 use Rattle.gq_laws.proofs.step_shapes.Step_counting.{counts_steps}
 use Rattle.gq_races.specs.Races.{IsRaceFree}
 use Rattle.gq_determined.specs.internal.Thread_machines.{is_for}
-use Rattle.gq_determined.specs.internal.Threads.{Tracked, who, who_of, who_by, asker, works, works_for, tracked_after, shown_by, shows, events_of}
+use Rattle.gq_determined.specs.internal.Threads.{Tracked, who, who_of, who_by, asker, served_for, thread_by, works, works_for, tracked_after, shown_by, shows}
+use Rattle.gq_determined.specs.internal.Threads.{events_of}
 use Rattle.gq_determined.specs.internal.Threads.{stepped_to, ready, turn_for}
 use Rattle.gq_determined.proofs.regions.Region_changes.{set_at}
 use Rattle.gq_determined.proofs.thread_runs.Thread_run_determinism.{are_threads}
-use Rattle.gq_determined.proofs.thread_runs.Sound_runs.{all_pay, all_stand, goes_by, good, placed, within}
+use Rattle.gq_determined.proofs.thread_runs.Sound_runs.{IsFirst, all_pay, all_stand, goes_by, good, placed, within}
 
 -- SUMS
 
@@ -118,26 +121,25 @@ steps_out leaves x n e = by (slice_get leaves x) refl
     by None at = absurd (none_some (sym (ap (option_map (λ (l : Leaf). l.steps)) at) ∙ (sym (slice_get-map (λ (l : Leaf). l.steps) leaves x) ∙ e)))
     by (Some leaf) at = (leaf, at, some_same (sym (steps_in leaves x leaf at) ∙ e))
 
-start_steps : (cs : List Component) (x : ℕ) (leaf : Leaf) → slice_get (start_leaves cs) x ≡ Some leaf → leaf.steps ≡ 0
-start_steps [] x leaf e = absurd (none_some e)
-start_steps (c ∷ cs) zero leaf e = ap (λ (l : Leaf). l.steps) (sym (some_same e))
-start_steps (c ∷ cs) (suc x) leaf e = start_steps cs x leaf e
-
 -- RUNS
 
-module _ (s : Scenario) (sound : IsSound s) (none : IsRaceFree s) where
+module _ (s : Scenario) (sound : IsSound s) (w : World) (root : ℕ → ℕ) (first : IsFirst s w root) (none : IsRaceFree s) where
   abbrev u : System
   u = uncounted (system s)
 
   abbrev at : List ℕ → Tracked
-  at = tracked_after u
+  at = tracked_after u w root
+
+  -- what it shows in these turns
+  abbrev shown_in : ℕ → List ℕ → List (ℕ × Event)
+  shown_in = shown_by u w root
 
   abbrev count : ℕ
   count = length u.components
 
   -- the steps of a leaf that all threads have shown
   abbrev pub total : ℕ → List ℕ → ℕ
-  total x a = sum_to (λ j. counted x (shown_by u j a)) count
+  total x a = sum_to (λ j. counted x (shown_in j a)) count
 
   -- a turn is for a thread whose leaf is there
   few : (a : List ℕ) (y i : ℕ) → who (at a) y ≡ Some i → i < count
@@ -146,13 +148,13 @@ module _ (s : Scenario) (sound : IsSound s) (none : IsRaceFree s) where
       there : (o : Option Leaf) → slice_get (at a).world.leaves i ≡ o → works_for (at a).root i i o ≡ true → i < count
       there None at_i e = absurd (true≢false (sym e))
       there (Some leaf) at_i e =
-          let same = (all_stand s sound a).whole.count in
+          let same = (all_stand s sound w root first a).whole.count in
           let less = within s sound (at a).world.leaves i leaf at_i in
           omega (arith, same, less)
 
       by : (b : Bool) → works (at a) i i ≡ b → i < count
       by true e = there (slice_get (at a).world.leaves i) refl e
-      by false e = absurd ((are_threads u (all_pay (system s)) (good s sound none)).stops i a y e is)
+      by false e = absurd ((are_threads u (all_pay (system s)) w root (good s sound w root first none)).stops i a y e is)
 
   -- who takes a step can run
   runs_there : (a : List ℕ) (y i : ℕ) → who (at a) y ≡ Some i → can_run u (at a).world y ≡ true
@@ -162,28 +164,33 @@ module _ (s : Scenario) (sound : IsSound s) (none : IsRaceFree s) where
       asks None e = absurd (none_some e)
       asks (Some p) e = refl
 
-      of : (current : Option Current) (p : Phase) → who_by (at a) y current p ≡ Some i → runs (at a).world y p ≡ true
-      of current Running e = refl
-      of current Handling e = refl
-      of current Serving e = asks (oldest (at a).world y (at a).world.requests) e
-      of current Pending e = absurd (none_some e)
-      of current Blocked e = absurd (none_some e)
-      of current Exited e = absurd (none_some e)
+      serves : (itself : ℕ) (s : Option (ℕ × List Signal)) (o : Option (Request × List Request)) → served_for (at a).root itself s o ≡ Some i
+          → (is_some s || is_some o) ≡ true
+      serves itself None o e = asks o e
+      serves itself (Some s) o e = refl
+
+      of : (l : Leaf) (p : Phase) → who_by (at a) y l.current l.signals p ≡ Some i → runs (at a).world y l p ≡ true
+      of l Running e = refl
+      of l Handling e = refl
+      of l Serving e = serves (thread_by (at a).root y l.current) (first_signal l.signals) (oldest (at a).world y (at a).world.requests) e
+      of l Pending e = absurd (none_some e)
+      of l Blocked e = absurd (none_some e)
+      of l Exited e = absurd (none_some e)
 
       by : (o : Option Leaf) → slice_get (at a).world.leaves y ≡ o → who_of (at a) y o ≡ Some i → can_run u (at a).world y ≡ true
       by None e is = absurd (none_some is)
       by (Some l) e is =
-          let c = placed s sound a y l e in
-          (λ j. runs_as (at a).world y (c.1 j) (e j)) ∙ of l.current l.phase is
+          let c = placed s sound w root first a y l e in
+          (λ j. runs_as (at a).world y (c.1 j) (e j)) ∙ of l l.phase is
 
   -- a turn adds one for its leaf
   turn_total : (x y : ℕ) (a : List ℕ) (i : ℕ) → who (at a) y ≡ Some i → total x (y ∷ a) ≡ total x a + cond (y == x) 1 0
   turn_total x y a i is =
-      let p = goes_by s sound (at a).world y (all_stand s sound a) in
-      sum_same (λ j. counted x (shown_by u j (y ∷ a))) (λ j. counted x (shown_by u j a) + cond (i == j) (cond (y == x) 1 0) 0) count
-      (λ j. counted_more x (shown_by u j a) (cond (is_for j (who (at a) y)) (shows u (at a) y) [])
-      ∙ ap (λ n. counted x (shown_by u j a) + n) ((λ k. counted x (cond (is_for j (is k)) (events_of y (p.1 k)) [])) ∙ one (i == j) p.0.1))
-      ∙ (sum_both (λ j. counted x (shown_by u j a)) (λ j. cond (i == j) (cond (y == x) 1 0) 0) count
+      let p = goes_by s sound (at a).world y (all_stand s sound w root first a) in
+      sum_same (λ j. counted x (shown_in j (y ∷ a))) (λ j. counted x (shown_in j a) + cond (i == j) (cond (y == x) 1 0) 0) count
+      (λ j. counted_more x (shown_in j a) (cond (is_for j (who (at a) y)) (shows u (at a) y) [])
+      ∙ ap (λ n. counted x (shown_in j a) + n) ((λ k. counted x (cond (is_for j (is k)) (events_of y (p.1 k)) [])) ∙ one (i == j) p.0.1))
+      ∙ (sum_both (λ j. counted x (shown_in j a)) (λ j. cond (i == j) (cond (y == x) 1 0) 0) count
       ∙ ap (λ n. total x a + n) (sum_one (cond (y == x) 1 0) i count (few a y i is)))
     where
       one : (b : Bool) (e : Event) → counted x (cond b ((y, e) ∷ []) []) ≡ cond b (cond (y == x) 1 0) 0
@@ -192,19 +199,21 @@ module _ (s : Scenario) (sound : IsSound s) (none : IsRaceFree s) where
 
   idle_total : (x y : ℕ) (a : List ℕ) → who (at a) y ≡ None → total x (y ∷ a) ≡ total x a
   idle_total x y a is =
-      sum_same (λ j. counted x (shown_by u j (y ∷ a))) (λ j. counted x (shown_by u j a)) count
-      (λ j. counted_more x (shown_by u j a) (cond (is_for j (who (at a) y)) (shows u (at a) y) [])
-      ∙ (ap (λ o. counted x (shown_by u j a) + counted x (cond (is_for j o) (shows u (at a) y) [])) is ∙ omega arith))
+      sum_same (λ j. counted x (shown_in j (y ∷ a))) (λ j. counted x (shown_in j a)) count
+      (λ j. counted_more x (shown_in j a) (cond (is_for j (who (at a) y)) (shows u (at a) y) [])
+      ∙ (ap (λ o. counted x (shown_in j a) + counted x (cond (is_for j o) (shows u (at a) y) [])) is ∙ omega arith))
 
-  pub steps_total : (a : List ℕ) (x : ℕ) (leaf : Leaf) → slice_get (at a).world.leaves x ≡ Some leaf → leaf.steps ≡ total x a
-  steps_total [] x leaf there = start_steps u.components x leaf there ∙ sym (sum_zero count)
-  steps_total (y ∷ a) x leaf there = by (steps_total a x) (who (at a) y) refl there
+  pub steps_total : (a : List ℕ) (x : ℕ) (old leaf : Leaf) → slice_get w.leaves x ≡ Some old → slice_get (at a).world.leaves x ≡ Some leaf
+      → leaf.steps ≡ old.steps + total x a
+  steps_total [] x old leaf was there =
+      let same = ap (λ (l : Leaf). l.steps) (some_same (sym there ∙ was)) in let none = sum_zero count in omega (arith, same, none)
+  steps_total (y ∷ a) x first_leaf leaf was there = by (λ l. steps_total a x first_leaf l was) (who (at a) y) refl there
     where
-      by : ((l : Leaf) → slice_get (at a).world.leaves x ≡ Some l → l.steps ≡ total x a) → (o : Option ℕ) → who (at a) y ≡ o
-          → slice_get (turn_for u (at a) y o).world.leaves x ≡ Some leaf → leaf.steps ≡ total x (y ∷ a)
-      by further None is there = further leaf there ∙ sym (idle_total x y a is)
+      by : ((l : Leaf) → slice_get (at a).world.leaves x ≡ Some l → l.steps ≡ first_leaf.steps + total x a) → (o : Option ℕ) → who (at a) y ≡ o
+          → slice_get (turn_for u (at a) y o).world.leaves x ≡ Some leaf → leaf.steps ≡ first_leaf.steps + total x (y ∷ a)
+      by further None is there = let was = further leaf there in let still = idle_total x y a is in omega (arith, was, still)
       by further (Some i) is there =
-          let p = goes_by s sound (at a).world y (all_stand s sound a) in
+          let p = goes_by s sound (at a).world y (all_stand s sound w root first a) in
           let now = subst (λ r. slice_get (stepped_to (ready u (at a) y i) y i r).world.leaves x ≡ Some leaf) p.1 there in
           let raised = counts_steps u (at a).world y p.0.0 p.0.1 (runs_there a y i is) p.1 in
           let l = raised_at (steps_of (at a).world) y x leaf.steps (ap (λ n. slice_get n x) (sym raised) ∙ steps_in p.0.0.leaves x leaf now) in

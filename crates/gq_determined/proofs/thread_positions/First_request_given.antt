@@ -7,6 +7,8 @@ use Rattle.std.proofs.lemmas.Bool.Decides.{eqb_tells}
 use Rattle.gq_model.specs.declared.phase.Phase.{Phase}
 use Rattle.gq_model.specs.declared.phase.Phase.TheVariants.{Running, Blocked, Serving, Handling}
 use Rattle.gq_model.specs.machine.Scenario.{System}
+use Rattle.gq_model.specs.machine.Step.{oldest, first_signal}
+use Rattle.std.specs.Prelude.{is_some}
 use Rattle.gq_model.specs.machine.World.{Waiting, SlotId, In_leaf, In_session, In_object, Session, Request, Current, Leaf, World, session_at, slot_at}
 use Rattle.gq_model.proofs.Small_facts.{none_some, some_same, equal_self}
 use Rattle.gq_laws.specs.Shapes.{Each}
@@ -15,12 +17,12 @@ use Rattle.gq_laws.proofs.session_links.Asked_request_changes.{same_current, sam
 use Rattle.gq_laws.specs.Renamed.{renamed_request}
 use Rattle.gq_laws.specs.internal.Corresponding.{Correspond}
 use Rattle.gq_determined.specs.internal.Threads.{is_unshared, Starts, Tracked, thread_by, who, who_of, who_by, asker, moved, given}
-use Rattle.gq_determined.specs.internal.Threads.{works, works_for, is_active, within, among, IsSameThread}
+use Rattle.gq_determined.specs.internal.Threads.{Accepts, has_work, served_for, works, works_for, is_active, within, among, IsSameThread}
 use Rattle.gq_determined.proofs.thread_positions.Single_thread_position.{root_at, IsOpened, AreOpened, IsUnder, AreOwned, IsByCurrent, IsPlaced, IsTracked}
 use Rattle.gq_determined.proofs.thread_positions.Single_thread_position.{IsWaiting, IsHandled, handled}
 use Rattle.gq_determined.proofs.thread_positions.Single_thread_position.{root_waits}
 use Rattle.gq_determined.proofs.thread_positions.Unshared_leaf_owner.{one_start}
-use Rattle.gq_determined.proofs.thread_positions.Turn_thread_position.{IsWorking, IsServing, who_is, taken_there, requested, requested_by}
+use Rattle.gq_determined.proofs.thread_positions.Turn_thread_position.{Goes_on, Steps, IsWorking, IsServing, who_is, taken_there, requested, requested_by}
 
 -- NUMBERS THAT MOVE
 
@@ -66,7 +68,7 @@ serving_else u g t i x p e =
     not_rooted u g t x p.leaf.current (ap stance_in p.there ∙ ap (λ q. Some (stance q p.leaf.current)) p.serves) p.taken.0.session
     (requested u g t i x p).waiting (p.root ∙ sym e)
 
-pub working_serving : (p : Phase) → (p ≡ Running) ⊎ (p ≡ Handling) → p ≡ Serving → ⊥
+pub working_serving : (p : Phase) → Goes_on p → p ≡ Serving → ⊥
 working_serving p (inl e) f = running_serving (sym e ∙ f)
   where
     running_serving : Running ≡ Serving → ⊥
@@ -76,13 +78,18 @@ working_serving p (inr e) f = handling_serving (sym e ∙ f)
     handling_serving : Handling ≡ Serving → ⊥
     handling_serving e = cc
 
--- a leaf that serves and takes a step takes a request
-pub serving_who : (g : Tracked) (i x : ℕ) → who g x ≡ Some i → (leaf : Leaf) → slice_get g.world.leaves x ≡ Some leaf → leaf.phase ≡ Serving
+-- a leaf that takes a step otherwise accepts no request
+pub working_accepts : (l : Leaf) → Steps l → Accepts l → ⊥
+working_accepts l (inl e) a = working_serving l.phase e a.0
+working_accepts l (inr e) a = true≢false (sym e.1 ∙ ap is_some a.1)
+
+-- a leaf that accepts a request next and takes a step takes it
+pub serving_who : (g : Tracked) (i x : ℕ) → who g x ≡ Some i → (leaf : Leaf) → slice_get g.world.leaves x ≡ Some leaf → Accepts leaf
     → IsServing g i x
-serving_who g i x is leaf there serves = by (who_is g i x is)
+serving_who g i x is leaf there accepts = by (who_is g i x is)
   where
     by : IsWorking g i x ⊎ IsServing g i x → IsServing g i x
-    by (inl w) = absurd (working_serving w.at.leaf.phase w.runs (ap (λ (l : Leaf). l.phase) (some_same (sym w.at.there ∙ there)) ∙ serves))
+    by (inl w) = absurd (working_accepts w.at.leaf w.runs (subst Accepts (some_same (sym there ∙ w.at.there)) accepts))
     by (inr p) = p
 
 -- ONE WORLD
@@ -139,7 +146,7 @@ module _ (u : System) (g : Tracked) (t : IsPlaced u g) (i x : ℕ) (b : IsGiven 
     where
       by : (o : Option Leaf) → slice_get w.leaves y ≡ o → works_for g_new.root j y o ≡ works_for g.root j y o
       by None e = refl
-      by (Some l) e = ap (λ m. is_active l.phase && (m == j)) (same_thread y l.phase l.current (ap stance_in e))
+      by (Some l) e = ap (λ m. has_work l.phase (first_signal l.signals) && (m == j)) (same_thread y l.phase l.current (ap stance_in e))
 
   each_root : (rs : List Request) → ((r : Request) → (requests_of r.session rs ≡ 0 → ⊥) → (requests_of r.session w.requests ≡ 0 → ⊥))
       → Each (λ r. g_new.root r.session ≡ g.root r.session) rs
@@ -160,8 +167,9 @@ module _ (u : System) (g : Tracked) (t : IsPlaced u g) (i x : ℕ) (b : IsGiven 
   pub who_same : who g_new x ≡ Some i
   who_same =
       ap (who_of g_new x) b.serving.there
-      ∙ (ap (who_by g_new x b.serving.leaf.current) b.serving.serves
-      ∙ (ap (asker g_new.root) b.serving.found ∙ ap Some (same_root k (requested u g t i x b.serving).waiting ∙ b.serving.root)))
+      ∙ (ap (who_by g_new x b.serving.leaf.current b.serving.leaf.signals) b.serving.serves
+      ∙ (ap (λ s. served_for g_new.root (thread_by g_new.root x b.serving.leaf.current) s (oldest g.world x g.world.requests)) b.serving.idle
+      ∙ ap (asker g_new.root) b.serving.found ∙ ap Some (same_root k (requested u g t i x b.serving).waiting ∙ b.serving.root)))
 
   -- WHAT IS TRACKED FITS
 
@@ -224,6 +232,17 @@ module _ (u : System) (g : Tracked) (t : IsPlaced u g) (i x : ℕ) (b : IsGiven 
           let same = moved_else x i g.own y p.1 in
           same ∙ (t.held y phase q at (λ own. ne (same ∙ own)) ∙ sym (same_root q.session a.waiting))
 
+  signals_new : (y : ℕ) (l : Leaf) → slice_get w.leaves y ≡ Some l → is_some (first_signal l.signals) ≡ true → (g_new.own y ≡ y) × (l.current ≡ None)
+  signals_new y l at flag =
+      let was = t.signals y l at flag in
+      (moved_else x i g.own y (λ e. idle (sym was.0 ∙ e)) ∙ was.0, was.1)
+    where
+      -- a leaf that takes a request has no signal to take
+      idle : y ≡ x → ⊥
+      idle e =
+          let same : l ≡ b.serving.leaf = some_same (sym at ∙ (ap (slice_get w.leaves) e ∙ b.serving.there)) in
+          true≢false (sym flag ∙ ap (λ (l : Leaf). is_some (first_signal l.signals)) same ∙ ap is_some b.serving.idle)
+
   pub given_placed : IsPlaced u g_new
   given_placed = record {
     acyclic = t.acyclic;
@@ -234,6 +253,7 @@ module _ (u : System) (g : Tracked) (t : IsPlaced u g) (i x : ℕ) (b : IsGiven 
     lives = lives_new;
     main = main_new;
     held = held_new;
+    signals = signals_new;
   }
 
   -- a leaf that is the thread's was so, or was of the leaf's thread

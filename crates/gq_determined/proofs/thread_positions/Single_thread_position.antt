@@ -1,11 +1,13 @@
 -- Each thread is at one place: where a leaf works for it that does not wait, no request of it waits, and the other way round.
-use Rattle.std.proofs.Common.{◌≡◌, ◌≢◌, ◌≤◌, ◌⊎◌, ℕ, zero, suc, ◌+◌, ◌==◌, inl, inr, Bool, true, false, List, [], ◌∷◌, length, Option, Some, None}
+use Rattle.std.proofs.Common.{◌≡◌, ◌≢◌, ◌≤◌, ◌⊎◌, ℕ, zero, suc, ◌+◌, ◌==◌, inl, inr, true, List, [], ◌∷◌, length, Option, Some, None}
 use Rattle.std.proofs.Common.{refl, ap, sym, ◌∙◌, subst, arith}
 use Rattle.gq_model.specs.declared.phase.Phase.{Phase}
 use Rattle.gq_model.specs.declared.phase.Phase.TheVariants.{Blocked}
 use Rattle.gq_model.specs.machine.Scenario.{System}
 use Rattle.gq_model.specs.machine.World.{Slot, Empty, Bytes, Pool, Link, Waiting, SlotId, In_leaf, In_session, In_object, Session, Request, Current, World}
-use Rattle.gq_model.specs.machine.World.{session_at, slot_at}
+use Rattle.gq_model.specs.machine.World.{Leaf, session_at, slot_at}
+use Rattle.gq_model.specs.machine.Step.{first_signal}
+use Rattle.std.specs.Prelude.{is_some, slice_get}
 use Rattle.gq_model.proofs.Small_facts.{none_some, some_none, some_same, equal_self}
 use Rattle.gq_laws.specs.Shapes.{Each}
 use Rattle.gq_laws.specs.Session_links.{Leads, Waits, naming_in, outline, outline_in, stance, one_if, requests_of, at_current}
@@ -68,9 +70,11 @@ pub record IsPlaced (system : System) (g : Tracked) : Type 0 where
   pub uses : (k : ℕ) (s : Session) → session_at g.world k ≡ Some s → Uses system s.client s.server
   -- a session is of a thread that has its own leaf
   pub lives : (k : ℕ) (s : Session) → session_at g.world k ≡ Some s → g.own (g.root k) ≡ g.root k
-  -- in `main` a leaf is its own thread's, and in a section its own or that of its current session
+  -- in `main`, and where it handles a signal, a leaf is its own thread's, and in a section its own or that of its current session
   pub main : (y : ℕ) (phase : Phase) → (links g.world).stances y ≡ Some (stance phase None) → is_active phase ≡ true → g.own y ≡ y
   pub held : (y : ℕ) (phase : Phase) (q : Current) → (links g.world).stances y ≡ Some (stance phase (Some q)) → g.own y ≢ y → g.own y ≡ g.root q.session
+  -- a leaf that has a signal to take is its own thread's, and has no current session
+  pub signals : (y : ℕ) (l : Leaf) → slice_get g.world.leaves y ≡ Some l → is_some (first_signal l.signals) ≡ true → (g.own y ≡ y) × (l.current ≡ None)
 
 -- so it is where a leaf that is not shared is another thread's from its first request on
 pub record IsTracked (system : System) (g : Tracked) : Type 0 where

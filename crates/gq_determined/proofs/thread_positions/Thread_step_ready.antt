@@ -4,21 +4,21 @@ use Rattle.std.proofs.Common.{refl, ap, sym, ◌∙◌, subst}
 use Rattle.std.specs.Prelude.{option_map, slice_get}
 use Rattle.std.proofs.lemmas.Bool.{true≢false}
 use Rattle.std.proofs.lemmas.Bool.Decides.{eqb_tells}
-use Rattle.gq_model.specs.declared.phase.Phase.{Phase}
-use Rattle.gq_model.specs.declared.phase.Phase.TheVariants.{Running, Serving, Handling}
+use Rattle.gq_model.specs.declared.phase.Phase.TheVariants.{Serving}
 use Rattle.gq_model.specs.machine.Scenario.{System}
-use Rattle.gq_model.specs.machine.World.{Session, Request, Current, Leaf, session_at}
-use Rattle.gq_model.specs.machine.Step.{oldest}
+use Rattle.gq_model.specs.machine.World.{Session, Request, Current, Signal, Leaf, session_at}
+use Rattle.gq_model.specs.machine.Step.{oldest, first_signal}
+use Rattle.std.specs.Prelude.{is_some}
 use Rattle.gq_model.proofs.Small_facts.{some_same, equal_self}
-use Rattle.gq_laws.specs.Session_links.{stance, stance_in, links}
+use Rattle.gq_laws.specs.Session_links.{stance, stance_in}
 use Rattle.gq_laws.specs.Renamed.{renamed_slot, renamed_request, renamed_session}
 use Rattle.gq_determined.specs.internal.Threads.{is_unshared, Tracked, thread_by, who, moved, given, first_of, first_by}
-use Rattle.gq_determined.specs.internal.Threads.{works, works_for, is_active, within, slots_of, IsSameRegion, IsSameThread}
+use Rattle.gq_determined.specs.internal.Threads.{Accepts, has_work, works, works_for, within, slots_of, IsSameRegion, IsSameThread}
 use Rattle.gq_determined.proofs.regions.Region_changes.{within_there, within_here}
 use Rattle.gq_determined.proofs.regions.Renamed_regions.{region_renamed, at_renamed}
 use Rattle.gq_determined.proofs.thread_positions.Single_thread_position.{IsPlaced, IsTracked, busy_below}
-use Rattle.gq_determined.proofs.thread_positions.Turn_thread_position.{IsWorking, IsServing, ServesSame, who_is, same_place}
-use Rattle.gq_determined.proofs.thread_positions.First_request_given.{moved_here, moved_else, equal_of, unequal, working_serving, IsGiven, x_else, own_x}
+use Rattle.gq_determined.proofs.thread_positions.Turn_thread_position.{Steps, IsWorking, IsServing, ServesSame, own_at, who_is, same_place}
+use Rattle.gq_determined.proofs.thread_positions.First_request_given.{moved_here, moved_else, equal_of, unequal, working_accepts, IsGiven, x_else}
 use Rattle.gq_determined.proofs.thread_positions.First_request_given.{own_idle, own_new}
 use Rattle.gq_determined.proofs.thread_positions.First_request_given.{same_works, same_among}
 
@@ -29,16 +29,14 @@ module _ (u : System) (g h : Tracked) (t : IsPlaced u g) (th : IsPlaced u h) (i 
   serving_other p = by (same_place u g h t th i s x x is is_h).how
     where
       by : (IsWorking g i x × IsWorking h i x) ⊎ ServesSame u g h t th i s x → IsServing h i x
-      by (inl w) = absurd (working_serving w.0.at.leaf.phase w.0.runs
-          (ap (λ (l : Leaf). l.phase) (some_same (sym w.0.at.there ∙ p.there)) ∙ p.serves))
+      by (inl w) = absurd (working_accepts w.0.at.leaf w.0.runs (subst Accepts (some_same (sym p.there ∙ w.0.at.there)) (p.serves, p.idle)))
       by (inr q) = q.other
 
   pub serving_back : IsServing h i x → IsServing g i x
   serving_back p = by (same_place u g h t th i s x x is is_h).how
     where
       by : (IsWorking g i x × IsWorking h i x) ⊎ ServesSame u g h t th i s x → IsServing g i x
-      by (inl w) = absurd (working_serving w.1.at.leaf.phase w.1.runs
-          (ap (λ (l : Leaf). l.phase) (some_same (sym w.1.at.there ∙ p.there)) ∙ p.serves))
+      by (inl w) = absurd (working_accepts w.1.at.leaf w.1.runs (subst Accepts (some_same (sym p.there ∙ w.1.at.there)) (p.serves, p.idle)))
       by (inr q) = q.first
 
 -- TWO WORLDS
@@ -166,7 +164,8 @@ module _ (u : System) (g h : Tracked) (t : IsPlaced u g) (th : IsPlaced u h) (i 
 
   current_i : (y : ℕ) → works g i y ≡ true → (l : Leaf) (q : Current) → slice_get g.world.leaves y ≡ Some l → l.current ≡ Some q → g.root q.session ≡ i
   current_i y is l q at current =
-      sym (ap (thread_by g.root y) current) ∙ equal_of (thread_by g.root y l.current) i (second (is_active l.phase) _ (sym (ap (works_for g.root i y) at) ∙ is))
+      sym (ap (thread_by g.root y) current) ∙ equal_of (thread_by g.root y l.current) i
+      (second (has_work l.phase (first_signal l.signals)) _ (sym (ap (works_for g.root i y) at) ∙ is))
     where
       second : (a c : Bool) → (a && c) ≡ true → c ≡ true
       second true c e = e
@@ -196,17 +195,21 @@ pub record Readies (u : System) (g : Tracked) (i x : ℕ) (o : Bool) : Type 0 wh
   pub single : o ≡ true → is_unshared u x ≡ true
   pub other : o ≡ true → g.own x ≢ i
   -- a leaf that is not shared is of the thread whose request it takes
-  pub taken : (leaf : Leaf) → slice_get g.world.leaves x ≡ Some leaf → leaf.phase ≡ Serving → is_unshared u x ≡ true → o ≡ false → g.own x ≡ i
+  pub taken : (leaf : Leaf) → slice_get g.world.leaves x ≡ Some leaf → Accepts leaf → is_unshared u x ≡ true → o ≡ false → g.own x ≡ i
 
 pub readies : (u : System) (g : Tracked) → IsTracked u g → (i x : ℕ) → who g x ≡ Some i → Readies u g i x (first_by u g x i (slice_get g.world.leaves x))
 readies u g t i x is = by (who_is g i x is)
   where
-    working : (leaf : Leaf) (found : Option (Request × List Request)) → (leaf.phase ≡ Running) ⊎ (leaf.phase ≡ Handling)
-        → first_of u g x i leaf.phase found ≡ false
-    working leaf found (inl e) = ap (λ p. first_of u g x i p found) e
-    working leaf found (inr e) = ap (λ p. first_of u g x i p found) e
+    working : (leaf : Leaf) (found : Option (Request × List Request)) → Steps leaf → first_of u g x i leaf.phase (first_signal leaf.signals) found ≡ false
+    working leaf found (inl (inl e)) = ap (λ p. first_of u g x i p (first_signal leaf.signals) found) e
+    working leaf found (inl (inr e)) = ap (λ p. first_of u g x i p (first_signal leaf.signals) found) e
+    working leaf found (inr e) = ap (λ p. first_of u g x i p (first_signal leaf.signals) found) e.0 ∙ of (first_signal leaf.signals) e.1
+      where
+        of : (s : Option (ℕ × List Signal)) → is_some s ≡ true → first_of u g x i Serving s found ≡ false
+        of None e = absurd (true≢false (sym e))
+        of (Some s) e = refl
 
-    none : (o : Bool) → o ≡ false → ((leaf : Leaf) → slice_get g.world.leaves x ≡ Some leaf → leaf.phase ≡ Serving → ⊥) → Readies u g i x o
+    none : (o : Bool) → o ≡ false → ((leaf : Leaf) → slice_get g.world.leaves x ≡ Some leaf → Accepts leaf → ⊥) → Readies u g i x o
     none o e busy = record {
       here = λ f. absurd (true≢false (sym f ∙ e));
       single = λ f. absurd (true≢false (sym f ∙ e));
@@ -216,13 +219,14 @@ readies u g t i x is = by (who_is g i x is)
 
     by : IsWorking g i x ⊎ IsServing g i x → Readies u g i x (first_by u g x i (slice_get g.world.leaves x))
     by (inl w) = none _ (ap (first_by u g x i) w.at.there ∙ working w.at.leaf (oldest g.world x g.world.requests) w.runs)
-        (λ leaf there serves. working_serving w.at.leaf.phase w.runs (ap (λ (l : Leaf). l.phase) (some_same (sym w.at.there ∙ there)) ∙ serves))
+        (λ leaf there accepts. working_accepts w.at.leaf w.runs (subst Accepts (some_same (sym there ∙ w.at.there)) accepts))
     by (inr p) = subst (Readies u g i x) (sym is_first) (of (is_unshared u x) (g.own x == i) refl refl)
       where
         is_first : first_by u g x i (slice_get g.world.leaves x) ≡ (is_unshared u x && not (g.own x == i))
         is_first =
             ap (first_by u g x i) p.there
-            ∙ (ap (λ q. first_of u g x i q (oldest g.world x g.world.requests)) p.serves ∙ ap (first_of u g x i Serving) p.found)
+            ∙ (ap (λ q. first_of u g x i q (first_signal p.leaf.signals) (oldest g.world x g.world.requests)) p.serves
+            ∙ ((λ j. first_of u g x i Serving (p.idle j) (p.found j))))
 
         of : (a c : Bool) → is_unshared u x ≡ a → (g.own x == i) ≡ c → Readies u g i x (a && not c)
         of true true single own = record {
@@ -251,19 +255,19 @@ own_who u g t i x is r = by (who_is g i x is)
     shared : is_unshared u x ≡ false → g.own x ≡ x
     shared e = elim (eqb_tells (g.own x) x) [ inl q ↦ q.1 | inr q ↦ absurd (true≢false (sym (t.owned.opened x q.1).single ∙ e)) ]
 
-    of : (phase : Phase) (current : Option Current) → (links g.world).stances x ≡ Some (stance phase current) → is_active phase ≡ true
-        → thread_by g.root x current ≡ i
-        → (single : Bool) → is_unshared u x ≡ single → (g.own x ≡ x) ⊎ (g.own x ≡ i)
-    of phase None at act is single e = inl (t.placed.main x phase at act)
-    of phase (Some q) at act is true e = inr (busy_below u g t x phase q at e ∙ is)
-    of phase (Some q) at act is false e = inl (shared e)
+    of : (l : Leaf) → slice_get g.world.leaves x ≡ Some l → has_work l.phase (first_signal l.signals) ≡ true → (current : Option Current)
+        → l.current ≡ current → thread_by g.root x current ≡ i → (single : Bool) → is_unshared u x ≡ single → (g.own x ≡ x) ⊎ (g.own x ≡ i)
+    of l at act None none is single e = inl (own_at u g t.placed x l at none act)
+    of l at act (Some q) some is true e =
+        inr (busy_below u g t x l.phase q (ap stance_in at ∙ ap (λ o. Some (stance l.phase o)) some) e ∙ is)
+    of l at act (Some q) some is false e = inl (shared e)
 
     serves : (p : IsServing g i x) (single : Bool) → is_unshared u x ≡ single → (g.own x ≡ x) ⊎ (g.own x ≡ i)
-    serves p true e = inr (r.taken p.leaf p.there p.serves e refl)
+    serves p true e = inr (r.taken p.leaf p.there (p.serves, p.idle) e refl)
     serves p false e = inl (shared e)
 
     by : IsWorking g i x ⊎ IsServing g i x → (g.own x ≡ x) ⊎ (g.own x ≡ i)
-    by (inl w) = of w.at.leaf.phase w.at.leaf.current (ap stance_in w.at.there) w.at.is_active w.at.thread (is_unshared u x) refl
+    by (inl w) = of w.at.leaf w.at.there w.at.has_work w.at.leaf.current refl w.at.thread (is_unshared u x) refl
     by (inr p) = serves p (is_unshared u x) refl
 
 -- BOTH, BEFORE A STEP
@@ -295,11 +299,11 @@ module _ (u : System) (g h : Tracked) (t : IsTracked u g) (th : IsTracked u h) (
   both_ready true false r q =
       let b = r.here refl in
       let p = serving_other u g h t.placed th.placed i x is is_h s b.serving in
-      absurd (r.other refl (reported_back (q.taken p.leaf p.there p.serves (r.single refl) refl)))
+      absurd (r.other refl (reported_back (q.taken p.leaf p.there (p.serves, p.idle) (r.single refl) refl)))
   both_ready false true r q =
       let d = q.here refl in
       let p = serving_back u g h t.placed th.placed i x is is_h s d.serving in
-      absurd (q.other refl (reported (r.taken p.leaf p.there p.serves (q.single refl) refl)))
+      absurd (q.other refl (reported (r.taken p.leaf p.there (p.serves, p.idle) (q.single refl) refl)))
   both_ready true true r q =
       let b = r.here refl in
       let d = q.here refl in

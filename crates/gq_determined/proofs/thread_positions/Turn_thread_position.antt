@@ -1,5 +1,5 @@
 -- Whose a turn is, and where the same thread is in two worlds.
-use Rattle.std.proofs.Common.{◌≡◌, ◌≤◌, ◌⊎◌, ℕ, suc, ◌==◌, ◌&&◌, inl, inr, Bool, true, false, cond, List, [], ◌∷◌, length, map, Option, Some, None}
+use Rattle.std.proofs.Common.{◌≡◌, ◌≤◌, ◌⊎◌, ℕ, suc, ◌==◌, ◌&&◌, inl, inr, Bool, true, false, cond, List, [], ◌∷◌, length, map, Option, Some, None, is_some}
 use Rattle.std.proofs.Common.{refl, ap, sym, ◌∙◌, subst, arith}
 use Rattle.std.specs.Prelude.{option_map, slice_get}
 use Rattle.std.proofs.lemmas.Bool.{true≢false}
@@ -7,8 +7,8 @@ use Rattle.std.proofs.lemmas.Bool.Decides.{eqb_tells}
 use Rattle.gq_model.specs.declared.phase.Phase.{Phase}
 use Rattle.gq_model.specs.declared.phase.Phase.TheVariants.{Pending, Running, Blocked, Serving, Handling, Exited}
 use Rattle.gq_model.specs.machine.Scenario.{System}
-use Rattle.gq_model.specs.machine.World.{Session, Request, Current, Leaf, World, session_at}
-use Rattle.gq_model.specs.machine.Step.{is_to, kept_before, oldest}
+use Rattle.gq_model.specs.machine.World.{Session, Request, Current, Signal, Leaf, World, session_at}
+use Rattle.gq_model.specs.machine.Step.{is_to, kept_before, oldest, first_signal}
 use Rattle.gq_model.proofs.Small_facts.{none_some, some_same, equal_self}
 use Rattle.gq_laws.specs.Shapes.{Each}
 use Rattle.gq_laws.specs.Session_links.{stance, stance_in, one_if, requests_of, links, IsAsked}
@@ -16,8 +16,8 @@ use Rattle.gq_laws.proofs.session_links.Asked_request_changes.{same_phase}
 use Rattle.gq_laws.proofs.session_links.Linked_after_accept.{Found, oldest_found}
 use Rattle.gq_laws.proofs.Outside_step_untouched.{outlined}
 use Rattle.gq_laws.specs.Renamed.{renamed_leaf, renamed_session, renamed_request}
-use Rattle.gq_determined.specs.internal.Threads.{Tracked, thread_by, who_by, who_of, who, is_active, works, works_for, among, seen, seen_by, IsSameThread}
-use Rattle.gq_determined.specs.internal.Threads.{asker}
+use Rattle.gq_determined.specs.internal.Threads.{Tracked, thread_by, who_by, who_of, who, works, works_for, among, seen, seen_by, IsSameThread}
+use Rattle.gq_determined.specs.internal.Threads.{asker, has_work, served_for}
 use Rattle.gq_determined.proofs.regions.Region_changes.{within_there, within_here}
 use Rattle.gq_determined.proofs.regions.Related_around.{oldest_counts}
 use Rattle.gq_determined.proofs.thread_positions.Single_thread_position.{IsPlaced, IsWaiting, pending, one_pending, IsBusy, IsRequested, busy_same}
@@ -40,19 +40,31 @@ pub record IsAt (g : Tracked) (i y : ℕ) : Type 0 where
   pub leaf : Leaf
   pub there : slice_get g.world.leaves y ≡ Some leaf
   pub thread : thread_by g.root y leaf.current ≡ i
-  pub is_active : is_active leaf.phase ≡ true
+  pub has_work : has_work leaf.phase (first_signal leaf.signals) ≡ true
   pub goes : leaf.phase ≡ Blocked → ⊥
 
--- it takes a step so
+-- it goes on
+abbrev pub Goes_on : Phase → Type 0
+Goes_on phase = (phase ≡ Running) ⊎ (phase ≡ Handling)
+
+-- or takes a signal
+abbrev pub TakesSignal : Leaf → Type 0
+TakesSignal leaf = (leaf.phase ≡ Serving) × (is_some (first_signal leaf.signals) ≡ true)
+
+abbrev pub Steps : Leaf → Type 0
+Steps leaf = Goes_on leaf.phase ⊎ TakesSignal leaf
+
+-- so it takes a step
 pub record IsWorking (g : Tracked) (i y : ℕ) : Type 0 where
   pub at : IsAt g i y
-  pub runs : (at.leaf.phase ≡ Running) ⊎ (at.leaf.phase ≡ Handling)
+  pub runs : Steps at.leaf
 
 -- or it takes up a request of the thread
 pub record IsServing (g : Tracked) (i y : ℕ) : Type 0 where
   pub leaf : Leaf
   pub there : slice_get g.world.leaves y ≡ Some leaf
   pub serves : leaf.phase ≡ Serving
+  pub idle : first_signal leaf.signals ≡ None
   pub taken : Request × List Request
   pub found : oldest g.world y g.world.requests ≡ Some taken
   pub root : g.root taken.0.session ≡ i
@@ -60,27 +72,58 @@ pub record IsServing (g : Tracked) (i y : ℕ) : Type 0 where
 pub who_is : (g : Tracked) (i y : ℕ) → who g y ≡ Some i → IsWorking g i y ⊎ IsServing g i y
 who_is g i y e = of (slice_get g.world.leaves y) refl e
   where
-    by : (leaf : Leaf) → slice_get g.world.leaves y ≡ Some leaf → (p : Phase) → leaf.phase ≡ p → who_by g y leaf.current p ≡ Some i
+    by : (leaf : Leaf) → slice_get g.world.leaves y ≡ Some leaf → (p : Phase) → leaf.phase ≡ p → who_by g y leaf.current leaf.signals p ≡ Some i
         → IsWorking g i y ⊎ IsServing g i y
     by leaf there Running is e = inl (record {
-      at = record { leaf = leaf; there = there; thread = some_same e; is_active = ap is_active is; goes = λ b. running (sym is ∙ b) };
-      runs = inl is;
+      at = record {
+        leaf = leaf;
+        there = there;
+        thread = some_same e;
+        has_work = ap (λ p. has_work p (first_signal leaf.signals)) is;
+        goes = λ b. running (sym is ∙ b);
+      };
+      runs = inl (inl is);
     })
       where
         running : Running ≡ Blocked → ⊥
         running e = cc
     by leaf there Handling is e = inl (record {
-      at = record { leaf = leaf; there = there; thread = some_same e; is_active = ap is_active is; goes = λ b. handling (sym is ∙ b) };
-      runs = inr is;
+      at = record {
+        leaf = leaf;
+        there = there;
+        thread = some_same e;
+        has_work = ap (λ p. has_work p (first_signal leaf.signals)) is;
+        goes = λ b. handling (sym is ∙ b);
+      };
+      runs = inl (inr is);
     })
       where
         handling : Handling ≡ Blocked → ⊥
         handling e = cc
-    by leaf there Serving is e = found (oldest g.world y g.world.requests) refl e
+    by leaf there Serving is e = signal (first_signal leaf.signals) refl e
       where
-        found : (o : Option (Request × List Request)) → oldest g.world y g.world.requests ≡ o → asker g.root o ≡ Some i → IsWorking g i y ⊎ IsServing g i y
-        found None f e = absurd (none_some e)
-        found (Some p) f e = inr (record { leaf = leaf; there = there; serves = is; taken = p; found = f; root = some_same e })
+        serving : Serving ≡ Blocked → ⊥
+        serving e = cc
+
+        found : first_signal leaf.signals ≡ None → (o : Option (Request × List Request)) → oldest g.world y g.world.requests ≡ o → asker g.root o ≡ Some i
+            → IsWorking g i y ⊎ IsServing g i y
+        found idle None f e = absurd (none_some e)
+        found idle (Some p) f e =
+            inr (record { leaf = leaf; there = there; serves = is; idle = idle; taken = p; found = f; root = some_same e })
+
+        signal : (s : Option (ℕ × List Signal)) → first_signal leaf.signals ≡ s
+            → served_for g.root (thread_by g.root y leaf.current) s (oldest g.world y g.world.requests) ≡ Some i → IsWorking g i y ⊎ IsServing g i y
+        signal None f e = found f (oldest g.world y g.world.requests) refl e
+        signal (Some s) f e = inl (record {
+          at = record {
+            leaf = leaf;
+            there = there;
+            thread = some_same e;
+            has_work = ap (λ p. has_work p (first_signal leaf.signals)) is ∙ ap is_some f;
+            goes = λ b. serving (sym is ∙ b);
+          };
+          runs = inr (is, ap is_some f);
+        })
     by leaf there Pending is e = absurd (none_some e)
     by leaf there Blocked is e = absurd (none_some e)
     by leaf there Exited is e = absurd (none_some e)
@@ -94,7 +137,7 @@ who_is g i y e = of (slice_get g.world.leaves y) refl e
 pub works_at : (g : Tracked) (i y : ℕ) → IsAt g i y → works g i y ≡ true
 works_at g i y a =
     ap (works_for g.root i y) a.there
-    ∙ (ap (λ b. b && (thread_by g.root y a.leaf.current == i)) a.is_active ∙ (ap (λ n. n == i) a.thread ∙ equal_self i))
+    ∙ (ap (λ b. b && (thread_by g.root y a.leaf.current == i)) a.has_work ∙ (ap (λ n. n == i) a.thread ∙ equal_self i))
 
 blocked_seen : (p : Phase) (leaf : Leaf) → (seen_by p leaf).phase ≡ Blocked → p ≡ Blocked
 blocked_seen Pending leaf e = absurd (ne e)
@@ -124,7 +167,7 @@ at_other g h i y s a = by (slice_get h.world.leaves y) refl (sym (s.leaves y) �
           leaf = leaf;
           there = e;
           thread = is_equal _ _ (and_right _ _ both);
-          is_active = and_left _ _ both;
+          has_work = and_left _ _ both;
           goes = λ b. a.goes (blocked_seen a.leaf.phase a.leaf (sym (ap (λ (l : Leaf). l.phase) same) ∙ seen_blocked leaf b));
         }
 
@@ -141,7 +184,7 @@ at_back g h i y s a = by (slice_get g.world.leaves y) refl (s.leaves y ∙ works
           leaf = leaf;
           there = e;
           thread = is_equal _ _ (and_right _ _ both);
-          is_active = and_left _ _ both;
+          has_work = and_left _ _ both;
           goes = λ b. a.goes (blocked_seen a.leaf.phase a.leaf (ap (λ (l : Leaf). l.phase) same ∙ seen_blocked leaf b));
         }
 
@@ -257,21 +300,36 @@ module _ (system : System) (g : Tracked) (t : IsPlaced system g) where
         by (r ∷ []) e = (r, refl)
         by (r ∷ q ∷ rs) e = absurd (omega (arith, e))
 
+-- a leaf that works and has no current session is its own thread's
+pub own_at : (system : System) (g : Tracked) → IsPlaced system g → (y : ℕ) (l : Leaf) → slice_get g.world.leaves y ≡ Some l → l.current ≡ None
+    → has_work l.phase (first_signal l.signals) ≡ true → g.own y ≡ y
+own_at system g t y l there none = by l.phase refl
+  where
+    stood : (p : Phase) → l.phase ≡ p → (links g.world).stances y ≡ Some (stance p None)
+    stood p e = ap stance_in there ∙ (λ j. Some (stance (e j) (none j)))
+
+    by : (p : Phase) → l.phase ≡ p → has_work p (first_signal l.signals) ≡ true → g.own y ≡ y
+    by Pending e act = t.main y Pending (stood Pending e) refl
+    by Running e act = t.main y Running (stood Running e) refl
+    by Blocked e act = t.main y Blocked (stood Blocked e) refl
+    by Handling e act = t.main y Handling (stood Handling e) refl
+    by Serving e act = (t.signals y l there act).0
+    by Exited e act = absurd (true≢false (sym act))
+
 -- a thread for which a step is taken has its own leaf
 pub lives_who : (system : System) (g : Tracked) → IsPlaced system g → (i y : ℕ) → who g y ≡ Some i → g.own i ≡ i
 lives_who system g t i y e = by (who_is g i y e)
   where
-    of : (phase : Phase) (current : Option Current) → stance_in (slice_get g.world.leaves y) ≡ Some (stance phase current) → is_active phase ≡ true
-        → thread_by g.root y current ≡ i
-        → g.own i ≡ i
-    of phase None stood act is = subst (λ n. g.own n ≡ n) is (t.main y phase stood act)
-    of phase (Some q) stood act is =
-        let m = t.linked.handles y phase q stood in
+    of : (l : Leaf) → slice_get g.world.leaves y ≡ Some l → has_work l.phase (first_signal l.signals) ≡ true → (current : Option Current)
+        → l.current ≡ current → thread_by g.root y current ≡ i → g.own i ≡ i
+    of l there act None e is = subst (λ n. g.own n ≡ n) is (own_at system g t y l there e act)
+    of l there act (Some q) e is =
+        let m = t.linked.handles y l.phase q (ap stance_in there ∙ ap (λ o. Some (stance l.phase o)) e) in
         let s = outlined (session_at g.world q.session) m.0 m.1 in
         subst (λ n. g.own n ≡ n) is (t.lives q.session s.0 s.1)
 
     by : IsWorking g i y ⊎ IsServing g i y → g.own i ≡ i
-    by (inl w) = of w.at.leaf.phase w.at.leaf.current (ap stance_in w.at.there) w.at.is_active w.at.thread
+    by (inl w) = of w.at.leaf w.at.there w.at.has_work w.at.leaf.current refl w.at.thread
     by (inr p) = let s = taken_there system g t i y p in subst (λ n. g.own n ≡ n) p.root (t.lives p.taken.0.session s.0 s.1)
 
 -- the one request of a region, where the oldest is of it, is the oldest

@@ -8,7 +8,7 @@ use Rattle.gq_model.specs.machine.World.{World}
 use Rattle.gq_model.specs.machine.Doing.{Event}
 use Rattle.gq_model.specs.machine.Sums.{paid}
 use Rattle.gq_laws.proofs.verified_programs.Use_chains.{Chain, chain_short}
-use Rattle.gq_determined.specs.internal.Threads.{Starts, Tracked, who, tracked_turn, tracked_start, shows, IsAlike, HasEnded}
+use Rattle.gq_determined.specs.internal.Threads.{Starts, Tracked, who, tracked_turn, tracked_from, shows, IsAlike, HasEnded}
 use Rattle.gq_determined.specs.internal.Thread_machines.{taken}
 use Rattle.gq_determined.proofs.machines.By_threads.{been, no_further}
 use Rattle.gq_determined.proofs.thread_positions.Unshared_leaf_owner.{one_start}
@@ -33,12 +33,12 @@ starts_chain u (suc n) z y s rest chain =
     let long = more.2 in
     (more.0, more.1, omega (arith, long))
 
-module _ (u : System) (pays : (z : World) → paid u z ≡ true) (good : AreGood u pays) where
+module _ (u : System) (pays : (z : World) → paid u z ≡ true) (w : World) (root : ℕ → ℕ) (good : AreGood u pays w root) where
   abbrev at : List ℕ → Tracked
-  at = tracked u pays
+  at = tracked u pays w root
 
   abbrev steps : ℕ → List ℕ → ℕ
-  steps = taken Tracked (ℕ × Event) (tracked_start u) (tracked_turn u) who (shows u)
+  steps = taken Tracked (ℕ × Event) (tracked_from w root) (tracked_turn u) who (shows u)
 
   -- MORE TURNS
 
@@ -50,9 +50,9 @@ module _ (u : System) (pays : (z : World) → paid u z ≡ true) (good : AreGood
       more false wrote event = prefix_same wrote
 
       by : (o : Option ℕ) → who (at a) x ≡ o → IsPrefixOf ((at a).wrote y) ((at (x ∷ a)).wrote y)
-      by None e = subst (λ (g : Tracked). IsPrefixOf ((at a).wrote y) (g.wrote y)) (sym (turn_none u pays good a x e)) (prefix_same ((at a).wrote y))
-      by (Some i) e = subst (λ (g : Tracked). IsPrefixOf ((at a).wrote y) (g.wrote y)) (sym (turn_is u pays good a x i e))
-          (more (y == x && ((before u pays good a x i).own x == i)) ((at a).wrote y) (good.goes a x).0.1)
+      by None e = subst (λ (g : Tracked). IsPrefixOf ((at a).wrote y) (g.wrote y)) (sym (turn_none u pays w root good a x e)) (prefix_same ((at a).wrote y))
+      by (Some i) e = subst (λ (g : Tracked). IsPrefixOf ((at a).wrote y) (g.wrote y)) (sym (turn_is u pays w root good a x i e))
+          (more (y == x && ((before u pays w root good a x i).own x == i)) ((at a).wrote y) (good.goes a x).0.1)
 
   wrote_on : (later a : List ℕ) (y : ℕ) → IsPrefixOf ((at a).wrote y) ((at (later ++ a)).wrote y)
   wrote_on [] a y = prefix_same ((at a).wrote y)
@@ -60,7 +60,7 @@ module _ (u : System) (pays : (z : World) → paid u z ≡ true) (good : AreGood
 
   own_earlier : (later a : List ℕ) (i : ℕ) → (at (later ++ a)).own i ≡ i → (at a).own i ≡ i
   own_earlier [] a i own = own
-  own_earlier (x ∷ later) a i own = own_earlier later a i (own_before u pays good (later ++ a) x i own)
+  own_earlier (x ∷ later) a i own = own_earlier later a i (own_before u pays w root good (later ++ a) x i own)
 
   -- WHERE ONE RUN HAS BEEN WHERE THE OTHER IS
 
@@ -69,9 +69,9 @@ module _ (u : System) (pays : (z : World) → paid u z ≡ true) (good : AreGood
       → steps ((at a).own y) a ≤ steps ((at a).own y) run → IsPrefixOf ((at a).wrote y) ((at b).wrote y)
   been_prefix a b y more run is own few =
       let i = (at a).own y in
-      let m = been Tracked (ℕ × Event) (tracked_start u) (tracked_turn u) who (shows u) IsAlike HasEnded (are_threads u pays good) i a run few in
+      let m = been Tracked (ℕ × Event) (tracked_from w root) (tracked_turn u) who (shows u) IsAlike HasEnded (are_threads u pays w root good) i a run few in
       let own_m : (at m.before).own i ≡ i = own_earlier m.later m.before i (subst (λ l. (at l).own i ≡ i) m.is own) in
-      let s = m.same.whole ((all_tracked u pays good a).owned.whole y) own_m in
+      let s = m.same.whole ((all_tracked u pays w root good a).owned.whole y) own_m in
       subst (λ b. IsPrefixOf ((at a).wrote y) ((at b).wrote y)) (sym is)
       (prefix_on ((at a).wrote y) ((at run).wrote y) ((at (more ++ run)).wrote y)
       (subst (λ l. IsPrefixOf ((at a).wrote y) ((at l).wrote y)) (sym m.is)
@@ -101,18 +101,19 @@ module _ (u : System) (pays : (z : World) → paid u z ≡ true) (good : AreGood
         | inr more ↦ inr record { own = own.1; more = more }
       ]
       by (inr given) =
-          let p = before_given u pays good b i given.1 in
-          let few = no_further Tracked (ℕ × Event) (tracked_start u) (tracked_turn u) who (shows u) IsAlike HasEnded (are_threads u pays good) i p.run a
+          let p = before_given u pays w root good b i given.1 in
+          let few = no_further Tracked (ℕ × Event) (tracked_from w root) (tracked_turn u) who (shows u) IsAlike HasEnded
+          (are_threads u pays w root good) i p.run a
           p.ended in
           inl (been_prefix a b y p.more p.run p.is p.own few)
 
   -- a leaf is not one thread's in one run and another's in the other, if both have their own leaves in both
   module _ (a b : List ℕ) (i j : ℕ) (ne : i ≢ j) (own_a : (at a).own j ≡ j) (own_b : (at b).own i ≡ i) where
     parted : (fuel y : ℕ) → (at a).own y ≡ i → (at b).own y ≡ j → (rest : List ℕ) → Chain u y rest → length u.components ≤ fuel + length rest → ⊥
-    parted zero y in_a in_b rest chain enough = let short = chain_short u good.acyclic y rest chain in omega (arith, short, enough)
+    parted zero y in_a in_b rest chain enough = let short = chain_short u good.first.placed.acyclic y rest chain in omega (arith, short, enough)
     parted (suc fuel) y in_a in_b rest chain enough =
-        let over = (all_tracked u pays good a).owned.opened y (λ e. ne (sym own_b ∙ (ap (at b).own (sym in_a ∙ e) ∙ in_b))) in
-        let under = (all_tracked u pays good b).owned.opened y (λ e. ne (sym in_a ∙ (ap (at a).own (sym e ∙ in_b) ∙ own_a))) in
+        let over = (all_tracked u pays w root good a).owned.opened y (λ e. ne (sym own_b ∙ (ap (at b).own (sym in_a ∙ e) ∙ in_b))) in
+        let under = (all_tracked u pays w root good b).owned.opened y (λ e. ne (sym in_a ∙ (ap (at a).own (sym e ∙ in_b) ∙ own_a))) in
         let same : over.z ≡ under.z = one_start u y over.single over.n under.n over.z under.z over.starts under.starts in
         let up = starts_chain u over.n over.z y over.starts rest chain in
         let long = up.2 in

@@ -1,17 +1,18 @@
--- Scenarios without races: what outside `main` of a shared leaf stands first changes no own slot, what stands first anywhere reads no input, and what opens
--- sessions does so as its program is judged.
+-- Scenarios without races: what outside `main` of a shared leaf stands first changes no own slot, and what opens sessions does so as its program is judged.
+-- Without inputs what stands first anywhere reads none.
 use Rattle.std.proofs.Common.{◌≡◌, inl, inr, ℕ, zero, suc, ◌+◌, Bool, true, false, cond, ◌&&◌, not, List, [], ◌∷◌, ◌++◌}
 use Rattle.std.proofs.Common.{Some, refl, ap, sym, ◌∙◌, subst, arith}
 use Rattle.std.specs.Prelude.{slice_get}
-use Rattle.std.proofs.lemmas.Bool.{true≢false, or_left, or_parts, or_right, or_cases}
+use Rattle.std.proofs.lemmas.Bool.{true≢false, or_left, or_right, or_cases}
 use Rattle.gq_model.specs.declared.program.Instruction.{Instruction}
 use Rattle.gq_model.specs.declared.program.Instruction.TheVariants.{Open}
 use Rattle.gq_model.specs.declared.section.Section.{Section}
+use Rattle.gq_model.specs.declared.section.Section.TheVariants.{Main, Opening, Upgrading, Calling, Closing, Reacting}
 use Rattle.gq_model.specs.machine.Lists.{any_of}
 use Rattle.gq_model.specs.machine.Program.{Statements, Done, Do, If, Loop, size}
 use Rattle.gq_model.specs.machine.Routes.{server_of}
 use Rattle.gq_model.specs.machine.Scenario.{Scenario, System, Component, system}
-use Rattle.gq_model.specs.machine.Sections.{is_own_section}
+use Rattle.gq_model.specs.machine.Sections.{is_own_section, is_start_section}
 use Rattle.gq_model.specs.rules.Use.{opened_by, services_of, is_there}
 use Rattle.gq_model.proofs.Small_facts.{none_some, some_same, equal_self}
 use Rattle.gq_laws.specs.Shapes.{Each}
@@ -20,7 +21,7 @@ use Rattle.gq_laws.specs.internal.Remaining_instructions.{AllAre, IsGood}
 use Rattle.gq_laws.specs.internal.Uncounted.{uncounted}
 use Rattle.gq_laws.proofs.verified_programs.Sound_systems.{good_of}
 use Rattle.gq_races.specs.Races.{opens, opens_first, opens_later, is_shared, changes_own, reads_input, found_in, each_stated, stated_in, stated_of}
-use Rattle.gq_races.specs.Races.{stated_from, for_several, is_race, IsRaceFree}
+use Rattle.gq_races.specs.Races.{stated_from, for_several, is_race, is_input, IsInputFree, IsRaceFree}
 use Rattle.gq_determined.specs.internal.Threads.{is_unshared}
 use Rattle.gq_determined.proofs.thread_runs.Remaining_section_statements.{AreSections}
 use Rattle.gq_determined.proofs.thread_runs.Uncounted_uses.{shared_same}
@@ -42,14 +43,13 @@ KeepsAway test u x later i = later ≡ true → is_unshared u x ≡ false → te
 
 -- what each statement is, by its leaf and by whether it stands outside `main`
 abbrev pub IsFree : System → ℕ → Component → Bool → Instruction → Type 0
-IsFree u x c later i = KeepsAway changes_own u x later i × OpensThere u c later i × (reads_input i ≡ false)
+IsFree u x c later i = KeepsAway changes_own u x later i × OpensThere u c later i
 
-all_three : (P Q R : Instruction → Type 0) (s : Statements) → AllAre P s → AllAre Q s → AllAre R s → AllAre (λ i. P i × Q i × R i) s
-all_three P Q R Done h k l = tt
-all_three P Q R (Do i rest) h k l = ((h.0, k.0, l.0), all_three P Q R rest h.1 k.1 l.1)
-all_three P Q R (If arm other rest) h k l =
-    (all_three P Q R arm h.0 k.0 l.0, all_three P Q R other h.1 k.1 l.1, all_three P Q R rest h.2 k.2 l.2)
-all_three P Q R (Loop n body rest) h k l = (h.0, all_three P Q R body h.1 k.1 l.1, all_three P Q R rest h.2 k.2 l.2)
+all_two : (P Q : Instruction → Type 0) (s : Statements) → AllAre P s → AllAre Q s → AllAre (λ i. P i × Q i) s
+all_two P Q Done h k = tt
+all_two P Q (Do i rest) h k = ((h.0, k.0), all_two P Q rest h.1 k.1)
+all_two P Q (If arm other rest) h k = (all_two P Q arm h.0 k.0, all_two P Q other h.1 k.1, all_two P Q rest h.2 k.2)
+all_two P Q (Loop n body rest) h k = (h.0, all_two P Q body h.1 k.1, all_two P Q rest h.2 k.2)
 
 pub all_other : (P Q : Instruction → Type 0) → ((i : Instruction) → P i → Q i) → (s : Statements) → AllAre P s → AllAre Q s
 all_other P Q f Done h = tt
@@ -176,10 +176,10 @@ module _ (u : System) (x : ℕ) (c : Component) (G : Instruction → Type 0) whe
     sections_there rest g.1 (λ test e. among test (or_right (test p) (any_of test rest) e)),
   )
 
-each_three : (P Q R : Section × Statements → Type 0) (sections : List (Section × Statements)) → Each P sections → Each Q sections → Each R sections
-    → Each (λ p. P p × Q p × R p) sections
-each_three P Q R [] h k l = tt
-each_three P Q R (p ∷ rest) h k l = ((h.0, k.0, l.0), each_three P Q R rest h.1 k.1 l.1)
+each_two : (P Q : Section × Statements → Type 0) (sections : List (Section × Statements)) → Each P sections → Each Q sections
+    → Each (λ p. P p × Q p) sections
+each_two P Q [] h k = tt
+each_two P Q (p ∷ rest) h k = ((h.0, k.0), each_two P Q rest h.1 k.1)
 
 pub each_other : (P Q : Section × Statements → Type 0) → ((p : Section × Statements) → P p → Q p) → (sections : List (Section × Statements)) → Each P sections
     → Each Q sections
@@ -209,30 +209,32 @@ away_sections kind test less s sound none x c at =
     let u = uncounted (system s) in
     each_other _ (λ p. AllAre (KeepsAway test u x (not (is_own_section p.0))) p.1)
     (λ p h. all_other (λ i. kind (for_several (is_shared u x) p.0) i ≡ false) (KeepsAway test u x (not (is_own_section p.0))) (λ i q later single.
-    less i (ap (λ b. kind b i) (sym (several (is_shared u x) (not (is_own_section p.0)) later single)) ∙ q)) p.1 h)
+    less i (ap (λ b. kind b i) (sym (several (is_shared u x) p.0 later single)) ∙ q)) p.1 h)
     c.node.program.sections (none_sections kind s sound none x c at)
   where
-    several : (shared later : Bool) → later ≡ true → not shared ≡ false → (shared && later) ≡ true
-    several true later is single = is
-    several false later is single = absurd (true≢false single)
+    -- a section outside those of the leaf's own is not `main`
+    outside : (section : Section) → not (is_own_section section) ≡ true → not (is_start_section section) ≡ true
+    outside Main e = e
+    outside Opening e = refl
+    outside (Upgrading l) e = refl
+    outside (Calling l) e = refl
+    outside (Closing l) e = refl
+    outside (Reacting i) e = refl
 
--- nor reads an input anywhere
-pub unread_sections : (s : Scenario) → IsSound s → IsRaceFree s → AreSections (λ x c later i. reads_input i ≡ false) (uncounted (system s))
-unread_sections s sound none x c at =
-    each_other _ (λ p. AllAre (λ i. reads_input i ≡ false) p.1)
-    (λ p h. let several = for_several (is_shared (uncounted (system s)) x) p.0 in
-    all_other (λ i. is_race several i ≡ false) (λ i. reads_input i ≡ false) (λ i q. (or_parts (several && changes_own i) (reads_input i) q).1) p.1 h)
-    c.node.program.sections (none_sections is_race s sound none x c at)
+    several : (shared : Bool) (section : Section) → not (is_own_section section) ≡ true → not shared ≡ false → for_several shared section ≡ true
+    several true section is single = outside section is
+    several false section is single = absurd (true≢false single)
+
+-- of one whose leaves read no input
+pub unread_sections : (s : Scenario) → IsSound s → IsInputFree s → AreSections (λ x c later i. reads_input i ≡ false) (uncounted (system s))
+unread_sections s sound unread x c at = none_sections is_input s sound unread x c at
 
 pub free_sections : (s : Scenario) → IsSound s → IsRaceFree s → AreSections (IsFree (uncounted (system s))) (uncounted (system s))
 free_sections s sound none x c at =
     let u = uncounted (system s) in
     let sections = c.node.program.sections in
     each_other _ (λ p. AllAre (IsFree u x c (not (is_own_section p.0))) p.1)
-    (λ p h.
-    let b = not (is_own_section p.0) in all_three (KeepsAway changes_own u x b) (OpensThere u c b) (λ i. reads_input i ≡ false) p.1 h.0 h.1 h.2)
-    sections
-    (each_three (λ p. AllAre (KeepsAway changes_own u x (not (is_own_section p.0))) p.1) (λ p. AllAre (OpensThere u c (not (is_own_section p.0))) p.1)
-    (λ p. AllAre (λ i. reads_input i ≡ false) p.1) sections
-    (away_sections is_race changes_own (λ i e. (or_parts (changes_own i) (reads_input i) e).0) s sound none x c at)
-    (sections_there u x c (IsGood (system s) c) sections (good_of s sound x c at) (λ test e. e)) (unread_sections s sound none x c at))
+    (λ p h. let b = not (is_own_section p.0) in all_two (KeepsAway changes_own u x b) (OpensThere u c b) p.1 h.0 h.1) sections
+    (each_two (λ p. AllAre (KeepsAway changes_own u x (not (is_own_section p.0))) p.1) (λ p. AllAre (OpensThere u c (not (is_own_section p.0))) p.1) sections
+    (away_sections is_race changes_own (λ i e. e) s sound none x c at)
+    (sections_there u x c (IsGood (system s) c) sections (good_of s sound x c at) (λ test e. e)))

@@ -1,27 +1,28 @@
 -- Each step keeps it that sessions stand in slots that suit their servers, where each session that a statement opens does.
-use Rattle.std.proofs.Common.{◌≡◌, ℕ, suc, inl, inr, List, [], ◌∷◌, Option, Some, None, Ok, refl, ap, sym, ◌∙◌}
+use Rattle.std.proofs.Common.{◌≡◌, ℕ, zero, suc, inl, inr, List, [], ◌∷◌, Option, Some, None, Ok, refl, ap, sym, ◌∙◌}
 use Rattle.std.proofs.Common.{subst}
 use Rattle.std.specs.Prelude.{slice_get, slice_set}
 use Rattle.std.proofs.lemmas.Bool.Decides.{eqb_tells}
-use Rattle.gq_model.specs.declared.fault.Wrong.TheVariants.{WrongKind, ExceededQuota}
+use Rattle.gq_model.specs.declared.fault.Wrong.TheVariants.{WrongKind, ExceededQuota, MissingSection}
 use Rattle.gq_model.specs.declared.phase.Phase.{Phase}
 use Rattle.gq_model.specs.declared.phase.Phase.TheVariants.{Pending, Running, Blocked, Serving, Handling, Exited}
 use Rattle.gq_model.specs.declared.program.Instruction.{Instruction}
 use Rattle.gq_model.specs.declared.program.Instruction.TheVariants.{Open}
 use Rattle.gq_model.specs.declared.program.OperandSlot.{OperandSlot}
 use Rattle.gq_model.specs.machine.Amounts.{amount}
-use Rattle.gq_model.specs.machine.Program.{Statements, Done, Do, If, Loop}
+use Rattle.gq_model.specs.declared.section.Section.TheVariants.{Reacting}
+use Rattle.gq_model.specs.machine.Program.{Statements, Done, Do, If, Loop, section_in}
 use Rattle.gq_model.specs.machine.Scenario.{System, Component, interface_in, open_caps}
 use Rattle.gq_model.specs.machine.Routes.{server_of}
 use Rattle.gq_model.specs.machine.World.{Slot, Waiting, SlotId, In_leaf, In_session, In_object, Session, Ask, Ask_open, Ask_upgrade, Ask_close, Ask_call}
 use Rattle.gq_model.specs.machine.World.{Request}
-use Rattle.gq_model.specs.machine.World.{Current, Round, Leaf, World, joined, session_at, slot_at, slot_id_of, with_leaf, with_session, with_slot}
+use Rattle.gq_model.specs.machine.World.{Current, Signal, Round, Leaf, World, joined, session_at, slot_at, slot_id_of, with_leaf, with_session, with_slot}
 use Rattle.gq_model.specs.machine.World.{put_leaf_slot, put_session_slot, put_object}
 use Rattle.gq_model.specs.machine.Doing.{Doing, Event, Idle, Quiet, Finished, standing, settled}
 use Rattle.gq_model.specs.machine.Sums.{paid, with_peaks}
 use Rattle.gq_model.specs.machine.Requests.{add_session, free_place, new_session, asked, open_session, upgrade}
 use Rattle.gq_model.specs.machine.Step.{instruct, oldest, accept, accepted_as, serving, active_again, unblocked, exit_of, main_ended, section_ended}
-use Rattle.gq_model.specs.machine.Step.{body_ended, perform, accept_oldest, step_in, step_of, next}
+use Rattle.gq_model.specs.machine.Step.{body_ended, perform, accept_oldest, first_signal, reacting_to, serve, step_in, step_of, next}
 use Rattle.gq_model.proofs.Small_facts.{some_same, none_some}
 use Rattle.gq_laws.proofs.step_shapes.Step_end_shapes.{Ends, gives, need_ends, need_found, when_ends, pop_ends, link_in_found, fill_ends}
 use Rattle.gq_laws.proofs.session_links.Written_world_links.{set_else, session_here, session_else}
@@ -139,15 +140,17 @@ module _ (Suits : SlotId → ℕ → ℕ → Type 0) where
         (λ w operands hw. record { at = hw.at }) (λ w requests hw. record { at = hw.at }) same_settled i
         (λ place service n e. open_suits place service n (subst (OpensSuited d) e own)) (λ place n e. upgrade_suits place n)
 
-    main_suits : (provides : Option (List ℕ)) → Ends AllSuit (main_ended d provides)
-    main_suits (Some service) = gives (standing d (serving d.leaf)) Quiet (stands (serving d.leaf))
-    main_suits None = when_ends AllSuit _ _ _ (gives (exit_of d) Finished (record { at = h.at }))
+    main_suits : (provides : Option (List ℕ)) (signals : ℕ) → Ends AllSuit (main_ended d provides signals)
+    main_suits (Some service) signals = gives (standing d (serving d.leaf)) Quiet (stands (serving d.leaf))
+    main_suits None (suc n) = gives (standing d (serving d.leaf)) Quiet (stands (serving d.leaf))
+    main_suits None zero = when_ends AllSuit _ _ _ (gives (exit_of d) Finished (record { at = h.at }))
 
-    section_suits : (current : Option Current) → Ends AllSuit (section_ended d current)
-    section_suits current = section_by d AllSuit suits_slot (stands (serving d.leaf)) suits_active suits_gone (main_suits d.component.node.provides) current
+    section_suits : (current : Option Current) (reacting : Option ℕ) → Ends AllSuit (section_ended d current reacting)
+    section_suits current reacting = section_by d AllSuit suits_slot (stands (serving d.leaf)) suits_active suits_gone
+        (main_suits d.component.node.provides d.component.node.signals) current reacting
 
     body_suits : (loops : List Round) → Ends AllSuit (body_ended d loops)
-    body_suits [] = section_suits d.leaf.current
+    body_suits [] = section_suits d.leaf.current d.leaf.reacting
     body_suits (r ∷ loops) = gives _ Quiet (stands _)
 
     accept_suits : (r : Request) (rest : List Request) → Ends AllSuit (accept d r rest)
@@ -176,11 +179,16 @@ module _ (Suits : SlotId → ℕ → ℕ → Type 0) where
   step_suits d h first Pending = gives d.world Idle h
   step_suits d h first Running = perform_suits d h d.leaf.todo first
   step_suits d h first Blocked = gives d.world Idle h
-  step_suits d h first Serving = by (oldest d.world d.x d.world.requests)
+  step_suits d h first Serving = served (first_signal d.leaf.signals)
     where
       by : (found : Option (Request × List Request)) → Ends AllSuit (accept_oldest d found)
       by None = gives d.world Idle h
       by (Some p) = accept_suits d h p.0 p.1
+
+      served : (signal : Option (ℕ × List Signal)) → Ends AllSuit (serve d signal)
+      served None = by (oldest d.world d.x d.world.requests)
+      served (Some p) = need_ends AllSuit (section_in (Reacting p.0) d.component.node.program.sections) MissingSection _
+          (λ body. gives (standing d (reacting_to d.leaf p.0 p.1 body)) Quiet (stands d h (reacting_to d.leaf p.0 p.1 body)))
   step_suits d h first Handling = perform_suits d h d.leaf.todo first
   step_suits d h first Exited = gives d.world Idle h
 

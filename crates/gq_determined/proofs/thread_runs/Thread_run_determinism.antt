@@ -1,22 +1,22 @@
 -- Runs in which no shared leaf changes its own slots outside `main`: what a thread has and shows depends on its own steps alone.
 use Rattle.std.proofs.Common.{◌≡◌, ◌≢◌, ◌⊎◌, ℕ, zero, suc, ◌==◌, ◌++◌, inl, inr, Bool, true, false, List, [], ◌∷◌, Option, Some, None, Ok, is_some}
 use Rattle.gq_model.specs.declared.phase.Phase.{Phase}
-use Rattle.gq_model.specs.declared.phase.Phase.TheVariants.{Serving}
 use Rattle.std.proofs.Common.{refl, ap, sym, ◌∙◌, subst}
-use Rattle.std.specs.Prelude.{slice_get}
+use Rattle.std.specs.Prelude.{replicate, slice_get}
 use Rattle.std.proofs.lemmas.Bool.{true≢false}
 use Rattle.std.proofs.lemmas.Bool.Decides.{eqb_tells}
 use Rattle.gq_model.specs.machine.Scenario.{System, Component}
 use Rattle.gq_model.specs.machine.World.{Waiting, SlotId, In_leaf, In_session, In_object, Current, Leaf, World, start_leaves, start, slot_at, leaf_slot}
 use Rattle.gq_model.specs.machine.Sums.{paid}
 use Rattle.gq_model.specs.machine.Doing.{Event}
-use Rattle.gq_model.specs.machine.Step.{next}
-use Rattle.gq_model.proofs.Small_facts.{none_some, equal_self}
+use Rattle.gq_model.specs.machine.Step.{later_signal, first_signal, next}
+use Rattle.gq_model.proofs.Small_facts.{none_some, some_same, equal_self}
 use Rattle.gq_laws.specs.Session_links.{stance, stance_in}
 use Rattle.gq_laws.proofs.session_links.Asked_request_changes.{same_current}
 use Rattle.gq_laws.proofs.session_links.Linked_worlds.{start_linked}
-use Rattle.gq_determined.specs.internal.Threads.{is_unshared, Tracked, who, who_of, stepped_to, given, first_by, ready, turn_for, tracked_turn, tracked_start}
-use Rattle.gq_determined.specs.internal.Threads.{events_of, shows, works, IsSameThread, IsAlike, HasEnded}
+use Rattle.gq_determined.specs.internal.Threads.{is_unshared, Tracked, who, who_of, stepped_to, given, first_by, ready, turn_for, tracked_from, tracked_turn}
+use Rattle.gq_determined.specs.internal.Threads.{tracked_start}
+use Rattle.gq_determined.specs.internal.Threads.{Accepts, events_of, shows, works, IsSameThread, IsAlike, HasEnded}
 use Rattle.gq_determined.specs.internal.Thread_machines.{is_for}
 use Rattle.gq_determined.proofs.machines.By_threads.{after, shown, AreThreads, agree_ended, prefixes}
 use Rattle.gq_determined.proofs.regions.Outside_region_kept.{empty_waits}
@@ -25,7 +25,7 @@ use Rattle.gq_determined.proofs.thread_runs.Suitable_session_slots.{kept_suited}
 use Rattle.gq_determined.proofs.thread_runs.Opened_session_owner.{FirstOpens, firsts_opened}
 use Rattle.gq_model.specs.rules.Resolve.{cycle_fault}
 use Rattle.gq_determined.proofs.thread_positions.Turn_thread_position.{IsWorking, ServesSame, is_equal, same_place, lives_who}
-use Rattle.gq_determined.proofs.thread_positions.First_request_given.{serving_else, serving_who, given_tracked, who_same, same_works, own_else, own_x, own_new}
+use Rattle.gq_determined.proofs.thread_positions.First_request_given.{serving_else, serving_who, given_tracked, who_same, same_works, own_else, own_new}
 use Rattle.gq_determined.proofs.thread_positions.First_request_given.{x_else}
 use Rattle.gq_determined.proofs.thread_positions.First_request_given.{own_else_back, own_from, own_moves, own_stays, given_left, given_right}
 use Rattle.gq_determined.proofs.thread_positions.Thread_step_ready.{Readies, readies, BothReady, both_ready}
@@ -33,7 +33,7 @@ use Rattle.gq_determined.proofs.thread_steps.Thread_reflexivity.{thread_itself}
 use Rattle.gq_determined.proofs.thread_steps.Own_steps.{for_working, for_serving}
 use Rattle.gq_determined.proofs.thread_steps.Tracked_step_world.{still_tracked}
 use Rattle.gq_determined.proofs.thread_steps.Thread_step_frame.{same_else, unseen_left, unseen_right}
-use Rattle.gq_determined.proofs.thread_steps.Stateless_thread_agreement.{IsStateless, still_of, reads_none, Solo, solo}
+use Rattle.gq_determined.proofs.thread_steps.Stateless_thread_agreement.{IsStateless, ReadSame, still_of, Solo, solo}
 use Rattle.gq_determined.proofs.thread_steps.Paired_thread_step.{ended_of, go, same_after}
 
 -- THE START
@@ -42,6 +42,17 @@ start_waits : (cs : List Component) (y a k : ℕ) → leaf_slot (slice_get (star
 start_waits [] y a k e = none_some e
 start_waits (c ∷ cs) zero a k e = empty_waits 64 a k e
 start_waits (c ∷ cs) (suc y) a k e = start_waits cs y a k e
+
+none_submitted : (n : ℕ) → first_signal (replicate n (record { submitted = false; taken = 0 })) ≡ None
+none_submitted zero = refl
+none_submitted (suc n) = ap (later_signal (record { submitted = false; taken = 0 })) (none_submitted n)
+
+-- no signal is submitted
+pub start_unflagged : (cs : List Component) (y : ℕ) (l : Leaf) → slice_get (start_leaves cs) y ≡ Some l → is_some (first_signal l.signals) ≡ false
+start_unflagged [] y l e = absurd (none_some e)
+start_unflagged (c ∷ cs) zero l e =
+    ap (λ (l : Leaf). is_some (first_signal l.signals)) (sym (some_same e)) ∙ ap is_some (none_submitted c.node.signals)
+start_unflagged (c ∷ cs) (suc y) l e = start_unflagged cs y l e
 
 pub start_tracked : (u : System) → cycle_fault u 0 u.components ≡ None → IsTracked u (tracked_start u)
 start_tracked u acyclic = record {
@@ -54,6 +65,7 @@ start_tracked u acyclic = record {
     lives = λ k s e. absurd (none_some e);
     main = λ y phase at act. refl;
     held = λ y phase q at ne. absurd (ne refl);
+    signals = λ y l at flag. absurd (true≢false (sym flag ∙ start_unflagged u.components y l at));
   };
   stands = λ k s e. absurd (none_some e);
   owned = record { opened = λ x ne. absurd (ne refl); whole = λ x. refl };
@@ -70,18 +82,21 @@ start_tracked u acyclic = record {
     start_idle (c ∷ cs) zero phase q e = none_some (same_current e)
     start_idle (c ∷ cs) (suc y) phase q e = start_idle cs y phase q e
 
-module _ (u : System) (pays : (z : World) → paid u z ≡ true) where
+-- from a world on, with the threads of its sessions
+module _ (u : System) (pays : (z : World) → paid u z ≡ true) (w : World) (root : ℕ → ℕ) where
   -- the world after turns of leaves, of which the last comes first
   abbrev pub tracked : List ℕ → Tracked
-  tracked = after Tracked (ℕ × Event) (tracked_start u) (tracked_turn u) who (shows u)
+  tracked = after Tracked (ℕ × Event) (tracked_from w root) (tracked_turn u) who (shows u)
 
   -- in each world that turns lead to every leaf can take its turn, there is a component for each leaf, outside `main` of a shared leaf no own slot is changed
-  -- next, and what is opened next is opened so by the program; and no leaf reaches itself by uses
+  -- next, and what is opened next is opened so by the program; what is read beside threads is the same in all of them; and what is tracked fits the
+  -- first world
   pub record AreGood : Type 0 where
-    pub acyclic : cycle_fault u 0 u.components ≡ None
+    pub first : IsTracked u (tracked_from w root)
     pub goes : (a : List ℕ) (x : ℕ) → (p : World × Event) × (next u (tracked a).world x ≡ Ok p)
     pub placed : (a : List ℕ) (x : ℕ) (leaf : Leaf) → slice_get (tracked a).world.leaves x ≡ Some leaf → (c : Component) × (slice_get u.components x ≡ Some c)
     pub stateless : (a : List ℕ) → IsStateless u (tracked a).world
+    pub reads : (a b : List ℕ) → ReadSame (tracked a).world (tracked b).world
     pub opens : (a : List ℕ) (x : ℕ) (c : Component) (leaf : Leaf) → slice_get u.components x ≡ Some c → slice_get (tracked a).world.leaves x ≡ Some leaf
         → FirstOpens u c (is_some leaf.current) leaf.todo
 
@@ -115,8 +130,8 @@ module _ (u : System) (pays : (z : World) → paid u z ≡ true) where
       pub tracks : IsTracked u (given g x i o)
       pub is : who (given g x i o) x ≡ Some i
       pub works_same : (j y : ℕ) → works (given g x i o) j y ≡ works g j y
-      pub taken : (leaf : Leaf) → slice_get g.world.leaves x ≡ Some leaf → is_unshared u x ≡ true → leaf.phase ≡ Serving → (given g x i o).own x ≢ x
-      pub own_taken : (leaf : Leaf) → slice_get g.world.leaves x ≡ Some leaf → leaf.phase ≡ Serving → (given g x i o).own x ≢ x → (given g x i o).own x ≡ i
+      pub taken : (leaf : Leaf) → slice_get g.world.leaves x ≡ Some leaf → is_unshared u x ≡ true → Accepts leaf → (given g x i o).own x ≢ x
+      pub own_taken : (leaf : Leaf) → slice_get g.world.leaves x ≡ Some leaf → Accepts leaf → (given g x i o).own x ≢ x → (given g x i o).own x ≡ i
       -- another thread is the same, or becomes this one's
       pub own_back : (j y : ℕ) → j ≢ i → (given g x i o).own y ≡ j → g.own y ≡ j
       pub left : (j : ℕ) → j ≢ i → (given g x i o).own j ≡ j → (h : Tracked) → IsSameThread j g h → IsSameThread j (given g x i o) h
@@ -163,7 +178,7 @@ module _ (u : System) (pays : (z : World) → paid u z ≡ true) where
         }
 
     pub all_tracked : (a : List ℕ) → IsTracked u (tracked a)
-    all_tracked [] = start_tracked u good.acyclic
+    all_tracked [] = good.first
     all_tracked (x ∷ a) = by (all_tracked a) (who (tracked a) x) refl
       where
         by : IsTracked u (tracked a) → (o : Option ℕ) → who (tracked a) x ≡ o → IsTracked u (tracked (x ∷ a))
@@ -267,7 +282,7 @@ module _ (u : System) (pays : (z : World) → paid u z ≡ true) where
         by (inl w) = (for_working u pays g g t t i x (thread_itself i g) (λ ne. thread_itself (g.own x) g) (component_of a x i is).0 w.0.at.leaf w.0.at.leaf
             w.0.at.there w.0.at.there w.0).root_works
         by (inr w) = (for_serving u pays g g t t i x (thread_itself i g) (λ ne. thread_itself (g.own x) g) (component_of a x i is).0 w.first.leaf w.first.leaf
-            w.first.there w.first.there w).root_works
+            w.first.there w.first.there w refl).root_works
 
     -- A TURN FOR THE THREAD IN BOTH
 
@@ -297,14 +312,14 @@ module _ (u : System) (pays : (z : World) → paid u z ≡ true) where
         let rh = ready_at b x i is_b in
         let both = both_before i a b x is is_b s ends in
         let r = go u pays g h rg.tracks.placed rh.tracks.placed (still_of u g rg.tracks (good.stateless a)) (still_of u h rh.tracks (good.stateless b))
-        (reads_none u g.world h.world (good.stateless a)) i x both.thread both.leaf rg.is rh.is c.0 c.1 p.0.0 p.0.1 p.1 in
+        (good.reads a b) i x both.thread both.leaf rg.is rh.is c.0 c.1 p.0.0 p.0.1 p.1 in
         let after_b : tracked (x ∷ b) ≡ stepped_to h x i (Ok (r.goes.other_new, p.0.1))
         = ap (turn_for u (tracked b) x) is_b ∙ ap (stepped_to h x i) r.goes.goes in (
           subst (λ g. IsSameThread i g (tracked (x ∷ b))) (sym (turn_is a x i is))
               (subst (IsSameThread i (stepped_to g x i (Ok p.0))) (sym after_b)
               (same_after u pays g h rg.tracks.placed rh.tracks.placed (still_of u g rg.tracks (good.stateless a))
               (still_of u h rh.tracks (good.stateless b))
-              (reads_none u g.world h.world (good.stateless a)) i x both.thread both.leaf rg.is rh.is c.0 c.1 p.0.0 p.0.1
+              (good.reads a b) i x both.thread both.leaf rg.is rh.is c.0 c.1 p.0.0 p.0.1
               p.1 r)),
           ap (events_of x) p.1 ∙ sym (ap (events_of x) r.goes.goes),
         )
@@ -328,9 +343,9 @@ module _ (u : System) (pays : (z : World) → paid u z ≡ true) where
 
     -- THREADS DEPEND ON THEMSELVES ALONE
 
-    pub are_threads : AreThreads Tracked (ℕ × Event) (tracked_start u) (tracked_turn u) who (shows u) IsAlike HasEnded
+    pub are_threads : AreThreads Tracked (ℕ × Event) (tracked_from w root) (tracked_turn u) who (shows u) IsAlike HasEnded
     are_threads = record {
-      begins = λ i. record { main = refl; whole = λ own own_b. thread_itself i (tracked_start u) };
+      begins = λ i. record { main = refl; whole = λ own own_b. thread_itself i (tracked_from w root) };
       left = left;
       right = right;
       own = own;
@@ -341,7 +356,7 @@ module _ (u : System) (pays : (z : World) → paid u z ≡ true) where
 
     -- what a thread shows in these turns: the leaves that took steps for it, and what each wrote
     abbrev pub shown_by : ℕ → List ℕ → List (ℕ × Event)
-    shown_by = shown Tracked (ℕ × Event) (tracked_start u) (tracked_turn u) who (shows u)
+    shown_by = shown Tracked (ℕ × Event) (tracked_from w root) (tracked_turn u) who (shows u)
 
     -- THREADS THAT HAVE BECOME OTHERS'
 
@@ -393,7 +408,7 @@ module _ (u : System) (pays : (z : World) → paid u z ≡ true) where
     -- a thread that has ended in two runs has the same in both, and has shown the same
     pub same_end : (i : ℕ) (a b : List ℕ) → HasEnded i (tracked a) → HasEnded i (tracked b)
         → IsAlike i (tracked a) (tracked b) × (shown_by i a ≡ shown_by i b)
-    same_end = agree_ended Tracked (ℕ × Event) (tracked_start u) (tracked_turn u) who (shows u) IsAlike HasEnded are_threads
+    same_end = agree_ended Tracked (ℕ × Event) (tracked_from w root) (tracked_turn u) who (shows u) IsAlike HasEnded are_threads
 
     -- where all have ended in two runs, the same threads have their own leaves
     module _ (a b : List ℕ) (end : (i : ℕ) → HasEnded i (tracked a)) (end_b : (i : ℕ) → HasEnded i (tracked b)) (i : ℕ) (own : (tracked a).own i ≡ i) where
@@ -421,4 +436,4 @@ module _ (u : System) (pays : (z : World) → paid u z ≡ true) where
     -- in any two runs it shows in one a prefix of what it shows in the other
     pub same_prefixes : (i : ℕ) (a b : List ℕ)
         → ((rest : List (ℕ × Event)) × (shown_by i b ≡ shown_by i a ++ rest)) ⊎ ((rest : List (ℕ × Event)) × (shown_by i a ≡ shown_by i b ++ rest))
-    same_prefixes = prefixes Tracked (ℕ × Event) (tracked_start u) (tracked_turn u) who (shows u) IsAlike HasEnded are_threads
+    same_prefixes = prefixes Tracked (ℕ × Event) (tracked_from w root) (tracked_turn u) who (shows u) IsAlike HasEnded are_threads

@@ -1,25 +1,25 @@
 -- A step for a thread that has the same in two worlds.
 use Rattle.std.proofs.Common.{◌≡◌, ◌≢◌, ◌⊎◌, ℕ, suc, ◌==◌, ◌&&◌, ◌||◌, inl, inr, Bool, true, false, cond, List, [], ◌∷◌, map, Option, Some, None, Ok}
 use Rattle.std.proofs.Common.{refl, ap, sym, ◌∙◌, subst}
-use Rattle.std.specs.Prelude.{option_map, slice_get}
+use Rattle.std.specs.Prelude.{is_some, option_map, slice_get}
 use Rattle.std.proofs.lemmas.Bool.{true≢false}
 use Rattle.std.proofs.lemmas.Bool.Decides.{eqb_tells}
 use Rattle.gq_model.specs.declared.phase.Phase.TheVariants.{Running, Blocked, Serving, Handling}
 use Rattle.gq_model.specs.machine.Scenario.{System, Component}
-use Rattle.gq_model.specs.machine.World.{SlotId, In_leaf, In_session, In_object, Session, Request, Current, Leaf, World, session_at}
+use Rattle.gq_model.specs.machine.World.{SlotId, In_leaf, In_session, In_object, Session, Request, Current, Signal, Leaf, World, session_at}
 use Rattle.gq_model.specs.machine.Sums.{paid}
 use Rattle.gq_model.specs.machine.Doing.{Doing, Event}
 use Rattle.gq_model.specs.machine.Requests.{free_place}
-use Rattle.gq_model.specs.machine.Step.{oldest, accept, accept_oldest, step_in, step_of, next}
+use Rattle.gq_model.specs.machine.Step.{oldest, accept, accept_oldest, first_signal, take_signal, serve, step_in, step_of, next}
 use Rattle.gq_model.proofs.Small_facts.{none_some, some_same, equal_self}
 use Rattle.gq_laws.specs.Shapes.{Each}
 use Rattle.gq_laws.specs.Inside_steps.{TakesLeaf}
 use Rattle.gq_laws.specs.Session_links.{stance, stance_in, outline, outline_in, links, Belongs, Fits, IsAsked}
 use Rattle.gq_laws.proofs.session_links.Asked_request_changes.{same_phase, same_current}
 use Rattle.gq_laws.proofs.Outside_step_untouched.{free_none, outlined}
-use Rattle.gq_laws.specs.Renamed.{renamed_slot, renamed_leaf}
-use Rattle.gq_determined.specs.internal.Threads.{Tracked, thread_by, anew, works, works_for, is_active, among, slots_of, seen, seen_by, IsAtSame, IsSameRegion}
-use Rattle.gq_determined.specs.internal.Threads.{IsSameThread}
+use Rattle.gq_laws.specs.Renamed.{renamed_current, renamed_slot, renamed_leaf}
+use Rattle.gq_determined.specs.internal.Threads.{Tracked, thread_by, anew, works, works_for, among, slots_of, seen, seen_by, IsAtSame, IsSameRegion}
+use Rattle.gq_determined.specs.internal.Threads.{Accepts, has_work, IsSameThread}
 use Rattle.gq_determined.proofs.passing_threads.Kept_by_steps.{Aside, other_doing}
 use Rattle.gq_determined.proofs.passing_threads.Kept_around.{AreTaken, Match, FirstAllowed, both_step}
 use Rattle.gq_determined.proofs.regions.Outside_region_kept.{else_first}
@@ -28,7 +28,7 @@ use Rattle.gq_determined.proofs.regions.Related_around.{IsOne, kept_around}
 use Rattle.gq_determined.proofs.thread_positions.Single_thread_position.{root_at, IsPlaced, IsWaiting, IsHandled, handled, IsFirst, HasParent, above}
 use Rattle.gq_determined.proofs.thread_positions.Single_thread_position.{root_waits}
 use Rattle.gq_determined.proofs.regions.Renamed_regions.{region_renamed, region_roots, at_renamed}
-use Rattle.gq_determined.proofs.thread_positions.Turn_thread_position.{IsWorking, ServesSame, taken_there, works_at, requested}
+use Rattle.gq_determined.proofs.thread_positions.Turn_thread_position.{Goes_on, Steps, IsWorking, ServesSame, own_at, taken_there, works_at, requested}
 
 -- anew does not touch other numbers
 pub anew_else : (f : ℕ → ℕ) (k a j : ℕ) → j ≢ k → anew f k a j ≡ f j
@@ -59,16 +59,33 @@ each_asked w P f (r ∷ rs) each =
 abbrev plain : Leaf → Leaf
 plain l = record l { slots = []; peaks = []; steps = 0; inputs = [] }
 
-seen_plain : (l : Leaf) → (l.phase ≡ Running) ⊎ (l.phase ≡ Handling) → seen l ≡ plain l
+seen_plain : (l : Leaf) → Goes_on l.phase → seen l ≡ plain l
 seen_plain l (inl e) = ap (λ p. seen_by p l) e ∙ (λ j. record (plain l) { phase = sym e j })
 seen_plain l (inr e) = ap (λ p. seen_by p l) e ∙ (λ j. record (plain l) { phase = sym e j })
 
--- a leaf that takes up a request keeps its slots, peaks, steps and inputs alone
+-- a leaf that takes up a request keeps its slots, peaks, steps, inputs and signals, and what it reacts to, alone
 accept_leaf : (d : Doing) (l : Leaf) (o : Option (Request × List Request)) → l.slots ≡ d.leaf.slots → l.peaks ≡ d.leaf.peaks → l.steps ≡ d.leaf.steps
-    → l.inputs ≡ d.leaf.inputs → accept_oldest (record d { leaf = l }) o ≡ accept_oldest d o
-accept_leaf d l None slots peaks steps inputs = refl
-accept_leaf d l (Some p) slots peaks steps inputs =
-    λ j. accept (record d { leaf = record d.leaf { slots = slots j; peaks = peaks j; steps = steps j; inputs = inputs j } }) p.0 p.1
+    → l.inputs ≡ d.leaf.inputs → l.reacting ≡ d.leaf.reacting → l.signals ≡ d.leaf.signals
+    → accept_oldest (record d { leaf = l }) o ≡ accept_oldest d o
+accept_leaf d l None slots peaks steps inputs reacting signals = refl
+accept_leaf d l (Some p) slots peaks steps inputs reacting signals =
+    λ j. accept (record d {
+      leaf = record d.leaf { slots = slots j; peaks = peaks j; steps = steps j; inputs = inputs j; reacting = reacting j; signals = signals j };
+    }) p.0 p.1
+
+-- one that takes a signal keeps its slots, peaks, steps and inputs, and what is current, alone
+signal_leaf : (d : Doing) (l : Leaf) (p : ℕ × List Signal) → l.slots ≡ d.leaf.slots → l.peaks ≡ d.leaf.peaks → l.steps ≡ d.leaf.steps
+    → l.inputs ≡ d.leaf.inputs → l.current ≡ d.leaf.current → take_signal (record d { leaf = l }) p.0 p.1 ≡ take_signal d p.0 p.1
+signal_leaf d l p slots peaks steps inputs current =
+    λ j. take_signal (record d {
+      leaf = record d.leaf { slots = slots j; peaks = peaks j; steps = steps j; inputs = inputs j; current = current j };
+    }) p.0 p.1
+
+serving_running : Running ≡ Serving → ⊥
+serving_running e = cc
+
+serving_handling : Handling ≡ Serving → ⊥
+serving_handling e = cc
 
 module _ (u : System) (pays : (z : World) → paid u z ≡ true) (g h : Tracked) (t : IsPlaced u g) (th : IsPlaced u h) (i x : ℕ)
     (s : IsSameThread i g h) (sx : g.own x ≢ i → IsSameThread (g.own x) g h) (component : Component) (a b : Leaf)
@@ -180,7 +197,7 @@ module _ (u : System) (pays : (z : World) → paid u z ≡ true) (g h : Tracked)
   pub record IsFor : Type 0 where
     pub active : a.phase ≡ Blocked → ⊥
     pub current : (q : Current) → a.current ≡ Some q → g.root q.session ≡ i
-    pub main : a.current ≡ None → (a.phase ≡ Serving → ⊥) → g.own x ≡ i
+    pub main : a.current ≡ None → (Accepts a → ⊥) → g.own x ≡ i
     pub root_works : works g i i ≡ true
     pub at : IsAtSame f x g.world h.world
 
@@ -231,7 +248,7 @@ module _ (u : System) (pays : (z : World) → paid u z ≡ true) (g h : Tracked)
             by (Some l) e =
                 let phase : l.phase ≡ Blocked = same_phase e in
                 let currents : l.current ≡ current = same_current e in
-                ap (λ p. is_active p && (thread_by g.root y l.current == i)) phase
+                ap (λ p. has_work p (first_signal l.signals) && (thread_by g.root y l.current == i)) phase
                 ∙ (ap (λ n. n == i) (ap (thread_by g.root y) currents ∙ is) ∙ equal_self i)
 
         works_client : works g i s.client ≡ true
@@ -248,7 +265,7 @@ module _ (u : System) (pays : (z : World) → paid u z ≡ true) (g h : Tracked)
                 ∙ works_so p.waiting.session.client (Some p.parent) p.at (sym p.root ∙ o.current q at)
 
     takes : TakesLeaf d
-    takes = record { old = a; there = there; slots = refl; phase = refl; current = refl }
+    takes = record { old = a; there = there; slots = refl; phase = refl; current = refl; reacting = refl }
 
     before : (aside : Aside) → IsBefore f aside d h.world i g.own root other c
     before aside = record {
@@ -279,7 +296,7 @@ module _ (u : System) (pays : (z : World) → paid u z ≡ true) (g h : Tracked)
       by (Some l) e =
           let phase : l.phase ≡ Blocked = same_phase e in
           let currents : l.current ≡ current = same_current e in
-          ap (λ p. is_active p && (thread_by g.root y l.current == i)) phase
+          ap (λ p. has_work p (first_signal l.signals) && (thread_by g.root y l.current == i)) phase
           ∙ (ap (λ n. n == i) (ap (thread_by g.root y) currents ∙ is) ∙ equal_self i)
 
   root_alive : (k : ℕ) → g.root k ≡ i → IsWaiting u g t k → works g i i ≡ true
@@ -292,6 +309,17 @@ module _ (u : System) (pays : (z : World) → paid u z ≡ true) (g h : Tracked)
   serving_blocked : Serving ≡ Blocked → ⊥
   serving_blocked e = cc
 
+  -- nothing is current at a leaf that serves
+  none_current : (current : Option Current) → Fits Serving current → current ≡ None
+  none_current None f = refl
+  none_current (Some q) f = absurd f
+
+  idle_a : a.phase ≡ Serving → a.current ≡ None
+  idle_a p = none_current a.current (subst (λ p. Fits p a.current) p (t.linked.fits x (stance a.phase a.current) (ap stance_in there)))
+
+  idle_b : b.phase ≡ Serving → b.current ≡ None
+  idle_b p = none_current b.current (subst (λ p. Fits p b.current) p (th.linked.fits x (stance b.phase b.current) (ap stance_in there_h)))
+
   pub for_working : IsWorking g i x → IsFor
   for_working w =
       let same : w.at.leaf ≡ a = some_same (sym w.at.there ∙ there) in
@@ -299,8 +327,8 @@ module _ (u : System) (pays : (z : World) → paid u z ≡ true) (g h : Tracked)
       record {
         active = λ b. w.at.goes (ap (λ (l : Leaf). l.phase) same ∙ b);
         current = λ q at. sym (ap (thread_by g.root x) at) ∙ thread;
-        main = λ none busy. t.main x a.phase (ap stance_in there ∙ ap (λ o. Some (stance a.phase o)) none)
-            (ap (λ (l : Leaf). is_active l.phase) (sym same) ∙ w.at.is_active) ∙ (sym (ap (thread_by g.root x) none) ∙ thread);
+        main = λ none busy. own_at u g t x a there none (ap (λ (l : Leaf). has_work l.phase (first_signal l.signals)) (sym same) ∙ w.at.has_work)
+            ∙ (sym (ap (thread_by g.root x) none) ∙ thread);
         root_works = by a.current refl thread;
         at = at_works x (works_at g i x w.at);
       }
@@ -310,8 +338,8 @@ module _ (u : System) (pays : (z : World) → paid u z ≡ true) (g h : Tracked)
       by (Some q) e is =
           root_alive q.session is (handled u g t x a.phase q (ap stance_in there ∙ ap (λ o. Some (stance a.phase o)) e)).waiting
 
-  pub for_serving : (p : ServesSame u g h t th i s x) → IsFor
-  for_serving p =
+  pub for_serving : (p : ServesSame u g h t th i s x) → b.signals ≡ a.signals → IsFor
+  for_serving p signals =
       let same : p.first.leaf ≡ a = some_same (sym p.first.there ∙ there) in
       let same_h : p.other.leaf ≡ b = some_same (sym p.other.there ∙ there_h) in
       let phase : a.phase ≡ Serving = ap (λ (l : Leaf). l.phase) (sym same) ∙ p.first.serves in
@@ -320,9 +348,16 @@ module _ (u : System) (pays : (z : World) → paid u z ≡ true) (g h : Tracked)
         active = λ b. serving_blocked (sym phase ∙ b);
         current = λ q at. absurd (fits_serving a.current (subst (λ p. Fits p a.current) phase
             (t.linked.fits x (stance a.phase a.current) (ap stance_in there))) q at);
-        main = λ none busy. absurd (busy phase);
+        main = λ none busy. absurd (busy (phase, ap (λ (l : Leaf). first_signal l.signals) (sym same) ∙ p.first.idle));
         root_works = root_alive p.first.taken.0.session p.first.root (requested u g t i x p.first).waiting;
-        at = ap (option_map seen) there_h ∙ (ap Some (ap (λ p. seen_by p b) phase_h ∙ ap (λ p. renamed_leaf f (seen_by p a)) (sym phase))
+        at = ap (option_map seen) there_h
+            ∙ (ap Some (ap (λ p. seen_by p b) phase_h
+            ∙ ((λ j. seen_by Serving (record b {
+              signals = signals j;
+              current =
+                  (idle_b phase_h ∙ sym (ap (option_map (renamed_current f)) (idle_a phase))) j;
+            }))
+            ∙ ap (λ p. renamed_leaf f (seen_by p a)) (sym phase)))
             ∙ ap (option_map (λ l. renamed_leaf f (seen l))) (sym there));
       }
 
@@ -353,9 +388,8 @@ module _ (u : System) (pays : (z : World) → paid u z ≡ true) (g h : Tracked)
       ∙ ap (option_map (λ l. map (renamed_slot f) (slots_of l))) there))
 
   -- the step in the other world is that of the leaf with the other names
-  working_same : IsAtSame f x g.world h.world → (a.phase ≡ Running) ⊎ (a.phase ≡ Handling) → (b.phase ≡ Running) ⊎ (b.phase ≡ Handling)
-      → step_in d_h b.phase ≡ step_in e a.phase
-  working_same at p q = λ j. step_in (record e { leaf = leaf j }) (phase j)
+  going_same : IsAtSame f x g.world h.world → Goes_on a.phase → Goes_on b.phase → step_in d_h b.phase ≡ step_in e a.phase
+  going_same at p q = λ j. step_in (record e { leaf = leaf j }) (phase j)
     where
       shown : plain b ≡ renamed_leaf f (plain a)
       shown = sym (seen_plain b q) ∙ (some_same (ap (option_map seen) (sym there_h) ∙ (at ∙ ap (option_map (λ l. renamed_leaf f (seen l))) there))
@@ -367,10 +401,56 @@ module _ (u : System) (pays : (z : World) → paid u z ≡ true) (g h : Tracked)
       phase : b.phase ≡ a.phase
       phase = ap (λ (l : Leaf). l.phase) shown
 
-  serving_same : a.phase ≡ Serving → b.phase ≡ Serving → step_in d_h b.phase ≡ step_in e a.phase
-  serving_same p q =
+  -- a signal is taken in both
+  signal_same : IsAtSame f x g.world h.world → a.phase ≡ Serving → b.phase ≡ Serving → is_some (first_signal a.signals) ≡ true
+      → step_in d_h b.phase ≡ step_in e a.phase
+  signal_same at p q flag =
       ap (step_in d_h) q
-      ∙ (accept_leaf e (record b { steps = suc b.steps }) (oldest h.world x h.world.requests) slots_same refl refl refl ∙ ap (step_in e) (sym p))
+      ∙ (ap (λ s. serve d_h (first_signal s)) signals ∙ (by (first_signal a.signals) flag ∙ ap (step_in e) (sym p)))
+    where
+      shown : seen_by Serving b ≡ renamed_leaf f (seen_by Serving a)
+      shown = ap (λ p. seen_by p b) (sym q) ∙ (some_same (ap (option_map seen) (sym there_h) ∙ (at ∙ ap (option_map (λ l. renamed_leaf f (seen l))) there))
+          ∙ ap (λ p. renamed_leaf f (seen_by p a)) p)
+
+      signals : b.signals ≡ a.signals
+      signals = ap (λ (l : Leaf). l.signals) shown
+
+      by : (s : Option (ℕ × List Signal)) → is_some s ≡ true → serve d_h s ≡ serve e s
+      by None flag = absurd (true≢false (sym flag))
+      by (Some s) flag = signal_leaf e (record b { steps = suc b.steps }) s slots_same refl refl refl
+          (idle_b q ∙ sym (ap (option_map (renamed_current f)) (idle_a p)))
+
+  working_same : IsAtSame f x g.world h.world → Steps a → Steps b → step_in d_h b.phase ≡ step_in e a.phase
+  working_same at (inl p) (inl q) = going_same at p q
+  working_same at (inr p) (inr q) = signal_same at p.0 q.0 p.1
+  working_same at (inl p) (inr q) = absurd (unlike p (phase_of (ap (λ p. seen_by p b) (sym q.0) ∙ shown)))
+    where
+      shown : seen b ≡ renamed_leaf f (seen a)
+      shown = some_same (ap (option_map seen) (sym there_h) ∙ (at ∙ ap (option_map (λ l. renamed_leaf f (seen l))) there))
+
+      phase_of : seen_by Serving b ≡ renamed_leaf f (seen a) → (seen a).phase ≡ Serving
+      phase_of e = ap (λ (l : Leaf). l.phase) (sym e)
+
+      unlike : Goes_on a.phase → (seen a).phase ≡ Serving → ⊥
+      unlike (inl r) e = serving_running (sym (ap (λ p. (seen_by p a).phase) r) ∙ e)
+      unlike (inr r) e = serving_handling (sym (ap (λ p. (seen_by p a).phase) r) ∙ e)
+  working_same at (inr p) (inl q) = absurd (unlike q (ap (λ (l : Leaf). l.phase) (shown ∙ ap (λ p. renamed_leaf f (seen_by p a)) p.0)))
+    where
+      shown : seen b ≡ renamed_leaf f (seen a)
+      shown = some_same (ap (option_map seen) (sym there_h) ∙ (at ∙ ap (option_map (λ l. renamed_leaf f (seen l))) there))
+
+      unlike : Goes_on b.phase → (seen b).phase ≡ Serving → ⊥
+      unlike (inl r) e = serving_running (sym (ap (λ p. (seen_by p b).phase) r) ∙ e)
+      unlike (inr r) e = serving_handling (sym (ap (λ p. (seen_by p b).phase) r) ∙ e)
+
+  -- a request is
+  serving_same : a.phase ≡ Serving → b.phase ≡ Serving → first_signal b.signals ≡ None → b.signals ≡ a.signals → b.reacting ≡ a.reacting
+      → step_in d_h b.phase ≡ step_in e a.phase
+  serving_same p q idle signals reacting =
+      ap (step_in d_h) q
+      ∙ (ap (serve d_h) idle
+      ∙ (accept_leaf e (record b { steps = suc b.steps }) (oldest h.world x h.world.requests) slots_same refl refl refl reacting signals
+      ∙ (ap (serve e) (sym (ap first_signal (sym signals) ∙ idle)) ∙ ap (step_in e) (sym p))))
 
   next_here : slice_get u.components x ≡ Some component → next u g.world x ≡ step_in d a.phase
   next_here placed = λ j. step_of u g.world x (placed j) (there j)
@@ -386,8 +466,8 @@ module _ (u : System) (pays : (z : World) → paid u z ≡ true) (g h : Tracked)
 
   run : (o : IsFor) → slice_get u.components x ≡ Some component → ((a.phase ≡ Serving → ⊥) → FirstAllowed f aside d h.world K R M O a.todo)
       → step_in d_h b.phase ≡ step_in e a.phase
-      → (a.phase ≡ Serving → Match f aside d h.world K R M O (oldest g.world x g.world.requests) (oldest h.world x h.world.requests))
-      → (a.phase ≡ Serving → (p : Request × List Request) → oldest g.world x g.world.requests ≡ Some p
+      → (Accepts a → Match f aside d h.world K R M O (oldest g.world x g.world.requests) (oldest h.world x h.world.requests))
+      → (Accepts a → (p : Request × List Request) → oldest g.world x g.world.requests ≡ Some p
       → IsOne f aside d h.world i g.own root other c (before o aside) p)
       → (new : World) (event : Event) → next u g.world x ≡ Ok (new, event) → Goes new event
   run o placed allowed same matches ones new event stepped =
@@ -397,31 +477,27 @@ module _ (u : System) (pays : (z : World) → paid u z ≡ true) (g h : Tracked)
       let r = both.holds new event (sym (next_here placed) ∙ stepped) in
       record { other_new = r.0; goes = next_there placed ∙ (same ∙ r.1); related = r.2 }
 
-  serving_running : Running ≡ Serving → ⊥
-  serving_running e = cc
-
-  serving_handling : Handling ≡ Serving → ⊥
-  serving_handling e = cc
-
-  not_serving : (a.phase ≡ Running) ⊎ (a.phase ≡ Handling) → a.phase ≡ Serving → ⊥
-  not_serving (inl p) e = serving_running (sym p ∙ e)
-  not_serving (inr p) e = serving_handling (sym p ∙ e)
+  steps_accepts : Steps a → Accepts a → ⊥
+  steps_accepts (inl (inl p)) e = serving_running (sym p ∙ e.0)
+  steps_accepts (inl (inr p)) e = serving_handling (sym p ∙ e.0)
+  steps_accepts (inr p) e = true≢false (sym p.1 ∙ ap is_some e.1)
 
   pub goes_working : IsWorking g i x → IsWorking h i x → slice_get u.components x ≡ Some component
       → ((a.phase ≡ Serving → ⊥) → FirstAllowed f aside d h.world K R M O a.todo)
       → (new : World) (event : Event) → next u g.world x ≡ Ok (new, event) → Goes new event
   goes_working w v placed allowed =
       let o = for_working w in
-      let p = subst (λ (l : Leaf). (l.phase ≡ Running) ⊎ (l.phase ≡ Handling)) (some_same (sym w.at.there ∙ there)) w.runs in
-      let q = subst (λ (l : Leaf). (l.phase ≡ Running) ⊎ (l.phase ≡ Handling)) (some_same (sym v.at.there ∙ there_h)) v.runs in
-      run o placed allowed (working_same o.at p q) (λ e. absurd (not_serving p e)) (λ e. absurd (not_serving p e))
+      let p = subst Steps (some_same (sym w.at.there ∙ there)) w.runs in
+      let q = subst Steps (some_same (sym v.at.there ∙ there_h)) v.runs in
+      run o placed allowed (working_same o.at p q) (λ e. absurd (steps_accepts p e)) (λ e. absurd (steps_accepts p e))
 
-  pub goes_serving : ServesSame u g h t th i s x → slice_get u.components x ≡ Some component
+  pub goes_serving : ServesSame u g h t th i s x → b.signals ≡ a.signals → b.reacting ≡ a.reacting → slice_get u.components x ≡ Some component
       → ((a.phase ≡ Serving → ⊥) → FirstAllowed f aside d h.world K R M O a.todo)
       → (new : World) (event : Event) → next u g.world x ≡ Ok (new, event) → Goes new event
-  goes_serving w placed allowed =
-      run (for_serving w) placed allowed
-      (serving_same phase (ap (λ (l : Leaf). l.phase) (sym (some_same (sym w.other.there ∙ there_h))) ∙ w.other.serves))
+  goes_serving w signals reacting placed allowed =
+      run (for_serving w signals) placed allowed
+      (serving_same phase (ap (λ (l : Leaf). l.phase) (sym (some_same (sym w.other.there ∙ there_h))) ∙ w.other.serves)
+      (ap (λ (l : Leaf). first_signal l.signals) (sym (some_same (sym w.other.there ∙ there_h))) ∙ w.other.idle) signals reacting)
       (λ e. subst (λ o. Match f aside d h.world K R M O o (oldest h.world x h.world.requests)) (sym w.first.found)
       (subst (λ o. Match f aside d h.world K R M O (Some w.first.taken) o) (sym w.other.found) taken))
       (λ e p found.
@@ -435,6 +511,9 @@ module _ (u : System) (pays : (z : World) → paid u z ≡ true) (g h : Tracked)
       phase : a.phase ≡ Serving
       phase = ap (λ (l : Leaf). l.phase) (sym (some_same (sym w.first.there ∙ there))) ∙ w.first.serves
 
+      idle : first_signal a.signals ≡ None
+      idle = ap (λ (l : Leaf). first_signal l.signals) (sym (some_same (sym w.first.there ∙ there))) ∙ w.first.idle
+
       k : ℕ
       k = w.first.taken.0.session
 
@@ -446,7 +525,7 @@ module _ (u : System) (pays : (z : World) → paid u z ≡ true) (g h : Tracked)
 
       taken : AreTaken f aside d h.world K R M O w.first.taken w.other.taken
       taken = record {
-        serves = phase;
+        serves = (phase, idle);
         first = w.first.found;
         other = w.other.found;
         same = w.same ∙ ap (λ n. record { session = n; ask = w.first.taken.0.ask })

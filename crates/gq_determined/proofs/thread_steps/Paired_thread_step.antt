@@ -8,16 +8,16 @@ use Rattle.gq_model.specs.machine.Scenario.{System, Component}
 use Rattle.gq_model.specs.machine.World.{Leaf, World}
 use Rattle.gq_model.specs.machine.Sums.{paid}
 use Rattle.gq_model.specs.machine.Doing.{Event}
-use Rattle.gq_model.specs.machine.Step.{next}
+use Rattle.gq_model.specs.machine.Step.{first_signal, next}
 use Rattle.gq_model.proofs.Small_facts.{none_some, some_none, some_same}
 use Rattle.gq_laws.specs.Renamed.{renamed_leaf}
-use Rattle.gq_determined.specs.internal.Threads.{Tracked, thread_by, who, more_of, stepped_to, works, works_for, is_active, seen, IsAtSame, IsSameThread}
+use Rattle.gq_determined.specs.internal.Threads.{Tracked, thread_by, who, more_of, stepped_to, works, works_for, has_work, seen, IsAtSame, IsSameThread}
 use Rattle.gq_determined.proofs.thread_positions.Single_thread_position.{IsPlaced}
 use Rattle.gq_determined.proofs.thread_positions.Turn_thread_position.{IsWorking, ServesSame, same_place}
 use Rattle.gq_determined.proofs.thread_steps.Thread_reflexivity.{thread_itself}
 use Rattle.gq_determined.proofs.thread_steps.Own_steps.{Goes}
 use Rattle.gq_determined.proofs.thread_steps.Own_steps as own
-use Rattle.gq_determined.proofs.thread_steps.Thread_step_frame.{seen_active, works_else, thread_new}
+use Rattle.gq_determined.proofs.thread_steps.Thread_step_frame.{seen_works, works_else, thread_new}
 use Rattle.gq_determined.proofs.thread_steps.Stateless_thread_agreement.{IsStill, ReadSame, Solo, solo, BothGo, both_go}
 
 and_false : (b : Bool) → (b && false) ≡ false
@@ -29,11 +29,14 @@ pub ended_of : (u : System) (g : Tracked) (t : IsPlaced u g) (i x : ℕ) → who
 ended_of u g t i x is ne = by (same_place u g g t t i (thread_itself i g) x x is is).how
   where
     by : (IsWorking g i x × IsWorking g i x) ⊎ ServesSame u g g t t i (thread_itself i g) x → works g x x ≡ false
-    by (inl w) = ap (works_for g.root x x) w.0.at.there ∙ (ap (λ b. is_active w.0.at.leaf.phase && b) out ∙ and_false (is_active w.0.at.leaf.phase))
+    by (inl w) = ap (works_for g.root x x) w.0.at.there
+        ∙ (ap (λ b. has_work w.0.at.leaf.phase (first_signal w.0.at.leaf.signals) && b) out
+        ∙ and_false (has_work w.0.at.leaf.phase (first_signal w.0.at.leaf.signals)))
       where
         out : (thread_by g.root x w.0.at.leaf.current == x) ≡ false
         out = elim (eqb_tells (thread_by g.root x w.0.at.leaf.current) x) [ inl q ↦ absurd (ne (sym q.1 ∙ w.0.at.thread)) | inr q ↦ q.0 ]
-    by (inr w) = ap (works_for g.root x x) w.first.there ∙ ap (λ p. is_active p && (thread_by g.root x w.first.leaf.current == x)) w.first.serves
+    by (inr w) = ap (works_for g.root x x) w.first.there
+        ∙ (λ j. has_work (w.first.serves j) (w.first.idle j) && (thread_by g.root x w.first.leaf.current == x))
 
 module _ (u : System) (pays : (z : World) → paid u z ≡ true) (g h : Tracked) (t : IsPlaced u g) (th : IsPlaced u h) (sg : IsStill g)
     (sh : IsStill h) (reads : ReadSame g.world h.world) (i x : ℕ) (s : IsSameThread i g h) (sx : g.own x ≢ i → IsSameThread (g.own x) g h)
@@ -75,8 +78,10 @@ module _ (u : System) (pays : (z : World) → paid u z ≡ true) (g h : Tracked)
     leaves_in : (y : ℕ) → c y ≡ true → works g_new i y ≡ works h_new i y
     leaves_in y ours = by (slice_get new.leaves y) (slice_get v.leaves y) refl refl (r.goes.related.at y ours)
       where
-        of : (l m : Leaf) → slice_get new.leaves y ≡ Some l → slice_get v.leaves y ≡ Some m → (b : Bool) → is_active l.phase ≡ b → is_active m.phase ≡ b
-            → (is_active l.phase && (thread_by g_new.root y l.current == i)) ≡ (is_active m.phase && (thread_by h_new.root y m.current == i))
+        of : (l m : Leaf) → slice_get new.leaves y ≡ Some l → slice_get v.leaves y ≡ Some m → (b : Bool)
+            → has_work l.phase (first_signal l.signals) ≡ b → has_work m.phase (first_signal m.signals) ≡ b
+            → (has_work l.phase (first_signal l.signals) && (thread_by g_new.root y l.current == i))
+            ≡ (has_work m.phase (first_signal m.signals) && (thread_by h_new.root y m.current == i))
         of l m at at_m false act act_m =
             ap (λ b. b && (thread_by g_new.root y l.current == i)) act ∙ sym (ap (λ b. b && (thread_by h_new.root y m.current == i)) act_m)
         of l m at at_m true act act_m =
@@ -90,9 +95,9 @@ module _ (u : System) (pays : (z : World) → paid u z ≡ true) (g h : Tracked)
         none_some_same None (Some m) at at_p e = absurd (some_none e)
         none_some_same (Some l) None at at_p e = absurd (none_some e)
         none_some_same (Some l) (Some m) at at_p e =
-            let same : is_active m.phase ≡ is_active l.phase
-            = sym (seen_active m) ∙ (ap (λ (l : Leaf). is_active l.phase) (some_same e) ∙ seen_active l) in
-            of l m at at_p (is_active l.phase) refl same
+            let same : has_work m.phase (first_signal m.signals) ≡ has_work l.phase (first_signal l.signals)
+            = sym (seen_works m) ∙ (ap (λ (l : Leaf). has_work l.phase (first_signal l.signals)) (some_same e) ∙ seen_works l) in
+            of l m at at_p (has_work l.phase (first_signal l.signals)) refl same
 
         by : (o p : Option Leaf) → slice_get new.leaves y ≡ o → slice_get v.leaves y ≡ p → IsAtSame f y new v
             → works_for g_new.root i y (slice_get new.leaves y) ≡ works_for h_new.root i y (slice_get v.leaves y)

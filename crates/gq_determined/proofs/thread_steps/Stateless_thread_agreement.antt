@@ -1,10 +1,10 @@
--- Threads of worlds in which no shared leaf changes its own slots outside `main`, and no leaf reads an input.
+-- Threads of worlds in which no shared leaf changes its own slots outside `main`.
 use Rattle.std.proofs.Common.{◌≡◌, ◌≢◌, ◌⊎◌, ℕ, suc, ◌==◌, ◌&&◌, inl, inr, Bool, true, false, List, Option, Some, None, Ok}
 use Rattle.std.proofs.Common.{refl, ap, sym, ◌∙◌}
 use Rattle.std.specs.Prelude.{option_map, slice_get}
 use Rattle.std.proofs.lemmas.Bool.{true≢false}
 use Rattle.std.proofs.lemmas.Bool.Decides.{eqb_tells}
-use Rattle.gq_model.specs.declared.phase.Phase.TheVariants.{Running, Blocked, Serving, Handling}
+use Rattle.gq_model.specs.declared.phase.Phase.TheVariants.{Blocked, Serving}
 use Rattle.gq_model.specs.declared.program.OperandSlot.{OperandSlot}
 use Rattle.gq_model.specs.declared.program.OperandSlot.TheVariants.{Own, Shared, Object}
 use Rattle.gq_model.specs.declared.program.Bare.TheVariants.{Drop, Dup, Combine}
@@ -21,7 +21,7 @@ use Rattle.gq_model.specs.machine.World.{SlotId, Current, Leaf, World}
 use Rattle.gq_model.specs.machine.Sums.{paid}
 use Rattle.gq_model.specs.machine.Doing.{Doing, Event}
 use Rattle.gq_model.specs.machine.Requests.{free_place}
-use Rattle.gq_model.specs.machine.Step.{bench, accept, accept_oldest, step_in, step_of, next}
+use Rattle.gq_model.specs.machine.Step.{bench, accept, accept_oldest, first_signal, serve, step_in, step_of, next}
 use Rattle.gq_model.proofs.Small_facts.{none_some, some_same}
 use Rattle.gq_laws.specs.Session_links.{stance, stance_in, IsLinkedWorld}
 use Rattle.gq_laws.proofs.session_links.Linked_worlds.{kept_linked}
@@ -29,39 +29,43 @@ use Rattle.gq_laws.proofs.step_shapes.Step_end_shapes.{Ends}
 use Rattle.gq_laws.proofs.step_shapes.Step_change_shapes.{accept_by}
 use Rattle.gq_laws.proofs.step_shapes.Step_end_worlds.{begun}
 use Rattle.gq_races.specs.Races.{is_own, changes_own, reads_input}
-use Rattle.gq_determined.specs.internal.Threads.{is_unshared, Tracked, thread_by, anew, who, works, works_for, is_active, IsSameThread}
+use Rattle.gq_determined.specs.internal.Threads.{Accepts, has_work, is_unshared, Tracked, thread_by, anew, who, works, works_for, IsSameThread}
 use Rattle.gq_determined.proofs.passing_threads.Kept_by_steps.{Aside, MayChange, IsAllowed}
 use Rattle.gq_determined.proofs.passing_threads.Kept_around.{FirstAllowed}
 use Rattle.gq_determined.proofs.thread_positions.Single_thread_position.{IsPlaced, IsTracked}
 use Rattle.gq_determined.proofs.regions.Region_changes.{put_at}
 use Rattle.gq_determined.proofs.thread_positions.Turn_thread_position.{lives_who, taken_there, IsWorking, IsServing, ServesSame, same_place}
+use Rattle.gq_determined.proofs.thread_positions.First_request_given.{working_accepts}
+use Rattle.gq_determined.proofs.thread_steps.Signal_flags.{flagged_before}
 use Rattle.gq_determined.proofs.thread_steps.Thread_reflexivity.{thread_itself}
 use Rattle.gq_determined.proofs.thread_steps.Own_steps.{anew_else, not_free, Goes, goes_working, goes_serving}
 use Rattle.gq_determined.proofs.thread_steps.Own_steps as own
 use Rattle.gq_determined.proofs.thread_steps.Thread_step_frame.{IsDone}
 
--- outside `main` of a shared leaf what comes first changes no own slot, and nowhere does it read an input
+-- outside `main` of a shared leaf what comes first changes no own slot
 pub record IsStateless (u : System) (w : World) : Type 0 where
   pub keeps : (x : ℕ) (leaf : Leaf) (q : Current) (i : Instruction) (rest : Statements) → slice_get w.leaves x ≡ Some leaf → leaf.current ≡ Some q
       → is_unshared u x ≡ false → leaf.todo ≡ Do i rest → changes_own i ≡ false
-  pub unread : (x : ℕ) (leaf : Leaf) (i : Instruction) (rest : Statements) → slice_get w.leaves x ≡ Some leaf → leaf.todo ≡ Do i rest
-      → reads_input i ≡ false
 
 -- a leaf that is its own outside `main` changes no own slot next
 pub record IsStill (g : Tracked) : Type 0 where
   pub keeps : (x : ℕ) (leaf : Leaf) (q : Current) (i : Instruction) (rest : Statements) → slice_get g.world.leaves x ≡ Some leaf → leaf.current ≡ Some q
       → g.own x ≡ x → leaf.todo ≡ Do i rest → changes_own i ≡ false
 
--- what comes first reads no input, or the inputs are the same
+-- what a step reads beside what threads have: inputs, if it reads any, and the signals of a leaf that accepts a request
 pub record ReadSame (w v : World) : Type 0 where
   pub same : (x : ℕ) (a b : Leaf) (i : Instruction) (rest : Statements) → slice_get w.leaves x ≡ Some a → slice_get v.leaves x ≡ Some b → a.todo ≡ Do i rest
       → (reads_input i ≡ false) ⊎ (a.inputs ≡ b.inputs)
+  pub served : (x : ℕ) (a b : Leaf) → slice_get w.leaves x ≡ Some a → slice_get v.leaves x ≡ Some b → Accepts a → Accepts b
+      → (b.signals ≡ a.signals) × (b.reacting ≡ a.reacting)
 
 pub reads_itself : (w : World) → ReadSame w w
-reads_itself w = record { same = λ x a b i rest at at_b is. inr (ap (λ (l : Leaf). l.inputs) (some_same (sym at ∙ at_b))) }
-
-pub reads_none : (u : System) (w v : World) → IsStateless u w → ReadSame w v
-reads_none u w v h = record { same = λ x a b i rest at at_b is. inl (h.unread x a i rest at is) }
+reads_itself w = record {
+  same = λ x a b i rest at at_b is. inr (ap (λ (l : Leaf). l.inputs) (some_same (sym at ∙ at_b)));
+  served = λ x a b at at_b p q. (
+      let same : b ≡ a = some_same (sym at_b ∙ at) in
+      (ap (λ (l : Leaf). l.signals) same, ap (λ (l : Leaf). l.reacting) same));
+}
 
 pub still_of : (u : System) (g : Tracked) → IsTracked u g → IsStateless u g.world → IsStill g
 still_of u g t h = record { keeps = λ x leaf q i rest there at own is. by x leaf q i rest there at own is (is_unshared u x) refl }
@@ -233,8 +237,10 @@ module _ (u : System) (pays : (z : World) → paid u z ≡ true) (g h : Tracked)
     there = w.first.there;
     there_h = w.other.there;
     how = inr w;
-    goes = goes_serving u pays g h t th i x s sx component w.first.leaf w.other.leaf w.first.there w.other.there w placed
-        (λ busy. absurd (busy w.first.serves)) new event stepped;
+    goes = (
+        let same = reads.served x w.first.leaf w.other.leaf w.first.there w.other.there (w.first.serves, w.first.idle) (w.other.serves, w.other.idle) in
+        goes_serving u pays g h t th i x s sx component w.first.leaf w.other.leaf w.first.there w.other.there w same.0 same.1 placed
+        (λ busy. absurd (busy w.first.serves)) new event stepped);
   }
 
 -- A STEP IN ONE WORLD
@@ -279,24 +285,12 @@ module _ (u : System) (pays : (z : World) → paid u z ≡ true) (g : Tracked) (
     })
 
     next_accepts : next u g.world x ≡ accept d_s p.taken.0 p.taken.1
-    next_accepts = (λ j. step_of u g.world x (placed j) (p.there j)) ∙ (ap (step_in d_s) p.serves ∙ ap (accept_oldest d_s) p.found)
+    next_accepts = (λ j. step_of u g.world x (placed j) (p.there j))
+        ∙ (ap (step_in d_s) p.serves ∙ (ap (serve d_s) p.idle ∙ ap (accept_oldest d_s) p.found))
 
     thread_taken : (new : World) (event : Event) → next u g.world x ≡ Ok (new, event) → (l : Leaf) → slice_get new.leaves x ≡ Some l
         → thread_by root x l.current ≡ i
     thread_taken new event stepped = (accepts.holds new event (sym next_accepts ∙ stepped)).holds
-
-  working_serving : (w : IsWorking g i x) → w.at.leaf.phase ≡ Serving → ⊥
-  working_serving w e = by w.runs
-    where
-      running : Running ≡ Serving → ⊥
-      running e = cc
-
-      handling : Handling ≡ Serving → ⊥
-      handling e = cc
-
-      by : (w.at.leaf.phase ≡ Running) ⊎ (w.at.leaf.phase ≡ Handling) → ⊥
-      by (inl r) = running (sym r ∙ e)
-      by (inr r) = handling (sym r ∙ e)
 
   serving_blocked : Serving ≡ Blocked → ⊥
   serving_blocked e = cc
@@ -319,13 +313,15 @@ module _ (u : System) (pays : (z : World) → paid u z ≡ true) (g : Tracked) (
             a = w.0.at.leaf;
             there = w.0.at.there;
             ended = λ ne. ap (works_for g.root x x) w.0.at.there
-                ∙ (ap (λ b. is_active w.0.at.leaf.phase && b) (out ne) ∙ and_false (is_active w.0.at.leaf.phase));
+                ∙ (ap (λ b. has_work w.0.at.leaf.phase (first_signal w.0.at.leaf.signals) && b) (out ne)
+                ∙ and_false (has_work w.0.at.leaf.phase (first_signal w.0.at.leaf.signals)));
             done = record {
               active = w.0.at.goes;
               linked = linked;
               rest = r.goes.related.rest;
               was = λ busy. w.0.at.thread;
-              taken = λ e. absurd (working_serving w.0 e);
+              taken = λ e. absurd (working_accepts w.0.at.leaf w.0.runs e);
+              flags = flagged_before u g.world x new event stepped;
             };
           }
         where
@@ -337,12 +333,14 @@ module _ (u : System) (pays : (z : World) → paid u z ≡ true) (g : Tracked) (
           record {
             a = w.first.leaf;
             there = w.first.there;
-            ended = λ ne. ap (works_for g.root x x) w.first.there ∙ ap (λ p. is_active p && (thread_by g.root x w.first.leaf.current == x)) w.first.serves;
+            ended = λ ne. ap (works_for g.root x x) w.first.there
+                ∙ (λ j. has_work (w.first.serves j) (w.first.idle j) && (thread_by g.root x w.first.leaf.current == x));
             done = record {
               active = λ b. serving_blocked (sym w.first.serves ∙ b);
               linked = linked;
               rest = r.goes.related.rest;
-              was = λ busy. absurd (busy w.first.serves);
-              taken = λ e l at act. thread_taken w.first new event stepped l at;
+              was = λ busy. absurd (busy (w.first.serves, w.first.idle));
+              taken = λ e l at. thread_taken w.first new event stepped l at;
+              flags = flagged_before u g.world x new event stepped;
             };
           }

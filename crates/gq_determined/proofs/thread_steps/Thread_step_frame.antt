@@ -1,22 +1,23 @@
 -- A step for one thread is not seen by another; and after a step of its own in two worlds a thread has the same in both.
 use Rattle.std.proofs.Common.{◌≡◌, ◌≢◌, ◌⊎◌, ℕ, suc, ◌==◌, ◌&&◌, ◌||◌, inl, inr, Bool, true, false, cond, List, [], ◌∷◌, map, Option, Some, None, Ok, ◌++◌}
 use Rattle.std.proofs.Common.{refl, ap, sym, ◌∙◌, subst}
-use Rattle.std.specs.Prelude.{option_map, slice_get}
+use Rattle.std.specs.Prelude.{is_some, option_map, slice_get}
 use Rattle.std.proofs.lemmas.Bool.{true≢false}
 use Rattle.std.proofs.lemmas.Bool.Decides.{eqb_tells}
 use Rattle.gq_model.specs.declared.phase.Phase.{Phase}
 use Rattle.gq_model.specs.declared.phase.Phase.TheVariants.{Pending, Running, Blocked, Serving, Handling, Exited}
 use Rattle.gq_model.specs.machine.Scenario.{System, Component}
-use Rattle.gq_model.specs.machine.World.{Session, Request, Current, Leaf, World, session_at}
+use Rattle.gq_model.specs.machine.World.{Session, Request, Current, Signal, Leaf, World, session_at}
+use Rattle.gq_model.specs.machine.Step.{first_signal}
 use Rattle.gq_model.specs.machine.Doing.{Doing, Event}
 use Rattle.gq_model.specs.machine.Requests.{free_place}
 use Rattle.gq_model.proofs.Small_facts.{none_some, some_same, equal_self}
 use Rattle.gq_laws.specs.Shapes.{Each}
-use Rattle.gq_laws.specs.Session_links.{stance, stance_in, IsLinkedWorld}
+use Rattle.gq_laws.specs.Session_links.{Fits, stance, stance_in, IsLinkedWorld}
 use Rattle.gq_laws.proofs.Outside_step_untouched.{free_none, outlined}
 use Rattle.gq_laws.specs.Renamed.{renamed_slot, renamed_leaf, renamed_request}
 use Rattle.gq_determined.specs.internal.Threads.{Tracked, thread_by, anew, stepped_to, works, works_for, is_active, within, among, slots_of, seen, seen_by}
-use Rattle.gq_determined.specs.internal.Threads.{IsSameThread}
+use Rattle.gq_determined.specs.internal.Threads.{Accepts, has_work, IsSameThread}
 use Rattle.gq_determined.proofs.regions.Outside_region_kept.{OursBy, IsElse, current_of}
 use Rattle.gq_determined.proofs.thread_positions.Single_thread_position.{IsPlaced}
 use Rattle.gq_determined.proofs.thread_steps.Own_steps.{anew_else, anew_here, not_free, each_asked}
@@ -28,6 +29,45 @@ is_or_not Running = inr (λ e. cc)
 is_or_not Blocked = inr (λ e. cc)
 is_or_not Handling = inr (λ e. cc)
 is_or_not Exited = inr (λ e. cc)
+
+-- a leaf accepts a request next, or does not
+pub accepts_or_not : (l : Leaf) → Accepts l ⊎ (Accepts l → ⊥)
+accepts_or_not l = by (is_or_not l.phase) (first_signal l.signals) refl
+  where
+    by : (l.phase ≡ Serving) ⊎ (l.phase ≡ Serving → ⊥) → (s : Option (ℕ × List Signal)) → first_signal l.signals ≡ s → Accepts l ⊎ (Accepts l → ⊥)
+    by (inr p) s e = inr (λ a. p a.0)
+    by (inl p) None e = inl (p, e)
+    by (inl p) (Some s) e = inr (λ a. none_some (sym a.1 ∙ e))
+
+-- a leaf that is active works
+pub active_works : (p : Phase) (s : Option (ℕ × List Signal)) → is_active p ≡ true → has_work p s ≡ true
+active_works Pending s e = refl
+active_works Running s e = refl
+active_works Blocked s e = refl
+active_works Handling s e = refl
+active_works Serving s e = absurd (true≢false (sym e))
+active_works Exited s e = absurd (true≢false (sym e))
+
+-- one that works is active, or has a signal to take
+pub works_how : (p : Phase) (s : Option (ℕ × List Signal)) → has_work p s ≡ true → (is_active p ≡ true) ⊎ ((p ≡ Serving) × (is_some s ≡ true))
+works_how Pending s e = inl refl
+works_how Running s e = inl refl
+works_how Blocked s e = inl refl
+works_how Handling s e = inl refl
+works_how Serving s e = inr (refl, e)
+works_how Exited s e = absurd (true≢false (sym e))
+
+-- so it is seen to work
+pub seen_works : (l : Leaf) → has_work (seen l).phase (first_signal (seen l).signals) ≡ has_work l.phase (first_signal l.signals)
+seen_works l = by l.phase
+  where
+    by : (p : Phase) → has_work (seen_by p l).phase (first_signal (seen_by p l).signals) ≡ has_work p (first_signal l.signals)
+    by Pending = refl
+    by Running = refl
+    by Blocked = refl
+    by Serving = refl
+    by Handling = refl
+    by Exited = refl
 
 -- a phase that is seen is as active
 pub seen_active : (l : Leaf) → is_active (seen l).phase ≡ is_active l.phase
@@ -46,7 +86,7 @@ works_seen : (root : ℕ → ℕ) (i y : ℕ) (o : Option Leaf) → works_for ro
 works_seen root i y None = refl
 works_seen root i y (Some l) = by l.phase
   where
-    by : (p : Phase) → works_for root i y (Some (seen_by p l)) ≡ (is_active p && (thread_by root y l.current == i))
+    by : (p : Phase) → works_for root i y (Some (seen_by p l)) ≡ (has_work p (first_signal l.signals) && (thread_by root y l.current == i))
     by Pending = refl
     by Running = refl
     by Blocked = refl
@@ -72,8 +112,11 @@ module _ (u : System) (g : Tracked) (t : IsPlaced u g) (j x : ℕ) (component : 
     pub active : a.phase ≡ Blocked → ⊥
     pub linked : IsLinkedWorld u new
     pub rest : IsElse d j g.own root c (OursBy d j g.own root) new
-    pub was : (a.phase ≡ Serving → ⊥) → thread_by g.root x a.current ≡ j
-    pub taken : a.phase ≡ Serving → (l : Leaf) → slice_get new.leaves x ≡ Some l → is_active l.phase ≡ true → thread_by root x l.current ≡ j
+    pub was : (Accepts a → ⊥) → thread_by g.root x a.current ≡ j
+    pub taken : Accepts a → (l : Leaf) → slice_get new.leaves x ≡ Some l → thread_by root x l.current ≡ j
+    -- a signal that is submitted was so before
+    pub flags : (y : ℕ) (l : Leaf) → slice_get new.leaves y ≡ Some l → is_some (first_signal l.signals) ≡ true
+        → (m : Leaf) × (slice_get g.world.leaves y ≡ Some m) × (is_some (first_signal m.signals) ≡ true)
 
   equal_of : (m n : ℕ) → (m == n) ≡ true → m ≡ n
   equal_of m n e = elim (eqb_tells m n) [ inl q ↦ q.1 | inr q ↦ absurd (true≢false (sym e ∙ q.0)) ]
@@ -105,7 +148,7 @@ module _ (u : System) (g : Tracked) (t : IsPlaced u g) (j x : ℕ) (component : 
     where
       by : (o : Option Leaf) → slice_get g.world.leaves y ≡ o → works_for root i y o ≡ works_for g.root i y o
       by None e = refl
-      by (Some l) e = ap (λ n. is_active l.phase && (n == i)) (same_thread y l e)
+      by (Some l) e = ap (λ n. has_work l.phase (first_signal l.signals) && (n == i)) (same_thread y l e)
 
   module _ (new : World) (done : IsDone new) where
     -- a leaf that is left as it was works as it did
@@ -121,7 +164,8 @@ module _ (u : System) (g : Tracked) (t : IsPlaced u g) (j x : ℕ) (component : 
     mapped_current (Some o) (Some m) l e f = (m, refl, ap current_of (sym (some_same e)) ∙ some_same f)
 
     -- the others work for the thread of the step, or not at all
-    pub thread_new : (y : ℕ) → c y ≡ true → (l : Leaf) → slice_get new.leaves y ≡ Some l → is_active l.phase ≡ true → thread_by root y l.current ≡ j
+    pub thread_new : (y : ℕ) → c y ≡ true → (l : Leaf) → slice_get new.leaves y ≡ Some l → has_work l.phase (first_signal l.signals) ≡ true
+        → thread_by root y l.current ≡ j
     thread_new y ours l at act = elim (eqb_tells y x) [
       | inl e ↦ subst (λ y. thread_by root y l.current ≡ j) (sym e.1) (here (ap (slice_get new.leaves) (sym e.1) ∙ at))
       | inr e ↦ elim (or_cases (works g j y) (y == x) ours) [
@@ -133,10 +177,28 @@ module _ (u : System) (g : Tracked) (t : IsPlaced u g) (j x : ℕ) (component : 
     ]
       where
         here : slice_get new.leaves x ≡ Some l → thread_by root x l.current ≡ j
-        here at = elim (is_or_not a.phase) [
-          | inl s ↦ done.taken s l at act
-          | inr busy ↦ ap (thread_by root x) (done.rest.mine busy l at act) ∙ (same_thread x a there ∙ done.was busy)
+        here at = elim (accepts_or_not a) [
+          | inl s ↦ done.taken s l at
+          | inr busy ↦ elim (works_how l.phase (first_signal l.signals) act) [
+            | inl active ↦ ap (thread_by root x) (done.rest.mine busy l at active) ∙ (same_thread x a there ∙ done.was busy)
+            | inr flag ↦ flagged at busy flag.0 flag.1
+          ]
         ]
+          where
+            none_of : (current : Option Current) → Fits Serving current → current ≡ None
+            none_of None f = refl
+            none_of (Some q) f = absurd f
+
+            -- one that has a signal to take had it before, and is of its own thread
+            flagged : slice_get new.leaves x ≡ Some l → (Accepts a → ⊥) → l.phase ≡ Serving → is_some (first_signal l.signals) ≡ true
+                → thread_by root x l.current ≡ j
+            flagged at busy serves flag =
+                let m = done.flags x l at flag in
+                let same : m.0 ≡ a = some_same (sym m.1 ∙ there) in
+                let none : a.current ≡ None = (t.signals x a there (ap (λ (l : Leaf). is_some (first_signal l.signals)) (sym same) ∙ m.2)).1 in
+                let new_none : l.current ≡ None
+                = none_of l.current (subst (λ p. Fits p l.current) serves (done.linked.fits x (stance l.phase l.current) (ap stance_in at))) in
+                ap (thread_by root x) new_none ∙ (sym (ap (thread_by g.root x) none) ∙ done.was busy)
 
     -- they do not work for another thread
     pub works_out : (i y : ℕ) → i ≢ j → c y ≡ true → works_for root i y (slice_get new.leaves y) ≡ false
@@ -145,13 +207,14 @@ module _ (u : System) (g : Tracked) (t : IsPlaced u g) (j x : ℕ) (component : 
         other : (n : ℕ) → n ≡ j → (n == i) ≡ false
         other n e = elim (eqb_tells n i) [ inl q ↦ absurd (ne (sym q.1 ∙ e)) | inr q ↦ q.0 ]
 
-        of : (l : Leaf) → slice_get new.leaves y ≡ Some l → (b : Bool) → is_active l.phase ≡ b → (b && (thread_by root y l.current == i)) ≡ false
+        of : (l : Leaf) → slice_get new.leaves y ≡ Some l → (b : Bool) → has_work l.phase (first_signal l.signals) ≡ b
+            → (b && (thread_by root y l.current == i)) ≡ false
         of l at false act = refl
         of l at true act = other _ (thread_new y ours l at act)
 
         by : (o : Option Leaf) → slice_get new.leaves y ≡ o → works_for root i y o ≡ false
         by None e = refl
-        by (Some l) e = of l e (is_active l.phase) refl
+        by (Some l) e = of l e (has_work l.phase (first_signal l.signals)) refl
 
     works_before : (i y : ℕ) → i ≢ j → c y ≡ true → works g i y ≡ false
     works_before i y ne ours = elim (or_cases (works g j y) (y == x) ours) [
@@ -172,14 +235,16 @@ module _ (u : System) (g : Tracked) (t : IsPlaced u g) (j x : ℕ) (component : 
         by : (o : Option Leaf) → works_for g.root j y o ≡ true → works_for g.root i y o ≡ false
         by None e = refl
         by (Some l) e =
-            ap (λ b. is_active l.phase && b) (other (thread_by g.root y l.current) (equal_of _ _ (second _ _ e))) ∙ and_false (is_active l.phase)
+            ap (λ b. has_work l.phase (first_signal l.signals) && b) (other (thread_by g.root y l.current) (equal_of _ _ (second _ _ e)))
+            ∙ and_false (has_work l.phase (first_signal l.signals))
 
         here : works g i x ≡ false
-        here = ap (works_for g.root i x) there ∙ of (is_or_not a.phase)
+        here = ap (works_for g.root i x) there ∙ of (accepts_or_not a)
           where
-            of : (a.phase ≡ Serving) ⊎ (a.phase ≡ Serving → ⊥) → (is_active a.phase && (thread_by g.root x a.current == i)) ≡ false
-            of (inl s) = ap (λ p. is_active p && (thread_by g.root x a.current == i)) s
-            of (inr busy) = ap (λ b. is_active a.phase && b) (other (thread_by g.root x a.current) (done.was busy)) ∙ and_false (is_active a.phase)
+            of : Accepts a ⊎ (Accepts a → ⊥) → (has_work a.phase (first_signal a.signals) && (thread_by g.root x a.current == i)) ≡ false
+            of (inl s) = λ j. has_work (s.0 j) (s.1 j) && (thread_by g.root x a.current == i)
+            of (inr busy) = ap (λ b. has_work a.phase (first_signal a.signals) && b) (other (thread_by g.root x a.current) (done.was busy))
+                ∙ and_false (has_work a.phase (first_signal a.signals))
 
     -- another thread has what it had
     pub same_else : (i y : ℕ) → i ≢ j → works_for root i y (slice_get new.leaves y) ≡ works g i y

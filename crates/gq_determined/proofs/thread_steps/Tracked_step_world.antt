@@ -1,6 +1,7 @@
 -- What is tracked fits the world after a step, too.
 use Rattle.std.proofs.Common.{◌≡◌, ◌≢◌, ◌⊎◌, ℕ, suc, ◌==◌, ◌||◌, inl, inr, Bool, true, false, Option, Some, None, Ok, refl, ap, sym, ◌∙◌, subst}
-use Rattle.std.specs.Prelude.{option_map, slice_get}
+use Rattle.std.specs.Prelude.{is_some, option_map, slice_get}
+use Rattle.gq_model.specs.machine.Step.{first_signal}
 use Rattle.gq_model.specs.declared.phase.Phase.{Phase}
 use Rattle.gq_model.specs.declared.phase.Phase.TheVariants.{Pending, Running, Blocked, Serving, Handling, Exited}
 use Rattle.gq_model.specs.declared.program.OperandSlot.{OperandSlot}
@@ -15,13 +16,13 @@ use Rattle.std.proofs.lemmas.Bool.Decides.{eqb_tells}
 use Rattle.gq_laws.specs.Session_links.{Waits, naming_in, outline, outline_in, stance, stance_in, links, Belongs, Fits, IsLinkedWorld}
 use Rattle.gq_laws.proofs.session_links.Asked_request_changes.{same_phase, same_current}
 use Rattle.gq_laws.proofs.Outside_step_untouched.{outlined}
-use Rattle.gq_determined.specs.internal.Threads.{is_unshared, Tracked, thread_by, anew, stepped_to, is_active, works, seen}
+use Rattle.gq_determined.specs.internal.Threads.{is_unshared, Tracked, thread_by, anew, stepped_to, is_active, works, seen, Accepts}
 use Rattle.gq_determined.proofs.passing_threads.Kept_by_steps.{IsNamed}
 use Rattle.gq_determined.proofs.regions.Outside_region_kept.{OursBy, IsOld, IsNew, IsElse, current_of}
 use Rattle.gq_determined.proofs.thread_positions.Single_thread_position.{root_at, IsByCurrent, AreOpened, IsPlaced, IsTracked}
 use Rattle.gq_laws.proofs.verified_programs.Use_chains.{Uses}
 use Rattle.gq_determined.proofs.thread_steps.Own_steps.{anew_else, anew_here, not_free}
-use Rattle.gq_determined.proofs.thread_steps.Thread_step_frame.{seen_active, is_or_not, IsDone, thread_new}
+use Rattle.gq_determined.proofs.thread_steps.Thread_step_frame.{accepts_or_not, active_works, seen_active, IsDone, thread_new}
 
 -- an operand that names a session's slot names one of the current session
 pub named_session : (x : ℕ) (current : Option Current) (place : OperandSlot) (j b : ℕ) → slot_id_of x current place ≡ Some (In_session j b)
@@ -74,7 +75,7 @@ module _ (u : System) (g : Tracked) (t : IsPlaced u g) (i x : ℕ) (component : 
   -- the thread has its own leaf; a leaf that takes a request and is not its own is the thread's; and clients use their servers
   module _ (new : World) (event : Event) (done : IsDone u g t i x component a there new)
       (uses : (k : ℕ) (s : Session) → session_at new k ≡ Some s → Uses u s.client s.server) (lives : g.own i ≡ i)
-      (taken : a.phase ≡ Serving → g.own x ≢ x → g.own x ≡ i) where
+      (taken : Accepts a → g.own x ≢ x → g.own x ≡ i) where
     abbrev g_new : Tracked
     g_new = stepped_to g x i (Ok (new, event))
 
@@ -229,7 +230,8 @@ module _ (u : System) (g : Tracked) (t : IsPlaced u g) (i x : ℕ) (component : 
         by true ours =
             let same : y ≡ i
             = sym (ap (thread_by root y) l.3)
-            ∙ thread_new u g t i x component a there new done y ours l.0 l.1 (ap is_active l.2 ∙ act) in
+            ∙ thread_new u g t i x component a there new done y ours l.0 l.1
+            (active_works l.0.phase (first_signal l.0.signals) (ap is_active l.2 ∙ act)) in
             ap g.own same ∙ (lives ∙ sym same)
         by false out =
             let m = seen_back (slice_get new.leaves y) (slice_get g.world.leaves y) l.0 l.1 (rest.at y out) in
@@ -256,7 +258,7 @@ module _ (u : System) (g : Tracked) (t : IsPlaced u g) (i x : ℕ) (component : 
 
     held : (y : ℕ) (phase : Phase) (q : Current) → (links new).stances y ≡ Some (stance phase (Some q)) → g.own y ≢ y → g.own y ≡ root q.session
     held y phase q at ne = elim (eqb_tells y x) [
-      | inl e ↦ ap g.own e.1 ∙ here (ap (links new).stances (sym e.1) ∙ at) (λ own. ne (ap g.own e.1 ∙ (own ∙ sym e.1))) (is_or_not a.phase)
+      | inl e ↦ ap g.own e.1 ∙ here (ap (links new).stances (sym e.1) ∙ at) (λ own. ne (ap g.own e.1 ∙ (own ∙ sym e.1))) (accepts_or_not a)
       | inr e ↦
           let o = same_currents (slice_get new.leaves y) (slice_get g.world.leaves y) (rest.currents y e.1) phase (Some q) at in
           before y o.0.phase (ap stance_in o.1 ∙ ap (λ p. Some (stance o.0.phase p)) o.2) ne
@@ -268,16 +270,50 @@ module _ (u : System) (g : Tracked) (t : IsPlaced u g) (i x : ℕ) (component : 
             let s = outlined (session_at g.world q.session) m.0 m.1 in
             t.held y p q stood ne ∙ sym (same_root q.session s.0 s.1)
 
-        here : (links new).stances x ≡ Some (stance phase (Some q)) → g.own x ≢ x → (a.phase ≡ Serving) ⊎ (a.phase ≡ Serving → ⊥) → g.own x ≡ root q.session
+        here : (links new).stances x ≡ Some (stance phase (Some q)) → g.own x ≢ x → Accepts a ⊎ (Accepts a → ⊥) → g.own x ≡ root q.session
         here at own (inl serves) =
             let l = leaf_of (slice_get new.leaves x) phase (Some q) at in
-            let act = fits_active phase q (linked.fits x (stance phase (Some q)) at) in
-            taken serves own ∙ sym (sym (ap (thread_by root x) l.3) ∙ done.taken serves l.0 l.1 (ap is_active l.2 ∙ act))
+            taken serves own ∙ sym (sym (ap (thread_by root x) l.3) ∙ done.taken serves l.0 l.1)
         here at own (inr works) =
             let l = leaf_of (slice_get new.leaves x) phase (Some q) at in
             let act = fits_active phase q (linked.fits x (stance phase (Some q)) at) in
             let current : a.current ≡ Some q = sym (rest.mine works l.0 l.1 (ap is_active l.2 ∙ act)) ∙ l.3 in
             before x a.phase (ap stance_in there ∙ ap (λ o. Some (stance a.phase o)) current) own
+
+    -- a leaf that has a signal to take had it before
+    signals : (y : ℕ) (l : Leaf) → slice_get new.leaves y ≡ Some l → is_some (first_signal l.signals) ≡ true → (g.own y ≡ y) × (l.current ≡ None)
+    signals y l at flag =
+        let m = done.flags y l at flag in
+        let was = t.signals y m.0 m.1 m.2 in (
+          was.0,
+          elim (eqb_tells y x) [
+            | inl e ↦ here (ap (slice_get new.leaves) (sym e.1) ∙ at) m.0 (ap (slice_get g.world.leaves) (sym e.1) ∙ m.1) m.2 was.1
+            | inr e ↦
+                let o = same_currents (slice_get new.leaves y) (slice_get g.world.leaves y) (rest.currents y e.1) l.phase l.current (ap stance_in at) in
+                sym o.2 ∙ (ap (λ (l : Leaf). l.current) (some_same (sym o.1 ∙ m.1)) ∙ was.1)
+          ],
+        )
+      where
+        none_by : (current : Option Current) → Fits Serving current → current ≡ None
+        none_by None f = refl
+        none_by (Some q) f = absurd f
+
+        here : slice_get new.leaves x ≡ Some l → (m : Leaf) → slice_get g.world.leaves x ≡ Some m → is_some (first_signal m.signals) ≡ true
+            → m.current ≡ None → l.current ≡ None
+        here at m was flagged none = by l.current refl
+          where
+            same : m ≡ a
+            same = some_same (sym was ∙ there)
+
+            busy : Accepts a → ⊥
+            busy p = true≢false (sym flagged ∙ (ap (λ (l : Leaf). is_some (first_signal l.signals)) same ∙ ap is_some p.1))
+
+            by : (current : Option Current) → l.current ≡ current → l.current ≡ None
+            by None e = e
+            by (Some q) e =
+                let stood : (links new).stances x ≡ Some (stance l.phase (Some q)) = ap stance_in at ∙ ap (λ o. Some (stance l.phase o)) e in
+                rest.mine busy l at (fits_active l.phase q (linked.fits x (stance l.phase (Some q)) stood))
+                ∙ (ap (λ (l : Leaf). l.current) (sym same) ∙ none)
 
     pub still_placed : IsPlaced u g_new
     still_placed = record {
@@ -289,13 +325,14 @@ module _ (u : System) (g : Tracked) (t : IsPlaced u g) (i x : ℕ) (component : 
       lives = lives_on;
       main = main;
       held = held;
+      signals = signals;
     }
 
 -- WHERE A LEAF THAT IS NOT SHARED IS ANOTHER'S FOR GOOD
 
 module _ (u : System) (g : Tracked) (t : IsTracked u g) (i x : ℕ) (component : Component) (a : Leaf) (there : slice_get g.world.leaves x ≡ Some a)
     (new : World) (event : Event) (done : IsDone u g t.placed i x component a there new) (opened : AreOpened u g.own g.root new) (lives : g.own i ≡ i)
-    (taken : a.phase ≡ Serving → g.own x ≢ x → g.own x ≡ i) (single_taken : is_unshared u x ≡ true → a.phase ≡ Serving → g.own x ≢ x) where
+    (taken : Accepts a → g.own x ≢ x → g.own x ≡ i) (single_taken : is_unshared u x ≡ true → Accepts a → g.own x ≢ x) where
   abbrev dd : Doing
   dd = record { system = u; world = g.world; x = x; component = component; leaf = record a { steps = suc a.steps } }
 
@@ -322,13 +359,13 @@ module _ (u : System) (g : Tracked) (t : IsTracked u g) (i x : ℕ) (component :
   busy : (y : ℕ) (phase : Phase) (q : Current) → (links new).stances y ≡ Some (stance phase (Some q)) → is_unshared u y ≡ true → g.own y ≢ y
   busy y phase q at single = elim (eqb_tells y x) [
     | inl e ↦ subst (λ y. g.own y ≢ y) (sym e.1)
-        (here (ap (links new).stances (sym e.1) ∙ at) (ap (is_unshared u) (sym e.1) ∙ single) (is_or_not a.phase))
+        (here (ap (links new).stances (sym e.1) ∙ at) (ap (is_unshared u) (sym e.1) ∙ single) (accepts_or_not a))
     | inr e ↦
         let o = same_currents (slice_get new.leaves y) (slice_get g.world.leaves y) (done.rest.currents y e.1) phase (Some q) at in
         t.busy y o.0.phase q (ap stance_in o.1 ∙ ap (λ p. Some (stance o.0.phase p)) o.2) single
   ]
     where
-      here : (links new).stances x ≡ Some (stance phase (Some q)) → is_unshared u x ≡ true → (a.phase ≡ Serving) ⊎ (a.phase ≡ Serving → ⊥) → g.own x ≢ x
+      here : (links new).stances x ≡ Some (stance phase (Some q)) → is_unshared u x ≡ true → Accepts a ⊎ (Accepts a → ⊥) → g.own x ≢ x
       here at single (inl serves) = single_taken single serves
       here at single (inr works) =
           let l = leaf_of (slice_get new.leaves x) phase (Some q) at in

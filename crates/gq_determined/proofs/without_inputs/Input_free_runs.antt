@@ -1,11 +1,12 @@
--- A run over turns and settings, and the run over its turns alone: they show the same lines, and end in worlds that are the same but for inputs.
+-- A run over turns, settings and signals, and the run over its turns alone: they show the same lines, and end in worlds that are the same but for inputs.
+-- No leaf has a signal here.
 use Rattle.std.proofs.Common.{◌≡◌, ◌==◌, ℕ, zero, suc, Bool, true, false, cond, List, [], ◌∷◌, ◌++◌, Option, Some, None, Ok, refl, ap, sym, ◌∙◌, subst}
 use Rattle.std.specs.Prelude.{slice_get}
 use Rattle.gq_model.specs.declared.act.Act.{Act}
-use Rattle.gq_model.specs.declared.act.Act.TheVariants.{Turns, Sets}
+use Rattle.gq_model.specs.declared.act.Act.TheVariants.{Turns, Sets, Submits}
 use Rattle.gq_model.specs.declared.program.Instruction.{Instruction}
 use Rattle.gq_model.specs.machine.Doing.{Event, Idle, Stepped}
-use Rattle.gq_model.specs.machine.Run.{Acts, Ran, act_on, after_step, label_at, line_of, run, run_on, set_from, turn_from, turns_of}
+use Rattle.gq_model.specs.machine.Run.{Acts, Ran, act_on, after_step, label_at, line_of, run, run_on, set_from, submit, submit_from, turn_from, turns_of}
 use Rattle.gq_model.specs.machine.Scenario.{Component, Scenario, System, system}
 use Rattle.gq_model.specs.machine.Step.{next, step_of}
 use Rattle.gq_model.specs.machine.World.{Leaf, World, start}
@@ -19,15 +20,16 @@ use Rattle.gq_laws.proofs.upheld_worlds.Standing_world_invariant.{stands_first, 
 use Rattle.gq_laws.proofs.session_links.Linked_worlds.{kept_linked, start_linked}
 use Rattle.gq_laws.proofs.remaining_work.Remaining_program_statements.{kept_left, start_left}
 use Rattle.gq_laws.proofs.input_settings.Setting_keeps_invariants.{set_left, set_linked}
-use Rattle.gq_races.specs.Races.{IsRaceFree, reads_input}
+use Rattle.gq_races.specs.Races.{IsInputFree, IsSignalFree, reads_input}
 use Rattle.gq_determined.specs.Determined.{lines_of}
 use Rattle.gq_determined.specs.internal.Unset.{unset, turns_alone, turns_in, without_settings}
 use Rattle.gq_determined.proofs.thread_runs.Raceless_first_statements.{unread_sections}
 use Rattle.gq_determined.proofs.thread_runs.Sound_runs.{all_pay, goes_by}
+use Rattle.gq_determined.proofs.without_inputs.No_signals.{IsStill, still_next, still_set, still_start, submits_none}
 use Rattle.gq_determined.proofs.without_inputs.Worlds_without_inputs.{unset_setting, other_there}
 use Rattle.gq_determined.proofs.without_inputs.Input_free_step.{step_too}
 
-module _ (s : Scenario) (sound : IsSound s) (none : IsRaceFree s) where
+module _ (s : Scenario) (sound : IsSound s) (unread : IsInputFree s) (unmoved : IsSignalFree s) where
   abbrev real : System
   real = system s
 
@@ -38,7 +40,7 @@ module _ (s : Scenario) (sound : IsSound s) (none : IsRaceFree s) where
   IsUnread c i = reads_input i ≡ false
 
   programs : ArePrograms IsUnread real
-  programs x c at = unread_sections s sound none x c at
+  programs x c at = unread_sections s sound unread x c at
 
   -- two runs so far, neither of which is wrong
   record AreAlike (ran other : Ran) : Type 0 where
@@ -49,6 +51,7 @@ module _ (s : Scenario) (sound : IsSound s) (none : IsRaceFree s) where
     stands_other : Stands s other.world
     linked : IsLinkedWorld u ran.world
     left : AreLeft IsUnread real ran.world
+    still : IsStill ran.world
 
   -- ONE TURN
 
@@ -112,6 +115,7 @@ module _ (s : Scenario) (sound : IsSound s) (none : IsRaceFree s) where
           stands_other = stands_next s other.world x q.0.0 q.0.1 h.stands_other q.2;
           linked = kept_linked u ran.world x p.0.0 p.0.1 h.linked p.1;
           left = kept_left IsUnread real programs ran.world x p.0.0 p.0.1 h.left p.2;
+          still = still_next real ran.world x p.0.0 p.0.1 h.still p.2;
         };
         text = λ e j. e j ++ line_of label (sym is j).1;
       }))))
@@ -137,9 +141,19 @@ module _ (s : Scenario) (sound : IsSound s) (none : IsRaceFree s) where
           stands_other = h.stands_other;
           linked = set_linked u ran.world x i n h.linked;
           left = set_left IsUnread real ran.world x i n h.left;
+          still = still_set real ran.world x i n h.still;
         },
         refl,
       )
+
+  -- SIGNALS
+
+  submit_one : (ran other : Ran) (x i : ℕ) → AreAlike ran other
+      → AreAlike (submit_from x i ran ran.wrong) other × ((submit_from x i ran ran.wrong).text ≡ ran.text)
+  submit_one ran other x i h =
+      let same : record ran { world = submit ran.world x i } ≡ ran = ap (λ (w : World). record ran { world = w }) (submits_none ran.world x i h.still) in
+      subst (λ o. AreAlike (submit_from x i ran o) other × ((submit_from x i ran o).text ≡ ran.text)) (sym h.right)
+      (subst (λ r. AreAlike r other) (sym same) h, refl)
 
   -- RUNS
 
@@ -153,6 +167,7 @@ module _ (s : Scenario) (sound : IsSound s) (none : IsRaceFree s) where
           → AreAlike (run_on real acts (act_on real t.0 a ran)) (run_on real (turns_alone (turns_in t.0 a ++ without_settings acts)) other)
       by (Turns n) go = go (turns_of real t.0 n ran) (turns_of real t.0 n other) (turns_both ran other t.0 n h).alike
       by (Sets i n) go = go (set_from real t.0 i n ran ran.wrong) other (setting_one ran other t.0 i n h).0
+      by (Submits i) go = go (submit_from t.0 i ran ran.wrong) other (submit_one ran other t.0 i h).0
 
   -- runs so far, as if no line had been shown
   quiet_first : (ran other : Ran) → AreAlike ran other → AreAlike (silent ran) other
@@ -164,6 +179,7 @@ module _ (s : Scenario) (sound : IsSound s) (none : IsRaceFree s) where
     stands_other = h.stands_other;
     linked = h.linked;
     left = h.left;
+    still = h.still;
   }
 
   quiet : (ran other : Ran) → AreAlike ran other → AreAlike (silent ran) (silent other)
@@ -177,6 +193,7 @@ module _ (s : Scenario) (sound : IsSound s) (none : IsRaceFree s) where
         stands_other = k.stands_other;
         linked = k.linked;
         left = k.left;
+        still = k.still;
       }
 
   lines_same : (group : ℕ → Bool) (ran other : Ran) (acts : Acts) → AreAlike ran other
@@ -201,6 +218,11 @@ module _ (s : Scenario) (sound : IsSound s) (none : IsRaceFree s) where
           let more = set_from real t.0 i n (silent ran) ran.wrong in
           ap (λ l. cond (group t.0) l [] ++ lines_from real group acts more) one.1
           ∙ (nothing (group t.0) (lines_from real group acts more) ∙ go more other one.0)
+      by (Submits i) go =
+          let one = submit_one (silent ran) other t.0 i (quiet_first ran other h) in
+          let more = submit_from t.0 i (silent ran) ran.wrong in
+          ap (λ l. cond (group t.0) l [] ++ lines_from real group acts more) one.1
+          ∙ (nothing (group t.0) (lines_from real group acts more) ∙ go more other one.0)
 
   begins : AreAlike (record { world = start real; text = []; wrong = None }) (record { world = start real; text = []; wrong = None })
   begins = record {
@@ -211,6 +233,7 @@ module _ (s : Scenario) (sound : IsSound s) (none : IsRaceFree s) where
     stands_other = stands_first s sound;
     linked = start_linked u;
     left = start_left IsUnread real programs;
+    still = still_start s sound unmoved;
   }
 
   -- the worlds at the end

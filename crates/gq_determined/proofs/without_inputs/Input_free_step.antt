@@ -3,7 +3,6 @@
 use Rattle.std.proofs.Common.{inl, ◌≡◌, ℕ, suc, ◌++◌, true, false, List, [], ◌∷◌, Option, Some, None, Ok, refl, ap, sym, ◌∙◌, subst}
 use Rattle.std.specs.Prelude.{option_map, slice_get, slice_set}
 use Rattle.gq_model.specs.declared.fault.Wrong.TheVariants.{ExceededQuota, WrongKind}
-use Rattle.gq_model.specs.declared.phase.Phase.TheVariants.{Serving}
 use Rattle.gq_model.specs.declared.program.Instruction.{Instruction}
 use Rattle.gq_model.specs.declared.program.OperandSlot.{OperandSlot}
 use Rattle.gq_model.specs.declared.program.OperandSlot.TheVariants.{Own, Shared, Object}
@@ -23,6 +22,7 @@ use Rattle.gq_laws.proofs.Paired_step_outcomes.{Both, both_give, both_when, one_
 use Rattle.gq_laws.proofs.Outside_step_untouched.{outlined}
 use Rattle.gq_laws.proofs.session_links.Linked_after_accept.{oldest_found}
 use Rattle.gq_races.specs.Races.{reads_input}
+use Rattle.gq_determined.specs.internal.Threads.{Accepts}
 use Rattle.gq_determined.specs.internal.Unset.{unset_leaf, unset}
 use Rattle.gq_determined.proofs.passing_threads.Kept_around.{AreTaken, IsKeptAround, Match, both_step}
 use Rattle.gq_determined.proofs.passing_threads.Kept_by_steps.{Aside, IsKept, MayChange, other_doing, other_leaf}
@@ -103,7 +103,7 @@ module _ (u : System) (pays : (z : World) → paid u z ≡ true) (w z : World) (
   other_unset leaf = ap unset_leaf (sym (leaf_itself leaf))
 
   takes : TakesLeaf d
-  takes = record { old = a; there = there; slots = refl; phase = refl; current = refl }
+  takes = record { old = a; there = there; slots = refl; phase = refl; current = refl; reacting = refl }
 
   -- the current session, and those to which links lead, are there
   current_there : (g : Current) → a.current ≡ Some g → (s : Session) × (session_at w g.session ≡ Some s)
@@ -151,7 +151,7 @@ module _ (u : System) (pays : (z : World) → paid u z ≡ true) (w z : World) (
   }
 
   -- the same request is taken up
-  matches : a.phase ≡ Serving → Match same aside d z SameUnset SameUnset Any Any (oldest w x w.requests) (oldest z x z.requests)
+  matches : Accepts a → Match same aside d z SameUnset SameUnset Any Any (oldest w x w.requests) (oldest z x z.requests)
   matches serves =
       subst (λ o. Match same aside d z SameUnset SameUnset Any Any (oldest w x w.requests) o) (sym (oldest_too w z x k)) (by (oldest w x w.requests) refl)
     where

@@ -1,5 +1,5 @@
 -- Worlds without their inputs: a change of a world is the same change of the world without inputs, and what is read of a world is read of that one.
-use Rattle.std.proofs.Common.{◌≡◌, ℕ, zero, suc, cond, max, not, is_some, List, [], ◌∷◌, map, Option, Some, None, refl, ap, sym, ◌∙◌}
+use Rattle.std.proofs.Common.{◌≡◌, ℕ, zero, suc, cond, max, not, ◌||◌, is_some, List, [], ◌∷◌, map, Option, Some, None, refl, ap, sym, ◌∙◌}
 use Rattle.std.specs.Prelude.{option_map, slice_get, slice_set}
 use Rattle.std.proofs.lemmas.Option.{slice_get-map}
 use Rattle.gq_tariff.specs.Prices.{classes}
@@ -8,7 +8,7 @@ use Rattle.gq_model.specs.declared.phase.Phase.TheVariants.{Pending, Running, Bl
 use Rattle.gq_model.specs.machine.Accounts.{accounts, account_at, handed_to}
 use Rattle.gq_model.specs.machine.Run.{set_input}
 use Rattle.gq_model.specs.machine.Scenario.{Scenario, System, Component, system}
-use Rattle.gq_model.specs.machine.Step.{is_to, kept_before, oldest, active_again, unblocked, released, all_released}
+use Rattle.gq_model.specs.machine.Step.{is_to, kept_before, oldest, first_signal, active_again, unblocked, released, all_released}
 use Rattle.gq_model.specs.machine.Sums.{raised, with_peaks, places}
 use Rattle.gq_model.specs.machine.World.{Slot, SlotId, In_leaf, In_session, In_object, Session, Request, Leaf, World, session_at, with_leaf}
 use Rattle.gq_model.specs.machine.World.{leaf_slot, slot_at, put_leaf_slot, put_session_slot, put_object, with_slot}
@@ -121,20 +121,29 @@ unset_setting system w x i n =
 
 -- REST AND ACCOUNTS
 
-rests_same : (w : World) (x : ℕ) (phase : Phase) → rests (unset w) x phase ≡ rests w x phase
-rests_same w x Pending = refl
-rests_same w x Running = refl
-rests_same w x Blocked = refl
-rests_same w x Serving = ap (λ o. not (is_some o)) (unset_oldest w x w.requests)
-rests_same w x Handling = refl
-rests_same w x Exited = refl
+rests_same : (w : World) (x : ℕ) (leaf : Leaf) (phase : Phase) → rests (unset w) x leaf phase ≡ rests w x leaf phase
+rests_same w x leaf Pending = refl
+rests_same w x leaf Running = refl
+rests_same w x leaf Blocked = refl
+rests_same w x leaf Serving = ap (λ o. not (is_some (first_signal leaf.signals) || is_some o)) (unset_oldest w x w.requests)
+rests_same w x leaf Handling = refl
+rests_same w x leaf Exited = refl
+
+-- inputs do not matter
+rests_with : (w : World) (x : ℕ) (leaf : Leaf) (inputs : List ℕ) (phase : Phase) → rests w x (record leaf { inputs = inputs }) phase ≡ rests w x leaf phase
+rests_with w x leaf inputs Pending = refl
+rests_with w x leaf inputs Running = refl
+rests_with w x leaf inputs Blocked = refl
+rests_with w x leaf inputs Serving = refl
+rests_with w x leaf inputs Handling = refl
+rests_with w x leaf inputs Exited = refl
 
 pub rest_too : (w v : World) → unset w ≡ unset v → AllRest w → AllRest v
 rest_too w v same rest x leaf there =
     let old = other_there v w (sym same) x leaf there in
-    sym (rests_same v x leaf.phase)
-    ∙ (ap (λ (w : World). rests w x leaf.phase) (sym same)
-    ∙ (rests_same w x leaf.phase ∙ rest x (record leaf { inputs = old.0 }) old.1))
+    sym (rests_same v x leaf leaf.phase)
+    ∙ (ap (λ (w : World). rests w x leaf leaf.phase) (sym same)
+    ∙ (rests_same w x leaf leaf.phase ∙ (sym (rests_with w x leaf old.0 leaf.phase) ∙ rest x (record leaf { inputs = old.0 }) old.1)))
 
 unset_account : (w : World) (version budget y : ℕ) (c : Option Component) (o : Option Leaf)
     → account_at version (unset w) y c (option_map unset_leaf o) budget ≡ account_at version w y c o budget

@@ -7,9 +7,9 @@ use Rattle.std.proofs.lemmas.List.{append_assoc, append-nil}
 use Rattle.gq_model.specs.declared.phase.Phase.{Phase}
 use Rattle.gq_model.specs.declared.phase.Phase.TheVariants.{Pending, Running, Blocked, Serving, Handling, Exited}
 use Rattle.gq_model.specs.machine.Scenario.{Scenario, Component, System, components, system}
-use Rattle.gq_model.specs.machine.World.{Session, Request, Current, Leaf, World, session_at}
+use Rattle.gq_model.specs.machine.World.{Session, Request, Current, Signal, Leaf, World, session_at}
 use Rattle.gq_model.specs.machine.Doing.{Event, Idle, Stepped}
-use Rattle.gq_model.specs.machine.Step.{is_to, oldest, next}
+use Rattle.gq_model.specs.machine.Step.{is_to, oldest, first_signal, next}
 use Rattle.gq_model.specs.machine.Run.{Ran, label_at, line_of, after_step, turn_from, turns_of}
 use Rattle.gq_model.proofs.Small_facts.{none_some, some_same, equal_self}
 use Rattle.std.specs.Prelude.{is_some}
@@ -21,14 +21,14 @@ use Rattle.gq_laws.proofs.Outside_step_untouched.{outlined}
 use Rattle.gq_laws.specs.Sound_scenarios.{IsSound}
 use Rattle.gq_laws.specs.internal.Uncounted.{uncounted}
 use Rattle.gq_laws.specs.Progress.{world_after}
-use Rattle.gq_laws.specs.Turn_effects.{StandsStill}
+use Rattle.gq_laws.proofs.step_shapes.Step_counting.{stands_still}
 use Rattle.gq_laws.specs.Group_alone.{lines_from}
 use Rattle.gq_laws.proofs.held_resources.Uncounted_resource_step.{step_same}
-use Rattle.gq_determined.specs.Determined.{lines_of}
 use Rattle.gq_determined.specs.internal.Thread_machines.{is_for}
-use Rattle.gq_determined.specs.internal.Threads.{Tracked, who, who_of, who_by, asker, thread_by, tracked_after, shown_by, shows, events_of, turned, past_of}
+use Rattle.gq_determined.specs.internal.Threads.{Tracked, who, who_of, who_by, asker, served_for, thread_by, tracked_after, shown_by, shows, events_of}
+use Rattle.gq_determined.specs.internal.Threads.{turned, past_of}
 use Rattle.gq_determined.specs.internal.Unset.{each_turn, turns_alone}
-use Rattle.gq_determined.proofs.thread_runs.Sound_runs.{goes_by, all_stand}
+use Rattle.gq_determined.proofs.thread_runs.Sound_runs.{IsFirst, goes_by, all_stand}
 use Rattle.gq_determined.proofs.thread_runs.At_rest.{at, next_world, no_thread}
 
 -- the lines of a leaf among what was shown
@@ -43,14 +43,14 @@ said_more x label (e ∷ one) other =
     ∙ sym (append_assoc (cond (e.0 == x) (line_of label e.1) []) (said x label one) (said x label other))
 
 -- what is reported of each turn is what the leaf writes in it
-module _ (s : Scenario) (sound : IsSound s) (idle : (w : World) (x : ℕ) → StandsStill (system s) w x) (x : ℕ) (reported : List ℕ → List ℕ)
-    (begins : reported [] ≡ []) (goes : (y : ℕ) (a : List ℕ) (p : World × Event) → next (system s) (at s sound idle a).world y ≡ Ok p
+module _ (s : Scenario) (sound : IsSound s) (w : World) (root : ℕ → ℕ) (first : IsFirst s w root) (x : ℕ) (reported : List ℕ → List ℕ)
+    (begins : reported [] ≡ []) (goes : (y : ℕ) (a : List ℕ) (p : World × Event) → next (system s) (at s sound w root first a).world y ≡ Ok p
     → reported (y ∷ a) ≡ reported a ++ cond (y == x) (line_of (label_at (slice_get (system s).components x)) p.1) []) where
   abbrev own_label : List ℕ
   own_label = label_at (slice_get (system s).components x)
 
   abbrev run_at : List ℕ → Tracked
-  run_at = at s sound idle
+  run_at = at s sound w root first
 
   -- a run so far
   abbrev ran_at : List ℕ → List ℕ → Ran
@@ -64,8 +64,8 @@ module _ (s : Scenario) (sound : IsSound s) (idle : (w : World) (x : ℕ) → St
       × (reported (y ∷ a) ≡ reported a ++ cond (y == x) l [])
   unfolding label_of
   turn_ran y a text =
-      let p = goes_by s sound (run_at a).world y (all_stand s sound a) in
-      let world : p.0.0 ≡ (run_at (y ∷ a)).world = sym (ap (world_after (run_at a).world) p.2) ∙ next_world s sound idle a y in (
+      let p = goes_by s sound (run_at a).world y (all_stand s sound w root first a) in
+      let world : p.0.0 ≡ (run_at (y ∷ a)).world = sym (ap (world_after (run_at a).world) p.2) ∙ next_world s sound w root first a y in (
         line_of (label_of y) p.0.1,
         ap (after_step (system s) y (ran_at a text)) p.2
             ∙ (λ e. record { world = world e; text = text ++ line_of (label_of y) p.0.1; wrong = None }),
@@ -123,14 +123,17 @@ module _ (s : Scenario) (sound : IsSound s) (idle : (w : World) (x : ℕ) → St
       ∙ (append_assoc (reported a) (cond (t.0 == x) one.0 []) (lines_from (system s) (λ y. y == x) (turns_alone turns) (ran_at next_a one.0))
       ∙ ap (λ (ran : Ran). reported a ++ (cond (t.0 == x) ran.text [] ++ lines_from (system s) (λ y. y == x) (turns_alone turns) ran)) (sym one.1))))
 
-  -- the lines of the leaf in a run
-  pub lines_reported : (turns : List (ℕ × ℕ)) → lines_of s x (turns_alone turns) ≡ reported (past_of turns)
-  lines_reported turns = sym (lines_ran turns [] [] ∙ ap (λ l. l ++ lines_of s x (turns_alone turns)) begins)
+  -- the lines of the leaf in a run from there on
+  abbrev from_there : List (ℕ × ℕ) → List ℕ → List ℕ
+  from_there turns text = lines_from (system s) (λ y. y == x) (turns_alone turns) (record { world = w; text = text; wrong = None })
+
+  pub lines_reported : (turns : List (ℕ × ℕ)) (text : List ℕ) → from_there turns text ≡ reported (past_of turns)
+  lines_reported turns text = sym (lines_ran turns [] text ∙ ap (λ l. l ++ from_there turns text) begins)
 
 -- A LEAF WHOSE STEPS ARE ALL FOR ITS OWN THREAD
 
-module _ (s : Scenario) (sound : IsSound s) (idle : (w : World) (x : ℕ) → StandsStill (system s) w x) (x : ℕ)
-    (own : (a : List ℕ) (i : ℕ) → who (tracked_after (uncounted (system s)) a) x ≡ Some i → i ≡ x) where
+module _ (s : Scenario) (sound : IsSound s) (w : World) (root : ℕ → ℕ) (first : IsFirst s w root) (x : ℕ)
+    (own : (a : List ℕ) (i : ℕ) → who (tracked_after (uncounted (system s)) w root a) x ≡ Some i → i ≡ x) where
   abbrev u : System
   u = uncounted (system s)
 
@@ -138,10 +141,10 @@ module _ (s : Scenario) (sound : IsSound s) (idle : (w : World) (x : ℕ) → St
   label = label_at (slice_get (system s).components x)
 
   abbrev now : List ℕ → Tracked
-  now = at s sound idle
+  now = at s sound w root first
 
   abbrev shown : List ℕ → List (ℕ × Event)
-  shown = shown_by u x
+  shown = shown_by u w root x
 
   event_or : Event → Stepped → Event
   event_or e (Ok p) = p.1
@@ -171,7 +174,7 @@ module _ (s : Scenario) (sound : IsSound s) (idle : (w : World) (x : ℕ) → St
 
       own_is : y ≡ x → (o : Option ℕ) → who (now a) y ≡ o → cond (is_for x o) (line_of label p.1) [] ≡ line_of label p.1
       own_is e None is = ap (line_of label) (sym (same_event p ((now a).world, Idle)
-          (sym stepped ∙ idle (now a).world y (no_thread (now a) y (slice_get (system s).components y) is))))
+          (sym stepped ∙ stands_still (system s) (now a).world y (no_thread (now a) y (slice_get (system s).components y) is))))
       own_is e (Some i) is =
           ap (λ n. cond (n == x) (line_of label p.1) []) (own a i (ap (who (now a)) (sym e) ∙ is))
           ∙ ap (λ b. cond b (line_of label p.1) []) (equal_self x)
@@ -189,59 +192,69 @@ module _ (s : Scenario) (sound : IsSound s) (idle : (w : World) (x : ℕ) → St
           none true = refl
           none false = refl
 
-  -- the lines of the leaf in a run
-  pub lines_are : (turns : List (ℕ × ℕ)) → lines_of s x (turns_alone turns) ≡ said x label (shown (past_of turns))
-  lines_are = lines_reported s sound idle x (λ a. said x label (shown a)) refl turn_shows
+  -- the lines of the leaf in a run from there on
+  pub lines_are : (turns : List (ℕ × ℕ)) (text : List ℕ)
+      → lines_from (system s) (λ y. y == x) (turns_alone turns) (record { world = w; text = text; wrong = None })
+      ≡ said x label (shown (past_of turns))
+  lines_are = lines_reported s sound w root first x (λ a. said x label (shown a)) refl turn_shows
 
 -- A LEAF THAT PROVIDES NOTHING
 
-module _ (s : Scenario) (sound : IsSound s) (x : ℕ) (c : Component) (there : slice_get (components s) x ≡ Some c) (nothing : c.node.provides ≡ None) where
+module _ (s : Scenario) (sound : IsSound s) (w : World) (root : ℕ → ℕ) (first : IsFirst s w root) (x : ℕ) (c : Component)
+    (there : slice_get (components s) x ≡ Some c) (nothing : c.node.provides ≡ None) where
   -- no session leads to it
-  no_session : (w : World) → IsLinkedWorld (system s) w → (k : ℕ) (t : Session) → session_at w k ≡ Some t → t.server ≡ x → ⊥
-  no_session w linked k t at e =
+  no_session : (z : World) → IsLinkedWorld (system s) z → (k : ℕ) (t : Session) → session_at z k ≡ Some t → t.server ≡ x → ⊥
+  no_session z linked k t at e =
       let r = linked.routed k (outline t) (ap outline_in at) in
       true≢false (sym (server_some s sound t.client x r.0 c t.service r.1 (r.2 ∙ ap Some e) there) ∙ ap is_some nothing)
 
-  pub own_thread : (a : List ℕ) (i : ℕ) → who (tracked_after (uncounted (system s)) a) x ≡ Some i → i ≡ x
-  own_thread a i e = by (slice_get (tracked_after (uncounted (system s)) a).world.leaves x) refl e
+  pub own_thread : (a : List ℕ) (i : ℕ) → who (tracked_after (uncounted (system s)) w root a) x ≡ Some i → i ≡ x
+  own_thread a i e = by (slice_get (tracked_after (uncounted (system s)) w root a).world.leaves x) refl e
     where
-      linked : IsLinkedWorld (system s) (tracked_after (uncounted (system s)) a).world
-      linked = (all_stand s sound a).linked
+      linked : IsLinkedWorld (system s) (tracked_after (uncounted (system s)) w root a).world
+      linked = (all_stand s sound w root first a).linked
 
-      current_none : (leaf : Leaf) → slice_get (tracked_after (uncounted (system s)) a).world.leaves x ≡ Some leaf → (current : Option Current)
+      current_none : (leaf : Leaf) → slice_get (tracked_after (uncounted (system s)) w root a).world.leaves x ≡ Some leaf → (current : Option Current)
           → leaf.current ≡ current
-          → thread_by (tracked_after (uncounted (system s)) a).root x current ≡ x
+          → thread_by (tracked_after (uncounted (system s)) w root a).root x current ≡ x
       current_none leaf at None e = refl
       current_none leaf at (Some q) e =
           let m = linked.handles x leaf.phase q (ap stance_in at ∙ ap (λ o. Some (stance leaf.phase o)) e) in
-          let t = outlined (session_at (tracked_after (uncounted (system s)) a).world q.session) m.0 m.1 in
-          absurd (no_session (tracked_after (uncounted (system s)) a).world linked q.session t.0 t.1 (ap (λ (s : Session). s.server) t.2 ∙ m.2))
+          let t = outlined (session_at (tracked_after (uncounted (system s)) w root a).world q.session) m.0 m.1 in
+          absurd (no_session (tracked_after (uncounted (system s)) w root a).world linked q.session t.0 t.1 (ap (λ (s : Session). s.server) t.2 ∙ m.2))
 
       to_there : (o : Option Session) → is_to x o ≡ true → (t : Session) × (o ≡ Some t) × (t.server ≡ x)
       to_there None e = absurd cc
       to_there (Some t) e = elim (eqb_tells t.server x) [ inl q ↦ (t, refl, q.1) | inr q ↦ absurd (true≢false (sym e ∙ q.0)) ]
 
       none_asks : (o : Option (Request × List Request))
-          → oldest (tracked_after (uncounted (system s)) a).world x (tracked_after (uncounted (system s)) a).world.requests ≡ o
-          → asker (tracked_after (uncounted (system s)) a).root o ≡ Some i → i ≡ x
+          → oldest (tracked_after (uncounted (system s)) w root a).world x (tracked_after (uncounted (system s)) w root a).world.requests ≡ o
+          → asker (tracked_after (uncounted (system s)) w root a).root o ≡ Some i → i ≡ x
       none_asks None f e = absurd (none_some e)
       none_asks (Some p) f e =
-          let to = (oldest_found (λ r. Unit {0}) (tracked_after (uncounted (system s)) a).world x (tracked_after (uncounted (system s)) a).world.requests p
+          let to = (oldest_found (λ r. Unit {0}) (tracked_after (uncounted (system s)) w root a).world x
+          (tracked_after (uncounted (system s)) w root a).world.requests p
           f).to in
-          let t = to_there (session_at (tracked_after (uncounted (system s)) a).world p.0.session) to in
-          absurd (no_session (tracked_after (uncounted (system s)) a).world linked p.0.session t.0 t.1 t.2)
+          let t = to_there (session_at (tracked_after (uncounted (system s)) w root a).world p.0.session) to in
+          absurd (no_session (tracked_after (uncounted (system s)) w root a).world linked p.0.session t.0 t.1 t.2)
 
-      of : (leaf : Leaf) → slice_get (tracked_after (uncounted (system s)) a).world.leaves x ≡ Some leaf → (p : Phase)
-          → who_by (tracked_after (uncounted (system s)) a) x leaf.current p ≡ Some i → i ≡ x
+      of : (leaf : Leaf) → slice_get (tracked_after (uncounted (system s)) w root a).world.leaves x ≡ Some leaf → (p : Phase)
+          → who_by (tracked_after (uncounted (system s)) w root a) x leaf.current leaf.signals p ≡ Some i → i ≡ x
       of leaf at Running e = sym (some_same e) ∙ current_none leaf at leaf.current refl
       of leaf at Handling e = sym (some_same e) ∙ current_none leaf at leaf.current refl
-      of leaf at Serving e =
-          none_asks (oldest (tracked_after (uncounted (system s)) a).world x (tracked_after (uncounted (system s)) a).world.requests) refl e
+      of leaf at Serving e = serves (first_signal leaf.signals) e
+        where
+          serves : (s' : Option (ℕ × List Signal)) → served_for (tracked_after (uncounted (system s)) w root a).root
+              (thread_by (tracked_after (uncounted (system s)) w root a).root x leaf.current) s'
+              (oldest (tracked_after (uncounted (system s)) w root a).world x (tracked_after (uncounted (system s)) w root a).world.requests) ≡ Some i → i ≡ x
+          serves None e = none_asks (oldest (tracked_after (uncounted (system s)) w root a).world x
+              (tracked_after (uncounted (system s)) w root a).world.requests) refl e
+          serves (Some s') e = sym (some_same e) ∙ current_none leaf at leaf.current refl
       of leaf at Pending e = absurd (none_some e)
       of leaf at Blocked e = absurd (none_some e)
       of leaf at Exited e = absurd (none_some e)
 
-      by : (o : Option Leaf) → slice_get (tracked_after (uncounted (system s)) a).world.leaves x ≡ o
-          → who_of (tracked_after (uncounted (system s)) a) x o ≡ Some i → i ≡ x
+      by : (o : Option Leaf) → slice_get (tracked_after (uncounted (system s)) w root a).world.leaves x ≡ o
+          → who_of (tracked_after (uncounted (system s)) w root a) x o ≡ Some i → i ≡ x
       by None at e = absurd (none_some e)
       by (Some leaf) at e = of leaf at leaf.phase e

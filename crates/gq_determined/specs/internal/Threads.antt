@@ -1,23 +1,22 @@
--- Threads: `main` of a leaf, with the sections that other leaves run for it while it waits. Each has a region of the world, that no other changes: the own
--- slots of the leaves that are its, and the sessions below them. A leaf is at first its own thread's. One that is not shared is, from its first request on, the
--- thread's that asks, with all that was its own; so its own thread is over. Regions of two worlds are compared up to the numbers of sessions.
+-- Threads: `main` of a leaf and what it does for signals, with the sections that other leaves run for it while it waits. Each has a region of the world, that
+-- no other changes: the own slots of the leaves that are its, and the sessions below them. A leaf is at first its own thread's. One that is not shared is, from
+-- its first request on, the thread's that asks, with all that was its own; so its own thread is over. Regions of two worlds are compared up to the numbers of
+-- sessions.
 use Rattle.std.specs.Prelude.{◌≡◌, ◌⊎◌, ◌++◌, ℕ, zero, suc, ◌==◌, if◌then◌else◌, Bool, true, false, ◌&&◌, not, List, [], ◌∷◌, map, Option, Some, None}
-use Rattle.std.specs.Prelude.{Ok, Err, option_map, slice_get}
+use Rattle.std.specs.Prelude.{Ok, Err, is_some, option_map, slice_get}
 use Rattle.gq_model.specs.declared.phase.Phase.{Phase}
 use Rattle.gq_model.specs.declared.phase.Phase.TheVariants.{Pending, Running, Blocked, Serving, Handling, Exited}
 use Rattle.gq_model.specs.machine.Program.{Done}
-use Rattle.gq_model.specs.machine.Scenario.{Scenario, System, Component, system}
-use Rattle.gq_model.specs.machine.Run.{run}
-use Rattle.gq_laws.specs.internal.Uncounted.{uncounted}
-use Rattle.gq_model.specs.machine.World.{Slot, Session, Request, Current, Leaf, World, joined, start}
+use Rattle.gq_model.specs.machine.Scenario.{System, Component}
+use Rattle.gq_model.specs.machine.World.{Slot, Session, Request, Current, Signal, Leaf, World, joined, start}
 use Rattle.gq_model.specs.machine.Doing.{Event, Stepped}
 use Rattle.gq_model.specs.machine.Requests.{free_place}
-use Rattle.gq_model.specs.machine.Step.{oldest, next}
+use Rattle.gq_model.specs.machine.Step.{oldest, first_signal, next}
 use Rattle.gq_laws.specs.Renamed.{renamed_slot, renamed_leaf, renamed_request}
 use Rattle.gq_laws.specs.internal.Corresponding.{Correspond}
 use Rattle.gq_races.specs.Races.{opens_first, opens_later, is_shared}
 use Rattle.gq_determined.specs.internal.Thread_machines.{after, shown}
-use Rattle.gq_determined.specs.internal.Unset.{each_turn, turns_alone}
+use Rattle.gq_determined.specs.internal.Unset.{each_turn}
 
 -- LEAVES THAT ARE NOT SHARED
 
@@ -41,7 +40,7 @@ pub record Tracked : Type 0 where
   pub own : ℕ → ℕ
   pub wrote : ℕ → List Event
 
--- a leaf works for itself in `main`, and else for the thread of its current session
+-- a leaf works for itself in `main` and for a signal, and else for the thread of its current session
 abbrev pub thread_by : (ℕ → ℕ) → ℕ → Option Current → ℕ
 thread_by root x None = x
 thread_by root x (Some current) = root current.session
@@ -50,17 +49,22 @@ abbrev pub asker : (ℕ → ℕ) → Option (Request × List Request) → Option
 asker root None = None
 asker root (Some p) = Some (root p.0.session)
 
-abbrev pub who_by : Tracked → ℕ → Option Current → Phase → Option ℕ
-who_by g x current Running = Some (thread_by g.root x current)
-who_by g x current Handling = Some (thread_by g.root x current)
-who_by g x current Serving = asker g.root (oldest g.world x g.world.requests)
-who_by g x current Pending = None
-who_by g x current Blocked = None
-who_by g x current Exited = None
+-- a leaf that serves takes a signal for itself, and a request for the thread of its session
+abbrev pub served_for : (ℕ → ℕ) → ℕ → Option (ℕ × List Signal) → Option (Request × List Request) → Option ℕ
+served_for root itself (Some signal) found = Some itself
+served_for root itself None found = asker root found
+
+abbrev pub who_by : Tracked → ℕ → Option Current → List Signal → Phase → Option ℕ
+who_by g x current signals Running = Some (thread_by g.root x current)
+who_by g x current signals Handling = Some (thread_by g.root x current)
+who_by g x current signals Serving = served_for g.root (thread_by g.root x current) (first_signal signals) (oldest g.world x g.world.requests)
+who_by g x current signals Pending = None
+who_by g x current signals Blocked = None
+who_by g x current signals Exited = None
 
 abbrev pub who_of : Tracked → ℕ → Option Leaf → Option ℕ
 who_of g x None = None
-who_of g x (Some leaf) = who_by g x leaf.current leaf.phase
+who_of g x (Some leaf) = who_by g x leaf.current leaf.signals leaf.phase
 
 -- the thread for which the next turn of a leaf is a step, if it is one
 abbrev pub who : Tracked → ℕ → Option ℕ
@@ -97,13 +101,13 @@ abbrev pub given : Tracked → ℕ → ℕ → Bool → Tracked
 given g x i first = record { world = g.world; root = moved first x i g.root; own = moved first x i g.own; wrote = g.wrote }
 
 -- a leaf that is not shared, and not yet this thread's, takes a request
-abbrev pub first_of : System → Tracked → ℕ → ℕ → Phase → Option (Request × List Request) → Bool
-first_of system g x i Serving (Some p) = is_unshared system x && not (g.own x == i)
-first_of system g x i phase found = false
+abbrev pub first_of : System → Tracked → ℕ → ℕ → Phase → Option (ℕ × List Signal) → Option (Request × List Request) → Bool
+first_of system g x i Serving None (Some p) = is_unshared system x && not (g.own x == i)
+first_of system g x i phase signal found = false
 
 abbrev pub first_by : System → Tracked → ℕ → ℕ → Option Leaf → Bool
 first_by system g x i None = false
-first_by system g x i (Some leaf) = first_of system g x i leaf.phase (oldest g.world x g.world.requests)
+first_by system g x i (Some leaf) = first_of system g x i leaf.phase (first_signal leaf.signals) (oldest g.world x g.world.requests)
 
 -- what a step of a leaf for a thread begins with
 abbrev pub ready : System → Tracked → ℕ → ℕ → Tracked
@@ -117,8 +121,13 @@ turn_for system g x (Some i) = stepped_to (ready system g x i) x i (next system 
 abbrev pub tracked_turn : System → Tracked → ℕ → Tracked
 tracked_turn system g x = turn_for system g x (who g x)
 
+-- before any turn each leaf is its own thread's; these are the threads of the sessions that are there
+abbrev pub tracked_from : World → (ℕ → ℕ) → Tracked
+tracked_from w root = record { world = w; root = root; own = λ x. x; wrote = λ x. [] }
+
+-- at the start there are none
 abbrev pub tracked_start : System → Tracked
-tracked_start system = record { world = start system; root = λ k. 0; own = λ x. x; wrote = λ x. [] }
+tracked_start system = tracked_from (start system) (λ k. 0)
 
 -- what a turn shows: the leaf, and what it wrote
 abbrev pub events_of : ℕ → Stepped → List (ℕ × Event)
@@ -130,6 +139,7 @@ shows system g x = events_of x (next system g.world x)
 
 -- HOW A THREAD STANDS
 
+-- what a leaf does is not over
 abbrev pub is_active : Phase → Bool
 is_active Pending = true
 is_active Running = true
@@ -138,24 +148,63 @@ is_active Handling = true
 is_active Serving = false
 is_active Exited = false
 
+-- so does one that serves and has a signal to take
+abbrev pub has_work : Phase → Option (ℕ × List Signal) → Bool
+has_work Pending signal = true
+has_work Running signal = true
+has_work Blocked signal = true
+has_work Handling signal = true
+has_work Serving signal = is_some signal
+has_work Exited signal = false
+
+-- a leaf that serves and has no signal to take accepts a request next
+abbrev pub Accepts : Leaf → Type 0
+Accepts leaf = (leaf.phase ≡ Serving) × (first_signal leaf.signals ≡ None)
+
 -- a leaf that works for a thread
 abbrev pub works_for : (ℕ → ℕ) → ℕ → ℕ → Option Leaf → Bool
 works_for root i y None = false
-works_for root i y (Some leaf) = is_active leaf.phase && (thread_by root y leaf.current == i)
+works_for root i y (Some leaf) = has_work leaf.phase (first_signal leaf.signals) && (thread_by root y leaf.current == i)
 
 abbrev pub works : Tracked → ℕ → ℕ → Bool
 works g i y = works_for g.root i y (slice_get g.world.leaves y)
 
--- what a leaf is at: nothing where it serves; whether it has been started does not matter, nor do its inputs
+-- what a leaf is at: nothing but its signals and what is current where it serves; whether it has been started does not matter, nor do its inputs
 abbrev pub seen_by : Phase → Leaf → Leaf
 seen_by Pending leaf = record leaf { phase = Running; slots = []; peaks = []; steps = 0; inputs = [] }
 seen_by Running leaf = record leaf { phase = Running; slots = []; peaks = []; steps = 0; inputs = [] }
 seen_by Blocked leaf = record leaf { phase = Blocked; slots = []; peaks = []; steps = 0; inputs = [] }
 seen_by Handling leaf = record leaf { phase = Handling; slots = []; peaks = []; steps = 0; inputs = [] }
 seen_by Serving leaf =
-    record { phase = Serving; current = None; todo = Done; loops = []; operands = []; locals = []; slots = []; peaks = []; steps = 0; inputs = [] }
+    record {
+      phase = Serving;
+      current = leaf.current;
+      reacting = None;
+      todo = Done;
+      loops = [];
+      operands = [];
+      locals = [];
+      slots = [];
+      peaks = [];
+      steps = 0;
+      inputs = [];
+      signals = leaf.signals;
+    }
 seen_by Exited leaf =
-    record { phase = Exited; current = None; todo = Done; loops = []; operands = []; locals = []; slots = []; peaks = []; steps = 0; inputs = [] }
+    record {
+      phase = Exited;
+      current = None;
+      reacting = None;
+      todo = Done;
+      loops = [];
+      operands = [];
+      locals = [];
+      slots = [];
+      peaks = [];
+      steps = 0;
+      inputs = [];
+      signals = [];
+    }
 
 abbrev pub seen : Leaf → Leaf
 seen leaf = seen_by leaf.phase leaf
@@ -199,31 +248,40 @@ pub record IsAlike (i : ℕ) (g h : Tracked) : Type 0 where
   pub main : works g i i ≡ works h i i
   pub whole : g.own i ≡ i → h.own i ≡ i → IsSameThread i g h
 
--- its `main` has ended
+-- its `main` has ended, and it has no signal to take
 abbrev pub HasEnded : ℕ → Tracked → Type 0
 HasEnded i g = works g i i ≡ false
 
 -- RUNS
 
--- after turns of leaves, of which the last comes first
-abbrev pub tracked_after : System → List ℕ → Tracked
-tracked_after system = after Tracked (ℕ × Event) (tracked_start system) (tracked_turn system) who (shows system)
+-- from a world on, with the threads of its sessions
+module _ (system : System) (w : World) (root : ℕ → ℕ) where
+  -- after turns of leaves, of which the last comes first
+  abbrev pub tracked_after : List ℕ → Tracked
+  tracked_after = after Tracked (ℕ × Event) (tracked_from w root) (tracked_turn system) who (shows system)
 
--- what a thread shows in these turns: the leaves that took steps for it, and what each wrote
-abbrev pub shown_by : System → ℕ → List ℕ → List (ℕ × Event)
-shown_by system = shown Tracked (ℕ × Event) (tracked_start system) (tracked_turn system) who (shows system)
+  -- what a thread shows in these turns: the leaves that took steps for it, and what each wrote
+  abbrev pub shown_by : ℕ → List ℕ → List (ℕ × Event)
+  shown_by = shown Tracked (ℕ × Event) (tracked_from w root) (tracked_turn system) who (shows system)
 
--- where its `main` has ended in both runs a thread has the same in both, and has shown the same
-abbrev pub SameAtEnds : System → Type 0
-SameAtEnds system =
-    (i : ℕ) (turns others : List ℕ) → HasEnded i (tracked_after system turns) → HasEnded i (tracked_after system others)
-    → IsAlike i (tracked_after system turns) (tracked_after system others) × (shown_by system i turns ≡ shown_by system i others)
+  -- where it has ended in both runs a thread has the same in both, and has shown the same
+  abbrev pub SameAtEnds : Type 0
+  SameAtEnds =
+      (i : ℕ) (turns others : List ℕ) → HasEnded i (tracked_after turns) → HasEnded i (tracked_after others)
+      → IsAlike i (tracked_after turns) (tracked_after others) × (shown_by i turns ≡ shown_by i others)
 
--- what it shows in one run is a prefix of what it shows in the other, or the other way round
-abbrev pub SamePrefixes : System → Type 0
-SamePrefixes system =
-    (i : ℕ) (turns others : List ℕ) → ((rest : List (ℕ × Event)) × (shown_by system i others ≡ shown_by system i turns ++ rest))
-    ⊎ ((rest : List (ℕ × Event)) × (shown_by system i turns ≡ shown_by system i others ++ rest))
+  -- what it shows in one run is a prefix of what it shows in the other, or the other way round
+  abbrev pub SamePrefixes : Type 0
+  SamePrefixes =
+      (i : ℕ) (turns others : List ℕ) → ((rest : List (ℕ × Event)) × (shown_by i others ≡ shown_by i turns ++ rest))
+      ⊎ ((rest : List (ℕ × Event)) × (shown_by i turns ≡ shown_by i others ++ rest))
+
+  -- where all work is at rest in both runs, each thread has the same, if it has its own leaf, and has shown the same
+  pub record SameAtRest (turns others : List ℕ) : Type 0 where
+    -- the same threads have their own leaves, and each of these has the same
+    pub same : (i : ℕ) → (tracked_after turns).own i ≡ i → IsSameThread i (tracked_after turns) (tracked_after others)
+    pub back : (i : ℕ) → (tracked_after others).own i ≡ i → (tracked_after turns).own i ≡ i
+    pub shown : (i : ℕ) → shown_by i turns ≡ shown_by i others
 
 -- turns in their order, put before those that were
 abbrev pub turned : List ℕ → List ℕ → List ℕ
@@ -233,14 +291,3 @@ turned (x ∷ turns) past = turned turns (x ∷ past)
 -- the last turn first, of turns that are reported as leaves and numbers of turns
 abbrev pub past_of : List (ℕ × ℕ) → List ℕ
 past_of turns = turned (each_turn turns) []
-
--- where all work is at rest in both runs, each thread has the same, if it has its own leaf, and has shown the same; and the runs end in these worlds
-pub record SameAtRest (s : Scenario) (turns others : List (ℕ × ℕ)) : Type 0 where
-  pub world : (run (system s) (turns_alone turns)).world ≡ (tracked_after (uncounted (system s)) (past_of turns)).world
-  pub other : (run (system s) (turns_alone others)).world ≡ (tracked_after (uncounted (system s)) (past_of others)).world
-  -- the same threads have their own leaves, and each of these has the same
-  pub same : (i : ℕ) → (tracked_after (uncounted (system s)) (past_of turns)).own i ≡ i
-      → IsSameThread i (tracked_after (uncounted (system s)) (past_of turns)) (tracked_after (uncounted (system s)) (past_of others))
-  pub back : (i : ℕ) → (tracked_after (uncounted (system s)) (past_of others)).own i ≡ i
-      → (tracked_after (uncounted (system s)) (past_of turns)).own i ≡ i
-  pub shown : (i : ℕ) → shown_by (uncounted (system s)) i (past_of turns) ≡ shown_by (uncounted (system s)) i (past_of others)

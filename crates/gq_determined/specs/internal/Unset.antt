@@ -1,7 +1,7 @@
--- Runs without their settings, and worlds without their inputs.
+-- Runs without their settings and signals, and worlds without their inputs.
 use Rattle.std.specs.Prelude.{ℕ, List, [], ◌∷◌, ◌++◌, map, replicate}
 use Rattle.gq_model.specs.declared.act.Act.{Act}
-use Rattle.gq_model.specs.declared.act.Act.TheVariants.{Turns, Sets}
+use Rattle.gq_model.specs.declared.act.Act.TheVariants.{Turns, Sets, Submits}
 use Rattle.gq_model.specs.machine.Run.{Acts}
 use Rattle.gq_model.specs.machine.World.{Leaf, World}
 
@@ -11,8 +11,9 @@ use Rattle.gq_model.specs.machine.World.{Leaf, World}
 abbrev pub turns_in : ℕ → Act → List (ℕ × ℕ)
 turns_in x (Turns n) = (x, n) ∷ []
 turns_in x (Sets i n) = []
+turns_in x (Submits i) = []
 
--- leaves and numbers of turns, where the settings are left out
+-- leaves and numbers of turns, where settings and signals are left out
 abbrev pub without_settings : Acts → List (ℕ × ℕ)
 without_settings [] = []
 without_settings (t ∷ acts) = turns_in t.0 t.1 ++ without_settings acts

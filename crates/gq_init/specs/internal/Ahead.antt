@@ -3,7 +3,7 @@ use Rattle.std.specs.Prelude.{◌≡◌, ℕ, ◌+◌, ◌==◌, List, [], ◌�
 use Rattle.gq_model.specs.texts.Letters.{is_digit, is_name, lines, pieces}
 use Rattle.gq_model.specs.machine.Lists.{all_of}
 use Rattle.gq_model.specs.machine.Routes.{numbered}
-use Rattle.gq_model.specs.declared.act.Act.{Act}
+use Rattle.gq_model.specs.declared.act.TurnLine.{TurnLine}
 use Rattle.gq_model.specs.machine.Scenario.{Scenario, Component}
 use Rattle.gq_model.specs.declared.fault.TurnFault.{TurnFault}
 use Rattle.gq_model.specs.texts.Turns.{says_nothing, turn_count}
@@ -29,7 +29,7 @@ pub record IsCountAhead (text : List ℕ) (n : ℕ) (rest : List ℕ) : Type 0 w
   pub spells : turn_count digits ≡ Some n
 
 -- the first line of the text is a turn, and after its line feed comes the rest
-pub record IsTurnAhead (s : Scenario) (text : List ℕ) (turn : ℕ × Act) (rest : List ℕ) : Type 0 where
+pub record IsTurnAhead (s : Scenario) (text : List ℕ) (turn : TurnLine) (rest : List ℕ) : Type 0 where
   pub line : List ℕ
   pub is : lines text ≡ line ∷ lines rest
   pub says : says_nothing line ≡ false
@@ -43,7 +43,7 @@ pub record IsCommentAhead (text : List ℕ) (rest : Option (List ℕ)) : Type 0 
   pub says : says_nothing line ≡ true
 
 -- this is what the first line of the text says after n turns, and after its line feed comes the rest
-pub record IsLineAhead (s : Scenario) (n : ℕ) (text : List ℕ) (said : Result (Option (ℕ × Act)) TurnFault) (rest : Option (List ℕ)) : Type 0 where
+pub record IsLineAhead (s : Scenario) (n : ℕ) (text : List ℕ) (said : Result (Option TurnLine) TurnFault) (rest : Option (List ℕ)) : Type 0 where
   pub line : List ℕ
   pub is : lines text ≡ line ∷ lines_left rest
   pub said_is : said ≡ line_turn s n line

@@ -1,6 +1,6 @@
 -- Lines of a text that comes in pieces.
 use Rattle.std.specs.Prelude.{◌≡◌, ℕ, ◌+◌, ◌*◌, ◌≤◌, Bool, true, false, List, [], ◌∷◌, ◌++◌, length}
-use Rattle.gq_model.specs.texts.Turns.{greatest_turns}
+use Rattle.gq_model.specs.machine.Rest.{greatest_turns}
 
 abbrev pub all_but_last : List (List ℕ) → List (List ℕ)
 all_but_last [] = []

@@ -110,6 +110,7 @@ module _ (s : Scenario) (sound : IsSound s) where
         locals = real_sure.locals;
         sections = real_sure.sections;
         upgrades = real_sure.upgrades;
+        signals = real_sure.signals;
       }
 
   -- a world in which all that a step takes for granted holds
@@ -136,10 +137,11 @@ module _ (s : Scenario) (sound : IsSound s) where
       by (Some c) f None g k = (gives {P = Stands} w Idle h).holds new event k
       by (Some c) f (Some leaf) g k =
           let d : Doing = record { system = u; world = w; x = x; component = c; leaf = record leaf { steps = suc leaf.steps } } in
-          let taken : TakesLeaf d = record { old = leaf; there = g; slots = refl; phase = refl; current = refl } in
+          let taken : TakesLeaf d = record { old = leaf; there = g; slots = refl; phase = refl; current = refl; reacting = refl } in
           let good = all_good_same real c leaf.todo (h.left x c leaf f g).todo in
           let stands = counted h.promised (IsBounded u) u w x c leaf (suc leaf.steps) leaf.phase (h.typed.leaves x c leaf f g) in
-          let o = (outcome h.promised (IsBounded u) d sure taken h.linked h.typed f good (h.whole.inputs x c leaf f g) stands).ends new event k in
+          let o = (outcome h.promised (IsBounded u) d sure taken h.linked h.typed f good (h.whole.inputs x c leaf f g)
+          (h.whole.signals x c leaf f g) stands).ends new event k in
           let n = typed_then h.promised d sure taken refl h.linked h.typed f h.held new linked_new o in
           record {
             whole = kept_whole u w x new event h.whole e;
@@ -162,11 +164,11 @@ module _ (s : Scenario) (sound : IsSound s) where
       by (Some c) f None g k = absurd (no k)
       by (Some c) f (Some leaf) g k =
           let d : Doing = record { system = u; world = w; x = x; component = c; leaf = record leaf { steps = suc leaf.steps } } in
-          let taken : TakesLeaf d = record { old = leaf; there = g; slots = refl; phase = refl; current = refl } in
+          let taken : TakesLeaf d = record { old = leaf; there = g; slots = refl; phase = refl; current = refl; reacting = refl } in
           let good = all_good_same real c leaf.todo (h.left x c leaf f g).todo in
           let stands = counted h.promised (IsBounded u) u w x c leaf (suc leaf.steps) leaf.phase (h.typed.leaves x c leaf f g) in
           never_short real w x wrong e ((outcome h.promised (IsBounded u) d sure taken h.linked h.typed f good
-          (h.whole.inputs x c leaf f g) stands).short wrong k)
+          (h.whole.inputs x c leaf f g) (h.whole.signals x c leaf f g) stands).short wrong k)
 
   -- all is paid for
   pub interfaces : (w : World) → Stands w → HaveInterfaces u real.counted w

@@ -9,7 +9,7 @@ use Rattle.gq_model.specs.declared.phase.Phase.TheVariants.{Blocked}
 use Rattle.gq_model.specs.machine.Program.{Statements}
 use Rattle.gq_model.specs.machine.Scenario.{Interface, interface_in, upgrade_caps}
 use Rattle.gq_model.specs.machine.World.{Link, Waiting, SlotId, In_session, Session, Ask, Current, Leaf, World, session_at, session_slot, slot_at, section_of}
-use Rattle.gq_model.specs.machine.Doing.{Doing, Event}
+use Rattle.gq_model.specs.machine.Doing.{Doing, Event, need}
 use Rattle.gq_model.specs.machine.Step.{section_for, instruct, level_then}
 use Rattle.gq_model.specs.machine.Requests.{new_session}
 use Rattle.gq_model.specs.rules.Kinds.{Kind, AbstractState, Context, need_of}
@@ -262,19 +262,22 @@ module _ (promised : ℕ → Option Kind) (d : Doing) (sure : IsSure d.system) (
     (t : IsTypedBy promised (IsBounded d.system) d.system d.world) (at : slice_get d.system.components d.x ≡ Some d.component)
     (held : AreHeld d.system d.world) (w : World) (linked : IsLinkedWorld d.system w) (a : Acts promised (IsBounded d.system) d) where
   pub asked_held : (i : Instruction) (rest : Statements) (new : AbstractState)
-      → judged (within (context (subject d.system d.component) (section_of d.leaf.current)) d.leaf.loops) a.state i ≡ Ok new → (event : Event)
+      → judged (within (context (subject d.system d.component) (section_of d.leaf.current d.leaf.reacting)) d.leaf.loops) a.state i ≡ Ok new → (event : Event)
       → instruct (with_rest d rest) i ≡ Ok (w, event)
-      → (b : Awaits promised (within (context (subject d.system d.component) (section_of d.leaf.current)) d.leaf.loops) new i (with_rest d rest) w)
+      → (b : Awaits promised (within (context (subject d.system d.component) (section_of d.leaf.current d.leaf.reacting)) d.leaf.loops) new i
+      (with_rest d rest) w)
       → IsTypedBy (promised_anew promised b.k b.kind) (IsBounded d.system) d.system w → AreHeld d.system w
   asked_held i rest new judges event is b typed =
-      let c = within (context (subject d.system d.component) (section_of d.leaf.current)) d.leaf.loops in
+      let c = within (context (subject d.system d.component) (section_of d.leaf.current d.leaf.reacting)) d.leaf.loops in
       let e = with_rest d rest in
       let active = not_blocked promised (IsBounded d.system) d sure takes h t at a.active in
-      let taken : TakesLeaf e = record { old = takes.old; there = takes.there; slots = takes.slots; phase = takes.phase; current = takes.current } in
+      let taken : TakesLeaf e =
+      record { old = takes.old; there = takes.there; slots = takes.slots; phase = takes.phase; current = takes.current; reacting = takes.reacting } in
       let meets : Meets promised c a.state d.world e.leaf =
       record { own = a.meets.own; current = a.meets.current; bank = a.meets.bank; operands = a.meets.operands; locals = a.meets.locals; loops = a.meets.loops }
       in
-      let grant = grants promised (IsBounded d.system) e sure h t (section_of d.leaf.current) (counts_of d.leaf.loops) taken active at a.inputs in
+      let grant = grants promised (IsBounded d.system) e sure h t (section_of d.leaf.current d.leaf.reacting) (counts_of d.leaf.loops) taken active at a.inputs
+      in
       let asked = (asks_asked promised c e i new taken h active at w event is b).0 in
       let phase = ap (λ (l : Leaf). l.phase) (some_same (sym asked.there ∙ b.there)) ∙ b.phase in
       asked_by promised (promised_anew promised b.k b.kind) e sure taken h at held c a.state new

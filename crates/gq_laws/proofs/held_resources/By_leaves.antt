@@ -25,12 +25,13 @@ use Rattle.gq_model.proofs.Small_facts.{some_same}
 use Rattle.gq_laws.proofs.verified_programs.Kind_costs.{NoClose, StaysOpen}
 use Rattle.gq_laws.proofs.typed_worlds.Asked_worlds.{IsMine, Asked, asks_asked}
 use Rattle.gq_laws.proofs.typed_worlds.Asked_rule_changes.{asked_here}
-use Rattle.gq_laws.proofs.typed_worlds.Typed_world_step.{Outcome, Idles, Goes_on, Has_asked, Has_taken, Has_ended, with_rest, not_blocked, handling}
+use Rattle.gq_laws.proofs.typed_worlds.Typed_world_step.{Outcome, Idles, Goes_on, Has_asked, Has_taken, Has_reacted, Has_ended, with_rest, not_blocked}
+use Rattle.gq_laws.proofs.typed_worlds.Typed_world_step.{handling}
 use Rattle.gq_laws.proofs.typed_worlds.Bounded_typed_step.{goes_bounded, asked_bounded}
 use Rattle.gq_laws.proofs.held_resources.Leaf_peaks_step.{peaks_asked}
 use Rattle.gq_laws.proofs.held_resources.Own_slot_bounds.{own_bounded, no_close_each}
 use Rattle.gq_laws.proofs.held_resources.Less_held_sums.{Less, part_in, then_less, then_gives, blocked_none}
-use Rattle.gq_laws.proofs.held_resources.Leaf_holdings_step.{part_was, peaks_were, else_less, all_hold, goes_hold, taken_hold, ended_hold}
+use Rattle.gq_laws.proofs.held_resources.Leaf_holdings_step.{part_was, peaks_were, else_less, all_hold, goes_hold, taken_hold, reacted_hold, ended_hold}
 use Rattle.gq_laws.proofs.verified_programs.Sure_system_facts.{IsSure}
 
 -- ASKED
@@ -98,7 +99,7 @@ module _ (d : Doing) (takes : TakesLeaf d) (peaks : d.leaf.peaks ≡ takes.old.p
         → StaysOpen (Some (section_for a.ask (level_then a.ask s.level)))
         → (r : Resource) → own_part r w a.leaf ≤ greatest (λ (u : AbstractState). kinds_cost r u.own) (main_points (subject d.system d.component))
     open_part sure promised t phase stays =
-        own_bounded promised d.system sure w t d.x d.component at a.leaf Blocked (section_of a.leaf.current)
+        own_bounded promised d.system sure w t d.x d.component at a.leaf Blocked (section_of a.leaf.current a.leaf.reacting)
         (subst (StandsBy promised (IsBounded d.system) d.system w d.x d.component a.leaf) phase (t.leaves d.x d.component a.leaf at a.there))
         (no_close_each promised d.system w h t.reports d.x a.leaf a.there (open_each stays))
 
@@ -154,11 +155,13 @@ leaves_hold promised d sure takes peaks h t at held w linked (Goes_on a inside o
     (goes_bounded promised d sure takes h t at w a others leads) a.active inside others event is leads.leaf leads.there leads.phase
 leaves_hold promised d sure takes peaks h t at held w linked (Has_asked a i rest first served new judges goes_on event is awaits) =
     let taken : TakesLeaf (with_rest d rest) =
-    record { old = takes.old; there = takes.there; slots = takes.slots; phase = takes.phase; current = takes.current } in
+    record { old = takes.old; there = takes.there; slots = takes.slots; phase = takes.phase; current = takes.current; reacting = takes.reacting } in
     asked_hold (with_rest d rest) taken peaks at held sure promised _ new i served h
     (not_blocked promised (IsBounded d.system) d sure takes h t at a.active) w event is awaits linked
     (asked_bounded promised d sure takes h t at w a i rest first served new judges goes_on event is awaits)
 leaves_hold promised d sure takes peaks h t at held w linked (Has_taken serves r rest first event is) = taken_hold d takes peaks at held r rest w event is
+leaves_hold promised d sure takes peaks h t at held w linked (Has_reacted serves i signals first event is) =
+    reacted_hold d takes peaks at held i signals w event is
 leaves_hold promised d sure takes peaks h t at held w linked (Has_ended a done out last meets ends event is) =
     ended_hold d takes peaks at held promised h (λ g mine. handling promised (IsBounded d.system) d sure takes h t at g mine a.active) d.leaf.current refl a.end
     last meets ends w event is

@@ -16,9 +16,9 @@ use Rattle.gq_laws.specs.internal.Verified_holdings.{IsBounded}
 use Rattle.gq_laws.proofs.verified_programs.Sure_system_facts.{IsSure}
 use Rattle.gq_laws.proofs.typed_worlds.Typed_world_promises.{stood}
 use Rattle.gq_laws.proofs.session_links.Linked_after_reply.{session_of_outline}
-use Rattle.gq_laws.proofs.typed_worlds.Typed_world_step.{Acts, Outcome, Idles, Goes_on, Has_asked, Has_taken, Has_ended}
+use Rattle.gq_laws.proofs.typed_worlds.Typed_world_step.{Acts, Outcome, Idles, Goes_on, Has_asked, Has_taken, Has_reacted, Has_ended}
 use Rattle.gq_laws.proofs.held_resources.Session_cost_parts.{AreHeld}
-use Rattle.gq_laws.proofs.held_resources.Session_costs_step.{goes_held, taken_held, main_held, replied_held}
+use Rattle.gq_laws.proofs.held_resources.Session_costs_step.{goes_held, taken_held, own_held, reacted_held, replied_held}
 use Rattle.gq_laws.proofs.held_resources.Asking_costs_held.{asked_held}
 
 module _ (promised : ℕ → Option Kind) (d : Doing) (sure : IsSure d.system) (takes : TakesLeaf d) (h : IsLinkedWorld d.system d.world)
@@ -31,16 +31,17 @@ module _ (promised : ℕ → Option Kind) (d : Doing) (sure : IsSure d.system) (
   TypedAfter (Has_asked a i rest first served new judges goes_on event is awaits) =
       IsTypedBy (promised_anew promised awaits.k awaits.kind) (IsBounded d.system) d.system w
   TypedAfter (Has_taken serves r rest first event is) = IsTypedBy promised (IsBounded d.system) d.system w
+  TypedAfter (Has_reacted serves i signals first event is) = IsTypedBy promised (IsBounded d.system) d.system w
   TypedAfter (Has_ended a done out last meets ends event is) = IsTypedBy promised (IsBounded d.system) d.system w
 
   pub ended_held : IsTypedBy promised (IsBounded d.system) d.system w → (current : Option Current) → d.leaf.current ≡ current
       → (a : Acts promised (IsBounded d.system) d) (last : AbstractState)
-      → Meets promised (context (subject d.system d.component) (section_of d.leaf.current)) a.end d.world d.leaf
-      → section_end (subject d.system d.component) (section_of d.leaf.current) a.end ≡ Ok last → (event : Event)
-      → section_ended d d.leaf.current ≡ Ok (w, event)
+      → Meets promised (context (subject d.system d.component) (section_of d.leaf.current d.leaf.reacting)) a.end d.world d.leaf
+      → section_end (subject d.system d.component) (section_of d.leaf.current d.leaf.reacting) a.end ≡ Ok last → (event : Event)
+      → section_ended d d.leaf.current d.leaf.reacting ≡ Ok (w, event)
       → AreHeld d.system w
   ended_held typed None mine a last meets ends event is =
-      main_held promised d sure takes h t at held w linked typed event (subst (λ o. section_ended d o ≡ Ok (w, event)) mine is)
+      own_held promised d sure takes h t at held w linked typed event d.leaf.reacting (subst (λ o. section_ended d o d.leaf.reacting ≡ Ok (w, event)) mine is)
   ended_held typed (Some g) mine a last meets ends event is =
       let handled = h.handles d.x d.leaf.phase g (stood d takes ∙ ap (λ o. Some (stance d.leaf.phase o)) mine) in
       let s = session_of_outline (session_at d.world g.session) handled.0 handled.1 in
@@ -52,4 +53,5 @@ module _ (promised : ℕ → Option Kind) (d : Doing) (sure : IsSure d.system) (
   outcome_held (Has_asked a i rest first served new judges goes_on event is awaits) typed =
       asked_held promised d sure takes h t at held w linked a i rest new judges event is awaits typed
   outcome_held (Has_taken serves r rest first event is) typed = taken_held promised d sure takes h t at held w linked typed serves r rest first event is
+  outcome_held (Has_reacted serves i signals first event is) typed = reacted_held promised d sure takes h t at held w linked typed i signals event is
   outcome_held (Has_ended a done out last meets ends event is) typed = ended_held typed d.leaf.current refl a last meets ends event is

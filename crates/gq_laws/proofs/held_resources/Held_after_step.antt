@@ -10,8 +10,8 @@ use Rattle.gq_laws.specs.Asking.{promised_anew}
 use Rattle.gq_laws.specs.Typing.{IsTypedBy}
 use Rattle.gq_laws.specs.internal.Verified_holdings.{IsBounded, IsHeld}
 use Rattle.gq_laws.proofs.verified_programs.Sure_system_facts.{IsSure}
-use Rattle.gq_laws.proofs.typed_worlds.Typed_world_step.{Outcome, Idles, Goes_on, Has_asked, Has_taken, Has_ended}
-use Rattle.gq_laws.proofs.typed_worlds.Bounded_typed_step.{goes_bounded, asked_bounded, taken_bounded, ended_bounded}
+use Rattle.gq_laws.proofs.typed_worlds.Typed_world_step.{Outcome, Idles, Goes_on, Has_asked, Has_taken, Has_reacted, Has_ended}
+use Rattle.gq_laws.proofs.typed_worlds.Bounded_typed_step.{goes_bounded, asked_bounded, taken_bounded, reacted_bounded, ended_bounded}
 use Rattle.gq_laws.proofs.held_resources.By_leaves.{leaves_hold}
 use Rattle.gq_laws.proofs.held_resources.By_sessions.{TypedAfter, outcome_held}
 
@@ -25,6 +25,7 @@ module _ (promised : ℕ → Option Kind) (d : Doing) (sure : IsSure d.system) (
   typed_after (Has_asked a i rest first served new judges goes_on event is awaits) =
       asked_bounded promised d sure takes h t at w a i rest first served new judges goes_on event is awaits
   typed_after (Has_taken serves r rest first event is) = taken_bounded promised d sure takes h t at w serves r rest first event is
+  typed_after (Has_reacted serves i signals first event is) = reacted_bounded promised d sure takes h t at w serves i signals event is
   typed_after (Has_ended a done out last meets ends event is) = ended_bounded promised d sure takes h t at w a last meets ends event is
 
   -- the promises that the world is typed by then
@@ -37,6 +38,7 @@ module _ (promised : ℕ → Option Kind) (d : Doing) (sure : IsSure d.system) (
       by (Goes_on a inside others leads event is) typed = (promised, typed)
       by (Has_asked a i rest first served new judges goes_on event is awaits) typed = (promised_anew promised awaits.k awaits.kind, typed)
       by (Has_taken serves r rest first event is) typed = (promised, typed)
+      by (Has_reacted serves i signals first event is) typed = (promised, typed)
       by (Has_ended a done out last meets ends event is) typed = (promised, typed)
 
   pub held_after : Outcome promised (IsBounded d.system) d w → IsHeld d.system w

@@ -1,6 +1,7 @@
 -- Each step keeps it that every leaf holds and has lent no more than at some point of `main`: steps inside sections, requests that are taken up, and ends of
 -- sections.
-use Rattle.std.proofs.Common.{◌≡◌, ◌≢◌, ◌⊎◌, ℕ, ◌≤◌, inl, inr, cond, Bool, true, false, List, Option, Some, None, Ok, refl, ap, sym, ◌∙◌, subst, arith}
+use Rattle.std.proofs.Common.{◌≡◌, ◌≢◌, ◌⊎◌, ℕ, ◌≤◌, inl, inr, cond, Bool, true, false, List, Option, Some, None, Ok, refl, ap, sym, ◌∙◌, subst, arith, zero}
+use Rattle.std.proofs.Common.{suc}
 use Rattle.std.specs.Prelude.{slice_get, sum_by}
 use Rattle.std.proofs.lemmas.Bool.Decides.{eqb_tells}
 use Rattle.gq_tariff.specs.Prices.{classes}
@@ -14,11 +15,11 @@ use Rattle.gq_model.specs.declared.fault.Wrong.TheVariants.{WrongKind, ExceededQ
 use Rattle.gq_model.specs.machine.Program.{section_in, body_of}
 use Rattle.gq_model.specs.machine.Scenario.{System, Component}
 use Rattle.gq_model.specs.machine.World.{Slot, Waiting, In_leaf, Session, Ask, Ask_open, Ask_upgrade, Ask_close, Ask_call, Request, Current, Leaf, World}
-use Rattle.gq_model.specs.machine.World.{session_at, slot_at, leaf_slot, with_session}
+use Rattle.gq_model.specs.machine.World.{Signal, session_at, slot_at, leaf_slot, with_session}
 use Rattle.gq_model.specs.machine.Sums.{slot_price, places, raised, paid, donated}
 use Rattle.gq_model.specs.machine.Doing.{Doing, Event, Quiet, Finished, need, when, standing}
 use Rattle.gq_model.specs.machine.Step.{section_for, accepted_as, beginning, first_operands, accept, serving, resumed, is_named, released, exited, exit_of}
-use Rattle.gq_model.specs.machine.Step.{main_ended, section_ended, perform}
+use Rattle.gq_model.specs.machine.Step.{main_ended, section_ended, perform, take_signal, reacting_to}
 use Rattle.gq_model.specs.rules.Kinds.{Kind, AbstractState, Subject, Context, kind_places, kinds_cost}
 use Rattle.gq_model.specs.rules.Flow.{context, section_end}
 use Rattle.gq_model.specs.rules.Use.{subject}
@@ -46,11 +47,14 @@ use Rattle.gq_laws.proofs.verified_programs.Sure_system_facts.{IsSure}
 
 -- where a leaf is active it stands in a section
 pub in_section : (promised : ℕ → Option Kind) (extra : Extra) (system : System) (w : World) (x : ℕ) (c : Component) (leaf : Leaf) (phase : Phase)
-    → IsActive phase → StandsBy promised extra system w x c leaf phase → IsInSection promised extra system w x c leaf phase (section_of leaf.current)
+    → IsActive phase → StandsBy promised extra system w x c leaf phase
+    → IsInSection promised extra system w x c leaf phase (section_of leaf.current leaf.reacting)
 in_section promised extra system w x c leaf phase (inl e) s =
-    subst (λ p. IsInSection promised extra system w x c leaf p (section_of leaf.current)) (sym e) (subst (StandsBy promised extra system w x c leaf) e s)
+    subst (λ p. IsInSection promised extra system w x c leaf p (section_of leaf.current leaf.reacting)) (sym e)
+    (subst (StandsBy promised extra system w x c leaf) e s)
 in_section promised extra system w x c leaf phase (inr e) s =
-    subst (λ p. IsInSection promised extra system w x c leaf p (section_of leaf.current)) (sym e) (subst (StandsBy promised extra system w x c leaf) e s)
+    subst (λ p. IsInSection promised extra system w x c leaf p (section_of leaf.current leaf.reacting)) (sym e)
+    (subst (StandsBy promised extra system w x c leaf) e s)
 
 -- a session that a step keeps, but for its slots and its object, was given the same
 kept_gives : (r : Resource) (current : Option Current) (k : ℕ) (old new : Option Session) → KeepsSessionIn current k old new → given_by r new ≤ given_by r old
@@ -78,9 +82,10 @@ released_none leaf name after Serving h = tt
 released_none leaf name after Handling h = tt
 released_none leaf name after Exited h = h
 
-resumed_none : (leaf : Leaf) (current : Option Current) → HoldsNone leaf (resumed current)
-resumed_none leaf None = tt
-resumed_none leaf (Some g) = tt
+resumed_none : (leaf : Leaf) (current : Option Current) (reacting : Option ℕ) → HoldsNone leaf (resumed current reacting)
+resumed_none leaf None None = tt
+resumed_none leaf None (Some i) = tt
+resumed_none leaf (Some g) reacting = tt
 
 module _ (d : Doing) (takes : TakesLeaf d) (peaks : d.leaf.peaks ≡ takes.old.peaks) (at : slice_get d.system.components d.x ≡ Some d.component)
     (held : AllHold d.system d.world) where
@@ -142,8 +147,8 @@ module _ (d : Doing) (takes : TakesLeaf d) (peaks : d.leaf.peaks ≡ takes.old.p
         let s = in_section promised (IsBounded d.system) d.system w d.x d.component leaf leaf.phase goes (t.leaves d.x d.component leaf at there) in
         let awake = no_close_awake promised d.system w h t.reports d.x leaf there (active_awake leaf.phase goes) in
         record {
-          own = own_bounded promised d.system sure w t d.x d.component at leaf leaf.phase (section_of leaf.current) s awake;
-          peaks = raised_or (places_bounded promised d.system sure w t d.x d.component at leaf leaf.phase (section_of leaf.current) s there)
+          own = own_bounded promised d.system sure w t d.x d.component at leaf leaf.phase (section_of leaf.current leaf.reacting) s awake;
+          peaks = raised_or (places_bounded promised d.system sure w t d.x d.component at leaf leaf.phase (section_of leaf.current leaf.reacting) s there)
               (peaks_inside d takes peaks w event inside is leaf there);
           none = active_none leaf leaf.phase goes;
         }
@@ -213,15 +218,28 @@ module _ (d : Doing) (takes : TakesLeaf d) (peaks : d.leaf.peaks ≡ takes.old.p
   pub taken_hold : (q : Request) (rest : List Request) (w : World) (event : Event) → accept d q rest ≡ Ok (w, event) → AllHold d.system w
   taken_hold q rest w event is = (taken_ends q rest).holds w event is
 
+  -- SIGNALS THAT ARE TAKEN
+
+  -- a leaf with the same memory, that is in a section
+  standing_holds : (leaf : Leaf) → leaf.slots ≡ d.leaf.slots → leaf.peaks ≡ d.leaf.peaks → HoldsNone leaf leaf.phase → AllHold d.system (standing d leaf)
+  standing_holds new slots peaks none =
+      all_same (standing d new) (λ leaf found.
+      subst (HoldsWithin d.system (standing d new) d.component)
+      (some_same (sym (set_here d.world.leaves d.x new takes.old takes.there) ∙ found))
+      (mine_less (standing d new) new (λ r. let same = ap (λ slots. part_in r d.world d.world d.world slots) slots in omega (arith, same)) peaks none))
+      (λ y ne. set_else d.world.leaves d.x y new ne) (λ r k. omega arith)
+
+  pub reacted_hold : (i : ℕ) (signals : List Signal) (w : World) (event : Event) → take_signal d i signals ≡ Ok (w, event) → AllHold d.system w
+  reacted_hold i signals w event is = by.holds w event is
+    where
+      by : Ends (AllHold d.system) (take_signal d i signals)
+      by = need_ends (AllHold d.system) (section_in (Reacting i) d.component.node.program.sections) MissingSection _
+          (λ list. gives _ Quiet (standing_holds (reacting_to d.leaf i signals list) refl refl tt))
+
   -- THE END OF `main`
 
   serving_holds : AllHold d.system (standing d (serving d.leaf))
-  serving_holds =
-      all_same (standing d (serving d.leaf)) (λ leaf found.
-      subst (HoldsWithin d.system (standing d (serving d.leaf)) d.component)
-      (some_same (sym (set_here d.world.leaves d.x (serving d.leaf) takes.old takes.there) ∙ found))
-      (mine_less (standing d (serving d.leaf)) (serving d.leaf) (λ r. omega arith) refl tt)) (λ y ne. set_else d.world.leaves d.x y (serving d.leaf) ne)
-      (λ r k. omega arith)
+  serving_holds = standing_holds (serving d.leaf) refl refl tt
 
   exit_holds : AllHold d.system (exit_of d)
   exit_holds y c leaf placed there =
@@ -238,9 +256,15 @@ module _ (d : Doing) (takes : TakesLeaf d) (peaks : d.leaf.peaks ≡ takes.old.p
             (released_none o.0 name c.node.after o.0.phase before.none))
       ])
 
-  main_ends : (provides : Option (List ℕ)) → Ends (AllHold d.system) (main_ended d provides)
-  main_ends (Some service) = gives _ Quiet serving_holds
-  main_ends None = when_ends (AllHold d.system) _ _ _ (gives (exit_of d) Finished exit_holds)
+  main_ends : (provides : Option (List ℕ)) (signals : ℕ) → Ends (AllHold d.system) (main_ended d provides signals)
+  main_ends (Some service) signals = gives _ Quiet serving_holds
+  main_ends None (suc n) = gives _ Quiet serving_holds
+  main_ends None zero = when_ends (AllHold d.system) _ _ _ (gives (exit_of d) Finished exit_holds)
+
+  -- the end of a section of its own
+  own_ends : (reacting : Option ℕ) → Ends (AllHold d.system) (section_ended d None reacting)
+  own_ends None = main_ends d.component.node.provides d.component.node.signals
+  own_ends (Some i) = gives _ Quiet serving_holds
 
   -- THE END OF ANOTHER SECTION
 
@@ -299,7 +323,7 @@ module _ (d : Doing) (takes : TakesLeaf d) (peaks : d.leaf.peaks ≡ takes.old.p
         let new = resuming z.client z.operands (own_then s.slot_id slot z.client.slots) in
         holds_less d.system d.world w b z.client new (held s.client b z.client placed z.was)
         (λ r. then_less r d.world w s.slot_id (Waiting g.session) slot z.client.slots waits_there (replied_price r g.section) (replied_given r g.section)
-        (λ i n e. replied_less r (named n))) refl (resumed_none new z.client.current)
+        (λ i n e. replied_less r (named n))) refl (resumed_none new z.client.current z.client.reacting)
 
     replies_hold : AllHold d.system w
     replies_hold =
@@ -315,15 +339,17 @@ module _ (d : Doing) (takes : TakesLeaf d) (peaks : d.leaf.peaks ≡ takes.old.p
   -- a section has ended
   pub ended_hold : (promised : ℕ → Option Kind) (h : IsLinkedWorld d.system d.world) (handles : (g : Current) → d.leaf.current ≡ Some g
       → d.leaf.phase ≡ Handling) (current : Option Current) → d.leaf.current ≡ current → (end last : AbstractState)
-      → Meets promised (context v (section_of d.leaf.current)) end d.world d.leaf → section_end v (section_of d.leaf.current) end ≡ Ok last
-      → (w : World) (event : Event) → section_ended d d.leaf.current ≡ Ok (w, event) → AllHold d.system w
+      → Meets promised (context v (section_of d.leaf.current d.leaf.reacting)) end d.world d.leaf
+      → section_end v (section_of d.leaf.current d.leaf.reacting) end ≡ Ok last
+      → (w : World) (event : Event) → section_ended d d.leaf.current d.leaf.reacting ≡ Ok (w, event) → AllHold d.system w
   ended_hold promised h handles None mine end last meets ends w event is =
-      (main_ends d.component.node.provides).holds w event (subst (λ o. section_ended d o ≡ Ok (w, event)) mine is)
+      (own_ends d.leaf.reacting).holds w event (subst (λ o. section_ended d o d.leaf.reacting ≡ Ok (w, event)) mine is)
   ended_hold promised h handles (Some g) mine end last meets ends w event is =
       let handled = h.handles d.x d.leaf.phase g (stood d takes ∙ ap (λ o. Some (stance d.leaf.phase o)) mine) in
       let s = session_of_outline (session_at d.world g.session) handled.0 handled.1 in
-      let m : Meets promised (context v g.section) end d.world d.leaf = subst (λ o. Meets promised (context v (section_of o)) end d.world d.leaf) mine meets in
-      let last_is : section_end v g.section end ≡ Ok last = subst (λ o. section_end v (section_of o) end ≡ Ok last) mine ends in
+      let m : Meets promised (context v g.section) end d.world d.leaf =
+      subst (λ o. Meets promised (context v (section_of o d.leaf.reacting)) end d.world d.leaf) mine meets in
+      let last_is : section_end v g.section end ≡ Ok last = subst (λ o. section_end v (section_of o d.leaf.reacting) end ≡ Ok last) mine ends in
       let ended : HasEnded promised (context v g.section) end d g s.0 w =
       record { meets = m; last = last; ends = last_is; at_current = mine; there = s.1; event = event; ended = is } in
       replies_hold promised (context v g.section) g s.0 end w h s.1 (replies_ruled promised (context v g.section) d takes h (handles g mine) end g s.0 w ended)

@@ -33,6 +33,7 @@ use Rattle.gq_laws.proofs.typed_worlds.Typed_world_promises.{provided_current}
 use Rattle.gq_laws.proofs.session_links.Linked_after_reply.{session_of_outline}
 use Rattle.gq_laws.proofs.verified_programs.Kind_costs.{StaysOpen, NoClose, each_found, linked_named, linked_no_close, slots_price, slots_cost}
 use Rattle.gq_laws.proofs.verified_programs.Sure_system_facts.{IsSure}
+use Rattle.gq_model.specs.machine.Doing.{need}
 
 -- what follows for each resource follows for all of these
 pub each_of : (resources : List Resource) (P Q : Resource → Type 0) → ((r : Resource) → P r → Q r) → EachOf resources P → EachOf resources Q
@@ -126,7 +127,7 @@ module _ (promised : ℕ → Option Kind) (system : System) (sure : IsSure syste
           → (i : Interface) → interface_in s.service system.interfaces ≡ Some i → EachOf i.counted (λ r. bank_part r w s ≤ part r (need_of i s.level))
       bank_bounded phase section b i known =
           let v = subject system c in
-          let current : IsCurrent section (Some g) = subst (IsCurrent section) mine b.meets.current in
+          let current : IsCurrent section (Some g) leaf.reacting = subst (λ o. IsCurrent section o leaf.reacting) mine b.meets.current in
           let m : CurrentMeets promised _ b.state.bank w (Some g) = subst (CurrentMeets promised _ b.state.bank w) mine b.meets.bank in
           let is : m.0 ≡ s = some_same (sym m.1 ∙ found) in
           let provides : v.provided ≡ Some i = sym provided ∙ known in
@@ -145,10 +146,10 @@ module _ (promised : ℕ → Option Kind) (system : System) (sure : IsSure syste
       -- in the midst of the section, or while it waits there for a reply
       pub handling_bounded : leaf.phase ≡ Handling → (i : Interface) → interface_in s.service system.interfaces ≡ Some i
           → EachOf i.counted (λ r. bank_part r w s ≤ part r (need_of i s.level))
-      handling_bounded e = bank_bounded Handling (section_of leaf.current)
+      handling_bounded e = bank_bounded Handling (section_of leaf.current leaf.reacting)
           (subst (StandsBy promised (IsBounded system) system w x c leaf) e (t.leaves x c leaf at there))
 
       pub blocked_bounded : leaf.phase ≡ Blocked → (i : Interface) → interface_in s.service system.interfaces ≡ Some i
           → EachOf i.counted (λ r. bank_part r w s ≤ part r (need_of i s.level))
-      blocked_bounded e = bank_bounded Blocked (section_of leaf.current)
+      blocked_bounded e = bank_bounded Blocked (section_of leaf.current leaf.reacting)
           (subst (StandsBy promised (IsBounded system) system w x c leaf) e (t.leaves x c leaf at there))

@@ -1,21 +1,23 @@
 -- What sessions cost and were given stays within what they need: in every step inside a section, where a request is taken up, and where a section ends.
-use Rattle.std.proofs.Common.{◌≡◌, ◌≢◌, ℕ, ◌≤◌, ◌⊎◌, inl, inr, List, Option, Some, None, Ok, refl, ap, sym, ◌∙◌, subst, arith}
+use Rattle.std.proofs.Common.{◌≡◌, ◌≢◌, ℕ, ◌≤◌, ◌⊎◌, inl, inr, List, Option, Some, None, Ok, refl, ap, sym, ◌∙◌, subst, arith, zero, suc}
 use Rattle.std.specs.Prelude.{slice_get, slice_set}
 use Rattle.std.proofs.lemmas.Bool.Decides.{eqb_tells}
 use Rattle.gq_model.specs.machine.Amounts.{Resource, part}
 use Rattle.gq_model.specs.declared.phase.Phase.TheVariants.{Serving}
 use Rattle.gq_model.specs.declared.section.Section.{Section}
 use Rattle.gq_model.specs.declared.section.Section.TheVariants.{Main, Opening, Upgrading, Calling, Closing, Reacting}
+use Rattle.gq_model.specs.declared.fault.Wrong.TheVariants.{MissingSection}
 use Rattle.gq_model.specs.machine.Program.{section_in, body_of}
 use Rattle.gq_model.specs.machine.Scenario.{Interface, System, interface_in}
 use Rattle.gq_model.specs.machine.World.{Slot, Waiting, In_session, Session, Ask, Ask_open, Ask_upgrade, Ask_close, Ask_call, Request, Current, Leaf, World}
-use Rattle.gq_model.specs.machine.World.{session_at, with_session, session_slot, slot_at}
+use Rattle.gq_model.specs.machine.World.{Signal, session_at, with_session, session_slot, slot_at}
 use Rattle.gq_model.specs.machine.Sums.{slot_price}
 use Rattle.gq_model.specs.rules.Kinds.{Kind, AbstractState, Context}
 use Rattle.gq_model.specs.rules.Flow.{context, section_end}
 use Rattle.gq_model.specs.rules.Use.{subject}
 use Rattle.gq_model.specs.machine.Doing.{Doing, Event, Quiet, Finished, standing}
 use Rattle.gq_model.specs.machine.Step.{oldest, accept, accepted_as, section_for, first_operands, beginning, serving, exit_of, main_ended, section_ended}
+use Rattle.gq_model.specs.machine.Step.{take_signal, reacting_to}
 use Rattle.gq_laws.specs.Shapes.{Each}
 use Rattle.gq_laws.specs.Session_links.{outline, outline_in, links, requests_of, Stands, IsAsked, IsLinkedWorld}
 use Rattle.gq_laws.specs.internal.Lending.{given_by, slot_given}
@@ -63,7 +65,7 @@ module _ (promised : ℕ → Option Kind) (d : Doing) (sure : IsSure d.system) (
     (t : IsTypedBy promised (IsBounded d.system) d.system d.world) (at : slice_get d.system.components d.x ≡ Some d.component)
     (held : AreHeld d.system d.world) (w : World) (linked : IsLinkedWorld d.system w) (typed : IsTypedBy promised (IsBounded d.system) d.system w) where
   module _ (a : Acts promised (IsBounded d.system) d) (others : LeavesOthers d w)
-      (leads : LeadsOn promised (context (subject d.system d.component) (section_of d.leaf.current)) a.state a.end d w) where
+      (leads : LeadsOn promised (context (subject d.system d.component) (section_of d.leaf.current d.leaf.reacting)) a.state a.end d w) where
     less : NoMoreGiven d.world w
     less r k = by (session_at d.world k) (others.sessions k)
       where
@@ -197,22 +199,38 @@ module _ (promised : ℕ → Option Kind) (d : Doing) (sure : IsSure d.system) (
 
   -- THE END OF A SECTION
 
-  -- of `main`
-  pub main_held : (event : Event) → main_ended d d.component.node.provides ≡ Ok (w, event) → AreHeld d.system w
-  main_held event is = (by d.component.node.provides).holds w event is
+  -- a signal is taken
+  pub reacted_held : (i : ℕ) (signals : List Signal) (event : Event) → take_signal d i signals ≡ Ok (w, event) → AreHeld d.system w
+  reacted_held i signals event is = by.holds w event is
     where
-      by : (provides : Option (List ℕ)) → Ends (AreHeld d.system) (main_ended d provides)
-      by (Some service) = gives _ Quiet (same_held d.system d.world (standing d (serving d.leaf)) (λ k. refl) refl held)
-      by None = when_ends (AreHeld d.system) _ _ _ (gives (exit_of d) Finished (same_held d.system d.world (exit_of d) (λ k. refl) refl held))
+      by : Ends (AreHeld d.system) (take_signal d i signals)
+      by = need_ends (AreHeld d.system) (section_in (Reacting i) d.component.node.program.sections) MissingSection _
+          (λ list. gives _ Quiet (same_held d.system d.world (standing d (reacting_to d.leaf i signals list)) (λ k. refl) refl held))
+
+  -- of one of the leaf's own
+  pub own_held : (event : Event) (reacting : Option ℕ) → section_ended d None reacting ≡ Ok (w, event) → AreHeld d.system w
+  own_held event reacting is = (own reacting).holds w event is
+    where
+      serves : AreHeld d.system (standing d (serving d.leaf))
+      serves = same_held d.system d.world (standing d (serving d.leaf)) (λ k. refl) refl held
+
+      by : (provides : Option (List ℕ)) (signals : ℕ) → Ends (AreHeld d.system) (main_ended d provides signals)
+      by (Some service) signals = gives _ Quiet serves
+      by None (suc n) = gives _ Quiet serves
+      by None zero = when_ends (AreHeld d.system) _ _ _ (gives (exit_of d) Finished (same_held d.system d.world (exit_of d) (λ k. refl) refl held))
+
+      own : (reacting : Option ℕ) → Ends (AreHeld d.system) (section_ended d None reacting)
+      own None = by d.component.node.provides d.component.node.signals
+      own (Some i) = gives _ Quiet serves
 
   -- of a session
   module _ (g : Current) (s : Session) (mine : d.leaf.current ≡ Some g) (found : session_at d.world g.session ≡ Some s)
       (a : Acts promised (IsBounded d.system) d)
-      (last : AbstractState) (meets : Meets promised (context (subject d.system d.component) (section_of d.leaf.current)) a.end d.world d.leaf)
-      (ends : section_end (subject d.system d.component) (section_of d.leaf.current) a.end ≡ Ok last) (event : Event)
-      (is : section_ended d d.leaf.current ≡ Ok (w, event)) where
+      (last : AbstractState) (meets : Meets promised (context (subject d.system d.component) (section_of d.leaf.current d.leaf.reacting)) a.end d.world d.leaf)
+      (ends : section_end (subject d.system d.component) (section_of d.leaf.current d.leaf.reacting) a.end ≡ Ok last) (event : Event)
+      (is : section_ended d d.leaf.current d.leaf.reacting ≡ Ok (w, event)) where
     abbrev c : Context
-    c = context (subject d.system d.component) (section_of d.leaf.current)
+    c = context (subject d.system d.component) (section_of d.leaf.current d.leaf.reacting)
 
     replies : Replies promised c a.end d g s w
     replies =

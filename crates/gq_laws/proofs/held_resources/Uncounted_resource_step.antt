@@ -1,7 +1,7 @@
 -- A step of the system in which no resource is counted reports what the step leads to, but for the test of the quotas.
-use Rattle.std.proofs.Common.{◌≡◌, ◌≢◌, ℕ, suc, Bool, true, false, List, [], ◌∷◌, Option, Some, None, refl, ap, sym, ◌∙◌, subst}
+use Rattle.std.proofs.Common.{◌≡◌, ◌≢◌, ℕ, suc, Bool, true, false, List, [], ◌∷◌, Option, Some, None, refl, ap, sym, ◌∙◌, subst, zero}
 use Rattle.std.specs.Prelude.{Ok, Err, slice_get}
-use Rattle.gq_model.specs.machine.Program.{Statements, Done, Do, If, Loop}
+use Rattle.gq_model.specs.machine.Program.{Statements, Done, Do, If, Loop, section_in}
 use Rattle.gq_model.specs.declared.program.Instruction.{Instruction}
 use Rattle.gq_model.specs.declared.program.Instruction.TheVariants.{Call}
 use Rattle.gq_model.specs.declared.section.Section.{Section}
@@ -12,6 +12,7 @@ use Rattle.gq_model.specs.declared.fault.Wrong.{Wrong}
 use Rattle.gq_model.specs.declared.fault.Wrong.TheVariants.{MissingOperand, WrongKind, UnmappedByte, ExceededQuota, MissingSection}
 use Rattle.gq_model.specs.machine.Scenario.{System, Component}
 use Rattle.gq_model.specs.machine.World.{Slot, Empty, Bytes, Pool, Link, SlotId, Session, Ask, Ask_call, Request, Current, Round, Leaf, World, session_at}
+use Rattle.gq_model.specs.machine.World.{Signal}
 use Rattle.gq_model.specs.machine.World.{slot_at}
 use Rattle.gq_model.specs.machine.World.{slot_id_of}
 use Rattle.gq_model.specs.machine.Sums.{all_paid, paid}
@@ -19,6 +20,7 @@ use Rattle.gq_model.specs.machine.Doing.{Event, Idle, Quiet, Finished, Doing, St
 use Rattle.gq_model.specs.machine.Memory.{bytes_in, pool_in, if_absent}
 use Rattle.gq_model.specs.machine.Requests.{link_in, asked}
 use Rattle.gq_model.specs.machine.Step.{instruct, oldest, accept, replied, reply, main_ended, section_ended, body_ended, perform, accept_oldest, step_in}
+use Rattle.gq_model.specs.machine.Step.{serve, first_signal}
 use Rattle.gq_model.specs.machine.Step.{step_of, next}
 use Rattle.gq_laws.specs.internal.Uncounted.{uncounted}
 use Rattle.std.proofs.lemmas.Bool.{false≢true}
@@ -192,16 +194,19 @@ module _ (d : Doing) where
   reply_alike k (Closing l) s = when_alike d.system _ WrongKind _ _ other_kind (if_paid_alike d.system _ Quiet)
   reply_alike k (Reacting i) s = fails_alike d.system WrongKind other_kind
 
-  main_alike : (provides : Option (List ℕ)) → Twin d (main_ended d provides) (main_ended (free_of_quota d) provides)
-  main_alike (Some service) = ends_alike d.system _ Quiet
-  main_alike None = when_alike d.system _ WrongKind _ _ other_kind (ends_alike d.system _ Finished)
+  main_alike : (provides : Option (List ℕ)) (signals : ℕ) → Twin d (main_ended d provides signals) (main_ended (free_of_quota d) provides signals)
+  main_alike (Some service) signals = ends_alike d.system _ Quiet
+  main_alike None (suc n) = ends_alike d.system _ Quiet
+  main_alike None zero = when_alike d.system _ WrongKind _ _ other_kind (ends_alike d.system _ Finished)
 
-  section_alike : (current : Option Current) → Twin d (section_ended d current) (section_ended (free_of_quota d) current)
-  section_alike None = main_alike d.component.node.provides
-  section_alike (Some current) = need_alike d.system _ WrongKind _ _ other_kind (λ s. reply_alike current.session current.section s)
+  section_alike : (current : Option Current) (reacting : Option ℕ)
+      → Twin d (section_ended d current reacting) (section_ended (free_of_quota d) current reacting)
+  section_alike None None = main_alike d.component.node.provides d.component.node.signals
+  section_alike None (Some i) = ends_alike d.system _ Quiet
+  section_alike (Some current) reacting = need_alike d.system _ WrongKind _ _ other_kind (λ s. reply_alike current.session current.section s)
 
   body_alike : (loops : List Round) → Twin d (body_ended d loops) (body_ended (free_of_quota d) loops)
-  body_alike [] = section_alike d.leaf.current
+  body_alike [] = section_alike d.leaf.current d.leaf.reacting
   body_alike (r ∷ loops) = ends_alike d.system _ Quiet
 
   begun_in : (w : World) (body : Option Statements) → ((v : World) (e : Event) → need body MissingSection (λ b. Ok (w, Quiet)) ≡ Ok (v, e) → v ≡ w)
@@ -217,6 +222,11 @@ module _ (d : Doing) where
   oldest_alike None = ends_alike d.system _ Idle
   oldest_alike (Some p) = accept_alike p.0 p.1
 
+serve_alike : (d : Doing) (found : Option (ℕ × List Signal)) → Twin d (serve d found) (serve (free_of_quota d) found)
+serve_alike d None = oldest_alike d (oldest d.world d.x d.world.requests)
+serve_alike d (Some p) = need_alike d.system (section_in (Reacting p.0) d.component.node.program.sections) MissingSection _ _ other_section
+    (λ body. ends_alike d.system _ Quiet)
+
 perform_alike : (d : Doing) (todo : Statements) → Twin d (perform d todo) (perform (free_of_quota d) todo)
 perform_alike d Done = body_alike d d.leaf.loops
 perform_alike d (Do i rest) = instruct_alike (record d { leaf = record d.leaf { todo = rest } }) i
@@ -227,7 +237,7 @@ step_alike : (d : Doing) (phase : Phase) → Twin d (step_in d phase) (step_in (
 step_alike d Pending = ends_alike d.system _ Idle
 step_alike d Running = perform_alike d d.leaf.todo
 step_alike d Blocked = ends_alike d.system _ Idle
-step_alike d Serving = oldest_alike d (oldest d.world d.x d.world.requests)
+step_alike d Serving = serve_alike d (first_signal d.leaf.signals)
 step_alike d Handling = perform_alike d d.leaf.todo
 step_alike d Exited = ends_alike d.system _ Idle
 

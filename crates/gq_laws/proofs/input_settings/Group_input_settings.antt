@@ -1,16 +1,17 @@
--- Settings and groups of leaves: what one outside the group changes is not seen, and one inside does the same in two worlds that are the same for the group.
+-- Settings, signals and groups of leaves: what one outside the group changes is not seen, and one inside does the same in two worlds that are the same for the
+-- group.
 use Rattle.std.proofs.Common.{◌≡◌, ℕ, inl, inr, Bool, true, false, cond, List, [], ◌∷◌, map, Option, Some, None, refl, ap, sym, ◌∙◌, subst}
 use Rattle.std.specs.Prelude.{is_some, option_map, slice_get}
 use Rattle.std.proofs.lemmas.Bool.Decides.{eqb_tells}
-use Rattle.gq_model.specs.machine.Run.{is_within, inputs_with, set_in, set_input}
+use Rattle.gq_model.specs.machine.Run.{is_within, inputs_with, set_in, set_input, signals_with, submit_in, submit}
 use Rattle.gq_model.specs.machine.Scenario.{System, Component}
-use Rattle.gq_model.specs.machine.World.{Request, Leaf, World, session_at, with_leaf}
+use Rattle.gq_model.specs.machine.World.{Request, Signal, Leaf, World, session_at, with_leaf}
 use Rattle.gq_laws.specs.Separation.{own_session, own_requests, IsUntouched, SameRequests}
 use Rattle.gq_laws.specs.Renamed.{renamed_leaf, renamed_request}
 use Rattle.gq_laws.specs.internal.Corresponding.{IsSame}
 use Rattle.gq_laws.proofs.Outside_changes_untouched.{outside_ne}
 use Rattle.gq_laws.proofs.session_links.Written_world_links.{set_here, set_else}
-use Rattle.gq_laws.proofs.input_settings.Setting_keeps_invariants.{of_setting}
+use Rattle.gq_laws.proofs.input_settings.Setting_keeps_invariants.{of_setting, of_submit}
 
 -- a leaf bears on no request
 own_leaf : (group : ℕ → Bool) (w : World) (x : ℕ) (leaf : Leaf) (rs : List Request) → own_requests group (with_leaf w x leaf) rs ≡ own_requests group w rs
@@ -39,15 +40,30 @@ outside_kept system group w x i n out =
     (record { untouched = record { leaves = λ y inside. refl; sessions = λ k. refl }; requests = refl }) in
     (h.untouched, h.requests)
 
+pub outside_submitted : (group : ℕ → Bool) (w : World) (x i : ℕ) → group x ≡ false
+    → IsUntouched group w (submit w x i) × SameRequests group w (submit w x i)
+outside_submitted group w x i out =
+    let h = of_submit (AsItWas group w) w x i
+    (λ leaf there. record {
+      untouched = record {
+        leaves = λ y inside. set_else w.leaves x y (record leaf { signals = signals_with leaf.signals i }) (outside_ne group x y out inside);
+        sessions = λ k. refl;
+      };
+      requests = own_leaf group w x (record leaf { signals = signals_with leaf.signals i }) w.requests;
+    })
+    (record { untouched = record { leaves = λ y inside. refl; sessions = λ k. refl }; requests = refl }) in
+    (h.untouched, h.requests)
+
 -- INSIDE
 
 module _ (group : ℕ → Bool) (f : ℕ → ℕ) (w v : World) (h : IsSame group f w v) (x : ℕ) (inside : group x ≡ true) where
-  -- the same leaf with the same inputs in both
-  same_with : (leaf : Leaf) (inputs : List ℕ) → slice_get w.leaves x ≡ Some leaf
-      → IsSame group f (with_leaf w x (record leaf { inputs = inputs })) (with_leaf v x (record (renamed_leaf f leaf) { inputs = inputs }))
-  same_with leaf inputs there =
-      let new : Leaf = record leaf { inputs = inputs } in
-      let other : Leaf = record (renamed_leaf f leaf) { inputs = inputs } in
+  -- the same leaf with the same inputs and signals in both
+  same_with : (leaf : Leaf) (inputs : List ℕ) (signals : List Signal) → slice_get w.leaves x ≡ Some leaf
+      → IsSame group f (with_leaf w x (record leaf { inputs = inputs; signals = signals }))
+      (with_leaf v x (record (renamed_leaf f leaf) { inputs = inputs; signals = signals }))
+  same_with leaf inputs signals there =
+      let new : Leaf = record leaf { inputs = inputs; signals = signals } in
+      let other : Leaf = record (renamed_leaf f leaf) { inputs = inputs; signals = signals } in
       let at : slice_get v.leaves x ≡ Some (renamed_leaf f leaf) = h.leaves x inside ∙ ap (option_map (renamed_leaf f)) there in
       record {
         leaves = λ y mine. elim (eqb_tells y x) [
@@ -76,9 +92,22 @@ module _ (group : ℕ → Bool) (f : ℕ → ℕ) (w v : World) (h : IsSame grou
         where
           fits : (b : Bool) → IsSame group f (cond b (with_leaf w x (record leaf { inputs = inputs_with leaf.phase leaf.inputs i n })) w)
               (cond b (with_leaf v x (record (renamed_leaf f leaf) { inputs = inputs_with leaf.phase leaf.inputs i n })) v)
-          fits true = same_with leaf (inputs_with leaf.phase leaf.inputs i n) e
+          fits true = same_with leaf (inputs_with leaf.phase leaf.inputs i n) leaf.signals e
           fits false = h
       by (Some c) None e (Some leaf) g = absurd (none (sym (h.leaves x inside ∙ ap (option_map (renamed_leaf f)) e) ∙ g))
+        where
+          none : ◌≡◌ {A = Option Leaf} None (Some leaf) → ⊥
+          none e = cc
+
+  pub inside_submitted : (i : ℕ) → IsSame group f (submit w x i) (submit v x i)
+  inside_submitted i = by (slice_get w.leaves x) refl (slice_get v.leaves x) refl
+    where
+      by : (p : Option Leaf) → slice_get w.leaves x ≡ p → (q : Option Leaf) → slice_get v.leaves x ≡ q → IsSame group f (submit_in w x i p) (submit_in v x i q)
+      by None e None g = h
+      by (Some leaf) e q g =
+          let is : Some (renamed_leaf f leaf) ≡ q = sym (h.leaves x inside ∙ ap (option_map (renamed_leaf f)) e) ∙ g in
+          subst (λ q. IsSame group f (submit_in w x i (Some leaf)) (submit_in v x i q)) is (same_with leaf leaf.inputs (signals_with leaf.signals i) e)
+      by None e (Some leaf) g = absurd (none (sym (h.leaves x inside ∙ ap (option_map (renamed_leaf f)) e) ∙ g))
         where
           none : ◌≡◌ {A = Option Leaf} None (Some leaf) → ⊥
           none e = cc

@@ -1,28 +1,30 @@
--- What a setting makes of a world: nothing, or a leaf of it has other inputs that it may have. So all that holds of worlds is kept.
+-- What a setting makes of a world: nothing, or a leaf of it has other inputs that it may have. And what a signal that is submitted makes of it: nothing, or a
+-- leaf
+-- has as many signals, as often taken. So all that holds of worlds is kept.
 use Rattle.std.proofs.Common.{◌≡◌, ℕ, zero, suc, ◌≤◌, Bool, true, false, cond, List, [], ◌∷◌, length, length-set, Option, Some, None, refl, ap, sym}
 use Rattle.std.proofs.Common.{◌∙◌, subst, arith}
 use Rattle.std.specs.Prelude.{slice_get, slice_set, slice_index}
 use Rattle.std.proofs.lemmas.Bool.{leb-true}
 use Rattle.gq_model.specs.declared.phase.Phase.{Phase}
 use Rattle.gq_model.specs.declared.phase.Phase.TheVariants.{Pending, Running, Blocked, Serving, Handling, Exited}
-use Rattle.gq_model.specs.machine.Run.{is_within, inputs_with, set_in, set_input}
+use Rattle.gq_model.specs.machine.Run.{is_within, inputs_with, set_in, set_input, signals_with, submit_in, submit}
 use Rattle.gq_model.specs.declared.program.Instruction.{Instruction}
 use Rattle.gq_model.specs.machine.Amounts.{Resource}
 use Rattle.gq_model.specs.machine.Scenario.{Scenario, System, Component, system}
 use Rattle.gq_model.specs.machine.Sums.{paid}
-use Rattle.gq_model.specs.machine.World.{Leaf, World, with_leaf}
+use Rattle.gq_model.specs.machine.World.{Signal, Leaf, World, with_leaf}
 use Rattle.gq_model.specs.rules.Kinds.{Kind}
 use Rattle.gq_laws.specs.Session_links.{IsLinkedWorld}
 use Rattle.gq_laws.specs.Leaf_phases.{AreReady}
 use Rattle.gq_laws.specs.Room.{IsRoomy}
 use Rattle.gq_laws.specs.Shapes.{AreInputs, IsWholeWorld}
 use Rattle.gq_laws.specs.Typing.{Extra, IsTypedBy}
-use Rattle.gq_laws.specs.internal.Section_counts.{Within, IsCounted}
+use Rattle.gq_laws.specs.internal.Section_counts.{Within, Since, times_taken, IsCounted}
 use Rattle.gq_laws.specs.internal.Init_quanta.{Fit}
 use Rattle.gq_laws.specs.internal.Verified_holdings.{IsHeld}
 use Rattle.gq_laws.specs.internal.Remaining_instructions.{AreLeft}
 use Rattle.gq_model.proofs.Small_facts.{some_same}
-use Rattle.gq_laws.proofs.step_shapes.Whole_worlds.{whole_set}
+use Rattle.gq_laws.proofs.step_shapes.Whole_worlds.{whole_set, whole_signals}
 use Rattle.gq_laws.proofs.progress.Opened_services_invariant.{AllOpened}
 use Rattle.gq_laws.proofs.input_settings.World_with_inputs.{linked_with, left_with, paid_with, fit_with, opened_with, ready_with, roomy_with, typed_with}
 use Rattle.gq_laws.proofs.input_settings.World_with_inputs.{held_with, counts_with}
@@ -115,52 +117,127 @@ set_whole system = kept_by_settings system (IsWholeWorld system) (whole_kept sys
 
 pub set_linked : (system : System) (w : World) (x i n : ℕ) → IsLinkedWorld system w → IsLinkedWorld system (set_input system w x i n)
 set_linked system = kept_by_settings system (IsLinkedWorld system)
-    (kept_with system (IsLinkedWorld system) (λ w x leaf there inputs. linked_with w x leaf there inputs system))
+    (kept_with system (IsLinkedWorld system) (λ w x leaf there inputs. linked_with w x leaf there inputs leaf.signals system))
 
 pub set_left : (P : Component → Instruction → Type 0) (system : System) (w : World) (x i n : ℕ) → AreLeft P system w
     → AreLeft P system (set_input system w x i n)
 set_left P system = kept_by_settings system (AreLeft P system)
-    (kept_with system (AreLeft P system) (λ w x leaf there inputs. left_with w x leaf there inputs P system))
+    (kept_with system (AreLeft P system) (λ w x leaf there inputs. left_with w x leaf there inputs leaf.signals P system))
 
 pub set_paid : (system : System) (w : World) (x i n : ℕ) → paid system w ≡ true → paid system (set_input system w x i n) ≡ true
 set_paid system = kept_by_settings system (λ w. paid system w ≡ true)
-    (kept_with system (λ w. paid system w ≡ true) (λ w x leaf there inputs. paid_with w x leaf there inputs system))
+    (kept_with system (λ w. paid system w ≡ true) (λ w x leaf there inputs. paid_with w x leaf there inputs leaf.signals system))
 
 pub set_fit : (r : Resource) (s : Scenario) (w : World) (x i n : ℕ) → Fit r s w → Fit r s (set_input (system s) w x i n)
-set_fit r s = kept_by_settings (system s) (Fit r s) (kept_with (system s) (Fit r s) (λ w x leaf there inputs. fit_with w x leaf there inputs r s))
+set_fit r s = kept_by_settings (system s) (Fit r s) (kept_with (system s) (Fit r s) (λ w x leaf there inputs. fit_with w x leaf there inputs leaf.signals r s))
 
 pub set_opened : (system : System) (w : World) (x i n : ℕ) → AllOpened system w → AllOpened system (set_input system w x i n)
 set_opened system = kept_by_settings system (AllOpened system)
-    (kept_with system (AllOpened system) (λ w x leaf there inputs. opened_with w x leaf there inputs system))
+    (kept_with system (AllOpened system) (λ w x leaf there inputs. opened_with w x leaf there inputs leaf.signals system))
 
 pub set_ready : (system : System) (w : World) (x i n : ℕ) → AreReady system w → AreReady system (set_input system w x i n)
 set_ready system = kept_by_settings system (AreReady system)
-    (kept_with system (AreReady system) (λ w x leaf there inputs. ready_with w x leaf there inputs system))
+    (kept_with system (AreReady system) (λ w x leaf there inputs. ready_with w x leaf there inputs leaf.signals system))
 
 pub set_roomy : (system : System) (w : World) (x i n : ℕ) → IsRoomy w → IsRoomy (set_input system w x i n)
-set_roomy system = kept_by_settings system IsRoomy (kept_with system IsRoomy (λ w x leaf there inputs. roomy_with w x leaf there inputs))
+set_roomy system = kept_by_settings system IsRoomy (kept_with system IsRoomy (λ w x leaf there inputs. roomy_with w x leaf there inputs leaf.signals))
 
 -- a system that counts other resources has the same settings
 pub set_typed : (promised : ℕ → Option Kind) (extra : Extra) (system other : System) (w : World) (x i n : ℕ)
     → IsTypedBy promised extra other w → IsTypedBy promised extra other (set_input system w x i n)
 set_typed promised extra system other = kept_by_settings system (IsTypedBy promised extra other)
-    (kept_with system (IsTypedBy promised extra other) (λ w x leaf there inputs. typed_with w x leaf there inputs promised extra other))
+    (kept_with system (IsTypedBy promised extra other) (λ w x leaf there inputs. typed_with w x leaf there inputs leaf.signals promised extra other))
 
 pub set_held : (system other : System) (w : World) (x i n : ℕ) → IsHeld other w → IsHeld other (set_input system w x i n)
 set_held system other = kept_by_settings system (IsHeld other)
-    (kept_with system (IsHeld other) (λ w x leaf there inputs. held_with w x leaf there inputs other))
+    (kept_with system (IsHeld other) (λ w x leaf there inputs. held_with w x leaf there inputs leaf.signals other))
 
-pub set_counted : (system : System) (w : World) (x i n : ℕ) → IsCounted system w → IsCounted system (set_input system w x i n)
-set_counted system = kept_by_settings system (IsCounted system)
-    (kept_with system (IsCounted system) (λ w x leaf there inputs h.
+pub set_counted : (since : Since) (system : System) (w : World) (x i n : ℕ) → IsCounted since system w → IsCounted since system (set_input system w x i n)
+set_counted since system = kept_by_settings system (IsCounted since system)
+    (kept_with system (IsCounted since system) (λ w x leaf there inputs h.
     record {
       promised = h.promised;
       done = h.done;
       made = h.made;
       left = h.left;
-      typed = typed_with w x leaf there inputs h.promised (Within system h.left) system h.typed;
-      counts = counts_with w x leaf there inputs h.done h.made h.left system h.counts;
+      typed = typed_with w x leaf there inputs leaf.signals h.promised (Within system h.left) system h.typed;
+      counts = counts_with w x leaf there inputs leaf.signals (λ i. refl) since h.done h.made h.left system h.counts;
     }))
+
+-- SIGNALS
+
+with_long : (signals : List Signal) (i : ℕ) → length (signals_with signals i) ≡ length signals
+with_long [] i = refl
+with_long (s ∷ rest) zero = refl
+with_long (s ∷ rest) (suc i) = ap suc (with_long rest i)
+
+pub with_taken : (signals : List Signal) (i j : ℕ) → times_taken (signals_with signals i) j ≡ times_taken signals j
+with_taken [] i j = refl
+with_taken (s ∷ rest) zero zero = refl
+with_taken (s ∷ rest) zero (suc j) = refl
+with_taken (s ∷ rest) (suc i) zero = refl
+with_taken (s ∷ rest) (suc i) (suc j) = with_taken rest i j
+
+-- a leaf has another signal submitted, or nothing is changed
+pub of_submit : (P : World → Type 0) (w : World) (x i : ℕ)
+    → ((leaf : Leaf) → slice_get w.leaves x ≡ Some leaf → P (with_leaf w x (record leaf { signals = signals_with leaf.signals i })))
+    → P w → P (submit w x i)
+of_submit P w x i changed same = by (slice_get w.leaves x) refl
+  where
+    by : (o : Option Leaf) → slice_get w.leaves x ≡ o → P (submit_in w x i o)
+    by (Some leaf) e = changed leaf e
+    by None e = same
+
+pub submit_whole : (system : System) (w : World) (x i : ℕ) → IsWholeWorld system w → IsWholeWorld system (submit w x i)
+submit_whole system w x i h = of_submit (IsWholeWorld system) w x i
+    (λ leaf there. whole_signals system w x leaf (signals_with leaf.signals i) there (with_long leaf.signals i) h) h
+
+pub submit_linked : (system : System) (w : World) (x i : ℕ) → IsLinkedWorld system w → IsLinkedWorld system (submit w x i)
+submit_linked system w x i h = of_submit (IsLinkedWorld system) w x i
+    (λ leaf there. linked_with w x leaf there leaf.inputs (signals_with leaf.signals i) system h) h
+
+pub submit_left : (P : Component → Instruction → Type 0) (system : System) (w : World) (x i : ℕ) → AreLeft P system w → AreLeft P system (submit w x i)
+submit_left P system w x i h = of_submit (AreLeft P system) w x i
+    (λ leaf there. left_with w x leaf there leaf.inputs (signals_with leaf.signals i) P system h) h
+
+pub submit_paid : (system : System) (w : World) (x i : ℕ) → paid system w ≡ true → paid system (submit w x i) ≡ true
+submit_paid system w x i h = of_submit (λ w. paid system w ≡ true) w x i
+    (λ leaf there. paid_with w x leaf there leaf.inputs (signals_with leaf.signals i) system h) h
+
+pub submit_fit : (r : Resource) (s : Scenario) (w : World) (x i : ℕ) → Fit r s w → Fit r s (submit w x i)
+submit_fit r s w x i h = of_submit (Fit r s) w x i (λ leaf there. fit_with w x leaf there leaf.inputs (signals_with leaf.signals i) r s h) h
+
+pub submit_opened : (system : System) (w : World) (x i : ℕ) → AllOpened system w → AllOpened system (submit w x i)
+submit_opened system w x i h = of_submit (AllOpened system) w x i
+    (λ leaf there. opened_with w x leaf there leaf.inputs (signals_with leaf.signals i) system h) h
+
+pub submit_ready : (system : System) (w : World) (x i : ℕ) → AreReady system w → AreReady system (submit w x i)
+submit_ready system w x i h = of_submit (AreReady system) w x i
+    (λ leaf there. ready_with w x leaf there leaf.inputs (signals_with leaf.signals i) system h) h
+
+pub submit_roomy : (w : World) (x i : ℕ) → IsRoomy w → IsRoomy (submit w x i)
+submit_roomy w x i h = of_submit IsRoomy w x i (λ leaf there. roomy_with w x leaf there leaf.inputs (signals_with leaf.signals i) h) h
+
+pub submit_typed : (promised : ℕ → Option Kind) (extra : Extra) (system : System) (w : World) (x i : ℕ)
+    → IsTypedBy promised extra system w → IsTypedBy promised extra system (submit w x i)
+submit_typed promised extra system w x i h = of_submit (IsTypedBy promised extra system) w x i
+    (λ leaf there. typed_with w x leaf there leaf.inputs (signals_with leaf.signals i) promised extra system h) h
+
+pub submit_held : (system : System) (w : World) (x i : ℕ) → IsHeld system w → IsHeld system (submit w x i)
+submit_held system w x i h = of_submit (IsHeld system) w x i
+    (λ leaf there. held_with w x leaf there leaf.inputs (signals_with leaf.signals i) system h) h
+
+pub submit_counted : (since : Since) (system : System) (w : World) (x i : ℕ) → IsCounted since system w → IsCounted since system (submit w x i)
+submit_counted since system w x i h = of_submit (IsCounted since system) w x i (λ leaf there.
+    let signals = signals_with leaf.signals i in
+    record {
+      promised = h.promised;
+      done = h.done;
+      made = h.made;
+      left = h.left;
+      typed = typed_with w x leaf there leaf.inputs signals h.promised (Within system h.left) system h.typed;
+      counts = counts_with w x leaf there leaf.inputs signals (with_taken leaf.signals i) since h.done h.made h.left system h.counts;
+    }) h
 
 -- WHAT A SETTING CHANGES
 

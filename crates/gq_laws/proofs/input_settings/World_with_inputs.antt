@@ -1,4 +1,4 @@
--- A leaf with other inputs: what holds of the world with it.
+-- A leaf with other inputs and signals: what holds of the world with it.
 use Rattle.std.proofs.Common.{◌≡◌, ℕ, ◌+◌, ◌≤◌, inl, inr, true, List, [], ◌∷◌, length, Option, Some, refl, ap, sym, ◌∙◌, subst, arith}
 use Rattle.std.specs.Prelude.{slice_get}
 use Rattle.std.proofs.lemmas.Bool.Decides.{eqb_tells}
@@ -10,7 +10,7 @@ use Rattle.gq_model.specs.machine.Amounts.{Resource}
 use Rattle.gq_model.specs.machine.Accounts.{handed_to}
 use Rattle.gq_model.specs.machine.Scenario.{Scenario, System, Component, system}
 use Rattle.gq_model.specs.machine.Sums.{paid}
-use Rattle.gq_model.specs.machine.World.{Ask, Ask_open, Ask_upgrade, Ask_close, Ask_call, Request, Leaf, World, session_at, with_leaf, section_of}
+use Rattle.gq_model.specs.machine.World.{Ask, Ask_open, Ask_upgrade, Ask_close, Ask_call, Request, Signal, Leaf, World, session_at, with_leaf, section_of}
 use Rattle.gq_model.specs.rules.Kinds.{Kind}
 use Rattle.gq_model.specs.rules.Use.{subject, from_sections, steps_of}
 use Rattle.gq_laws.specs.Current_section_facts.{current_section}
@@ -18,7 +18,8 @@ use Rattle.gq_laws.specs.Session_links.{links, IsLinkedWorld}
 use Rattle.gq_laws.specs.Leaf_phases.{Suits, NotExited, AreReady}
 use Rattle.gq_laws.specs.Room.{HasRoomFor, HasRoomAsked, HasRoomIfCalled, IsRoomy}
 use Rattle.gq_laws.specs.Typing.{Extra, IsInSection, StandsBy, IsTypedBy}
-use Rattle.gq_laws.specs.internal.Section_counts.{Often, Requests, ahead, served_at, asks_at, waiting_in, waiting, Counts}
+use Rattle.gq_laws.specs.internal.Section_counts.{Often, Requests, ahead, served_at, asks_at, waiting_in, waiting, Since, steps_taken, times_taken, taken_of}
+use Rattle.gq_laws.specs.internal.Section_counts.{Counts}
 use Rattle.gq_laws.specs.internal.Init_quanta.{Fit}
 use Rattle.gq_laws.specs.internal.Verified_holdings.{HoldsWithin, IsHeld}
 use Rattle.gq_laws.specs.internal.Remaining_instructions.{IsLeft, AreLeft}
@@ -34,10 +35,11 @@ use Rattle.gq_laws.proofs.typed_worlds.Main_end_typed.{SameCurrent, stands_same,
 
 -- WHERE A LEAF STANDS
 
--- a leaf with other inputs stands where it stood
-module _ (promised : ℕ → Option Kind) (extra : Extra) (system : System) (w : World) (x : ℕ) (c : Component) (leaf : Leaf) (inputs : List ℕ) where
-  in_section_with : (phase : Phase) → IsInSection promised extra system w x c leaf phase (section_of leaf.current)
-      → IsInSection promised extra system w x c (record leaf { inputs = inputs }) phase (section_of leaf.current)
+-- a leaf with other inputs and signals stands where it stood
+module _ (promised : ℕ → Option Kind) (extra : Extra) (system : System) (w : World) (x : ℕ) (c : Component) (leaf : Leaf) (inputs : List ℕ)
+    (signals : List Signal) where
+  in_section_with : (phase : Phase) → IsInSection promised extra system w x c leaf phase (section_of leaf.current leaf.reacting)
+      → IsInSection promised extra system w x c (record leaf { inputs = inputs; signals = signals }) phase (section_of leaf.current leaf.reacting)
   in_section_with phase s =
       record {
         state = s.state;
@@ -59,7 +61,7 @@ module _ (promised : ℕ → Option Kind) (extra : Extra) (system : System) (w :
       }
 
   stands_with : (phase : Phase) → StandsBy promised extra system w x c leaf phase
-      → StandsBy promised extra system w x c (record leaf { inputs = inputs }) phase
+      → StandsBy promised extra system w x c (record leaf { inputs = inputs; signals = signals }) phase
   stands_with Pending s = in_section_with Pending s
   stands_with Running s = in_section_with Running s
   stands_with Blocked s = in_section_with Blocked s
@@ -69,14 +71,15 @@ module _ (promised : ℕ → Option Kind) (extra : Extra) (system : System) (w :
 
 -- WORLDS
 
-module _ (w : World) (x : ℕ) (leaf : Leaf) (there : slice_get w.leaves x ≡ Some leaf) (inputs : List ℕ) where
+module _ (w : World) (x : ℕ) (leaf : Leaf) (there : slice_get w.leaves x ≡ Some leaf) (inputs : List ℕ)
+    (signals : List Signal) where
   abbrev new : Leaf
-  new = record leaf { inputs = inputs }
+  new = record leaf { inputs = inputs; signals = signals }
 
   abbrev v : World
   v = with_leaf w x new
 
-  -- what does not look at inputs reports the same
+  -- what looks at neither reports the same
   pub at_leaf : {A : Type 0} (F : Option Leaf → A) → F (Some new) ≡ F (Some leaf) → (y : ℕ) → F (slice_get v.leaves y) ≡ F (slice_get w.leaves y)
   at_leaf F e y = elim (eqb_tells y x) [
     | inl f ↦ ap (λ y. F (slice_get v.leaves y)) f.1
@@ -84,13 +87,14 @@ module _ (w : World) (x : ℕ) (leaf : Leaf) (there : slice_get w.leaves x ≡ S
     | inr f ↦ ap F (set_else w.leaves x y new f.1)
   ]
 
-  -- a leaf that is there was there, perhaps with other inputs
-  pub was : (y : ℕ) (l : Leaf) → slice_get v.leaves y ≡ Some l → (old : Leaf) × (slice_get w.leaves y ≡ Some old) × (l ≡ record old { inputs = l.inputs })
+  -- a leaf that is there was there, perhaps with others
+  pub was : (y : ℕ) (l : Leaf) → slice_get v.leaves y ≡ Some l
+      → (old : Leaf) × (slice_get w.leaves y ≡ Some old) × (l ≡ record old { inputs = l.inputs; signals = l.signals })
   was y l e = elim (set_get w.leaves x y new l e) [
     | inl f ↦ (
       leaf,
       ap (slice_get w.leaves) f.0 ∙ there,
-      subst (λ (m : Leaf). m ≡ record leaf { inputs = m.inputs }) f.1 refl,
+      subst (λ (m : Leaf). m ≡ record leaf { inputs = m.inputs; signals = m.signals }) f.1 refl,
     )
     | inr f ↦ (l, f, refl)
   ]
@@ -123,7 +127,10 @@ module _ (w : World) (x : ℕ) (leaf : Leaf) (there : slice_get w.leaves x ≡ S
   pub ready_with : (system : System) → AreReady system w → AreReady system v
   ready_with system h =
       record {
-        suits = λ y c l placed e. let b = was y l e in subst (λ (l : Leaf). Suits c.node.provides l.phase) (sym b.2) (h.suits y c b.0 placed b.1);
+        suits =
+            λ y c l placed e. let b = was y l e in subst (λ (l : Leaf). Suits c.node.provides c.node.signals l.phase) (sym b.2) (h.suits y c b.0 placed b.1);
+        reacts = λ y c l i placed e r.
+            let b = was y l e in h.reacts y c b.0 i placed b.1 (ap (λ (l : Leaf). l.reacting) (sym b.2) ∙ r);
         waits = λ y c l placed e pending.
             let b = was y l e in
             let k = h.waits y c b.0 placed b.1 (ap (λ (l : Leaf). l.phase) (sym b.2) ∙ pending) in
@@ -169,7 +176,7 @@ module _ (w : World) (x : ℕ) (leaf : Leaf) (there : slice_get w.leaves x ≡ S
       let stands = stands_same promised system w v same_current y c b.0 b.0.phase extra extra (λ section state todo loops k. k)
       (t.leaves y c b.0 placed b.1) in
       subst (λ (l : Leaf). StandsBy promised extra system v y c l l.phase) (sym b.2)
-      (stands_with promised extra system v y c b.0 l.inputs b.0.phase stands))
+      (stands_with promised extra system v y c b.0 l.inputs l.signals b.0.phase stands))
 
   -- WHAT IS HELD
 
@@ -190,18 +197,21 @@ module _ (w : World) (x : ℕ) (leaf : Leaf) (there : slice_get w.leaves x ≡ S
   waiting_with y section [] = refl
   waiting_with y section (r ∷ rs) = ap (λ n. asks_at r.ask (served_at (session_at w r.session)) y section + n) (waiting_with y section rs)
 
-  pub counts_with : (done : Often) (made left : Requests) (system : System) → Counts done made left system w → Counts done made left system v
-  counts_with done made left system h =
+  pub counts_with : ((i : ℕ) → times_taken signals i ≡ times_taken leaf.signals i) → (since : Since) (done : Often) (made left : Requests) (system : System)
+      → Counts since done made left system w
+      → Counts since done made left system v
+  counts_with taken since done made left system h =
       let same : (y : ℕ) → waiting w y ≡ waiting v y = λ y. sym (λ i section. waiting_with y section w.requests i) in
       record {
         once = h.once;
-        never = h.never;
+        reacted = λ y i. (let most = h.reacted y i in let same = at_leaf (λ o. taken_of o i) (taken i) y in omega (arith, most, same));
         taken = λ y c l placed e.
             let b = was y l e in
-            subst (λ (l : Leaf). l.steps + ahead l l.phase + steps_of (waiting v y) c.node.program.sections ≤ steps_of (done y) c.node.program.sections)
+            subst (λ (l : Leaf). l.steps + ahead l l.phase + steps_of (waiting v y) c.node.program.sections
+            ≤ steps_taken since.world y + steps_of (done y) c.node.program.sections)
             (sym b.2)
             (subst (λ (q : Section → ℕ). b.0.steps + ahead b.0 b.0.phase + steps_of q c.node.program.sections
-            ≤ steps_of (done y) c.node.program.sections) (same y) (h.taken y c b.0 placed b.1));
+            ≤ steps_taken since.world y + steps_of (done y) c.node.program.sections) (same y) (h.taken y c b.0 placed b.1));
         asked = h.asked;
         requests = λ y c placed service section.
             subst (λ (q : Section → ℕ). made y service section + left y service section

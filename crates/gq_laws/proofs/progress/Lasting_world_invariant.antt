@@ -18,13 +18,13 @@ use Rattle.gq_laws.proofs.quota_payment.Routed_server_provides.{server_provides}
 use Rattle.gq_laws.proofs.remaining_work.Remaining_program_statements.{start_left, kept_left}
 use Rattle.gq_laws.proofs.verified_programs.Sound_systems.{is_resolved, good_of}
 use Rattle.gq_laws.proofs.upheld_worlds.Reached_world_induction.{in_reached}
-use Rattle.gq_laws.proofs.upheld_worlds.Standing_world_invariant.{stands_first, stands_next, stands_set}
-use Rattle.gq_laws.proofs.input_settings.Setting_keeps_invariants.{set_left, set_opened, set_ready}
+use Rattle.gq_laws.proofs.upheld_worlds.Standing_world_invariant.{stands_first, stands_next, stands_set, stands_submit, stands_submit}
+use Rattle.gq_laws.proofs.input_settings.Setting_keeps_invariants.{set_left, set_opened, set_ready, submit_left, submit_opened, submit_ready}
 use Rattle.gq_laws.proofs.progress.Opened_services_invariant.{OpensOwn, opens_programs, AllOpened, kept_opened, start_opened}
 use Rattle.gq_laws.specs.Leaf_phases.{AreReady}
 use Rattle.gq_laws.proofs.progress.Leaf_phase_invariant.{CurrentProvides, kept_ready, start_ready}
 use Rattle.gq_model.proofs.Small_facts.{or_first_none}
-use Rattle.gq_model.specs.machine.Run.{set_input}
+use Rattle.gq_model.specs.machine.Run.{set_input, submit}
 
 pub record Lasts (s : Scenario) (w : World) : Type 0 where
   pub stands : Stands s w
@@ -93,5 +93,14 @@ module _ (s : Scenario) (sound : IsSound s) where
         ready = set_ready (system s) w x i n h.ready;
       }
 
+  pub lasts_submit : (w : World) (x i : ℕ) → Lasts s w → Lasts s (submit w x i)
+  lasts_submit w x i h =
+      record {
+        stands = stands_submit s w x i h.stands;
+        own = submit_left OpensOwn (system s) w x i h.own;
+        opened = submit_opened (system s) w x i h.opened;
+        ready = submit_ready (system s) w x i h.ready;
+      }
+
   pub reached_lasts : (w : World) → IsReached s w → Lasts s w
-  reached_lasts = in_reached s (Lasts s) lasts_next lasts_set lasts_first
+  reached_lasts = in_reached s (Lasts s) lasts_next lasts_set lasts_submit lasts_first

@@ -1,5 +1,6 @@
 -- Where no leaf can take a step, none is blocked: a blocked one waits for a server that is blocked as well, and uses lead to no cycle.
-use Rattle.std.proofs.Common.{◌≡◌, ℕ, zero, suc, ◌+◌, ◌<◌, ◌==◌, inl, inr, Bool, true, false, cond, List, [], ◌∷◌, length, Option, Some, None, refl}
+use Rattle.std.proofs.Common.{◌≡◌, ℕ, zero, suc, ◌+◌, ◌<◌, ◌==◌, ◌||◌, nat_lt, inl, inr, Bool, true, false, cond, List, [], ◌∷◌, length, Option, Some, None}
+use Rattle.std.proofs.Common.{refl}
 use Rattle.std.proofs.Common.{ap, sym, ◌∙◌, subst, arith}
 use Rattle.std.specs.Prelude.{slice_get, is_some}
 use Rattle.std.proofs.lemmas.Bool.Decides.{eqb_tells}
@@ -10,9 +11,9 @@ use Rattle.gq_model.specs.machine.Routes.{server_of}
 use Rattle.gq_model.specs.machine.World.{Session, Request, Current, Leaf, World, session_at}
 use Rattle.gq_model.specs.declared.phase.Phase.{Phase}
 use Rattle.gq_model.specs.declared.phase.Phase.TheVariants.{Pending, Running, Blocked, Serving, Handling, Exited}
-use Rattle.gq_model.specs.machine.Step.{is_to, kept_before, oldest}
+use Rattle.gq_model.specs.machine.Step.{is_to, kept_before, oldest, first_signal}
 use Rattle.gq_model.specs.rules.Use.{is_there, services}
-use Rattle.gq_laws.specs.Turn_effects.{runs, runs_as, can_run}
+use Rattle.gq_model.specs.machine.Rest.{runs, runs_as, can_run}
 use Rattle.gq_laws.specs.Session_links.{Leads, Waits, Links, links, stance, stance_in, one_if, requests_of, by_current, at_current, pending_of}
 use Rattle.gq_laws.specs.Session_links.{Stands, Fits}
 use Rattle.gq_model.proofs.Small_facts.{equal_self, text_is, get_within}
@@ -46,6 +47,10 @@ none_asked w y k u there to (r ∷ rest) e = by (is_to y (session_at w r.session
           | inr other ↦ (let further = go (sym (kept (oldest w y rest)) ∙ g) in ap (λ b. one_if b + requests_of k rest) other.0 ∙ omega (arith, further))
         ]
 
+or_none : (a b : Bool) → (a || b) ≡ false → b ≡ false
+or_none true b e = absurd (true≢false e)
+or_none false b e = e
+
 -- a leaf that opens a service of this server uses it
 any_uses : (system : System) (c : Component) (y : ℕ) (service : List ℕ) → server_of system c service ≡ Some y → (names : List (List ℕ))
     → any_of (text_eq service) names ≡ true → any_of (λ v. is_there y (server_of system c v)) names ≡ true
@@ -62,7 +67,7 @@ module _ (s : Scenario) (w : World) (h : Lasts s w) (idle : (x : ℕ) → can_ru
   abbrev L : Links
   L = links w
 
-  pub stays : (x : ℕ) (c : Component) (leaf : Leaf) → slice_get (components s) x ≡ Some c → slice_get w.leaves x ≡ Some leaf → runs w x leaf.phase ≡ false
+  pub stays : (x : ℕ) (c : Component) (leaf : Leaf) → slice_get (components s) x ≡ Some c → slice_get w.leaves x ≡ Some leaf → runs w x leaf leaf.phase ≡ false
   stays x c leaf e f = (λ i. runs_as w x (sym e i) (sym f i)) ∙ idle x
 
   pub placed : (x : ℕ) (leaf : Leaf) → slice_get w.leaves x ≡ Some leaf → (c : Component) × (slice_get (components s) x ≡ Some c)
@@ -79,11 +84,12 @@ module _ (s : Scenario) (w : World) (h : Lasts s w) (idle : (x : ℕ) → can_ru
       → is_some d.node.provides ≡ true → slice_get w.leaves y ≡ Some leaf → requests_of k w.requests + at_current k (L.stances y) ≡ 1
       → (phase : Phase) → leaf.phase ≡ phase → IsBlocked y
   server_blocked y k u d leaf there to at provides found one Pending e =
-      absurd (true≢false (sym provides ∙ ap is_some (subst (Suits d.node.provides) e (h.ready.suits y d leaf at found))))
-  server_blocked y k u d leaf there to at provides found one Running e = absurd (true≢false (ap (runs w y) (sym e) ∙ stays y d leaf at found))
+      absurd (true≢false (sym provides ∙ ap is_some (subst (Suits d.node.provides d.node.signals) e (h.ready.suits y d leaf at found))))
+  server_blocked y k u d leaf there to at provides found one Running e = absurd (true≢false (ap (runs w y leaf) (sym e) ∙ stays y d leaf at found))
   server_blocked y k u d leaf there to at provides found one Blocked e = (leaf.current, ap stance_in found ∙ ap (λ p. Some (stance p leaf.current)) e)
   server_blocked y k u d leaf there to at provides found one Serving e =
-      let none = none_asked w y k u there to w.requests (ap (runs w y) (sym e) ∙ stays y d leaf at found) in
+      let none = none_asked w y k u there to w.requests (or_none (is_some (first_signal leaf.signals)) (is_some (oldest w y w.requests))
+      (ap (runs w y leaf) (sym e) ∙ stays y d leaf at found)) in
       let free = no_current leaf.current (subst (λ p. Fits p leaf.current) e (h.stands.linked.fits y (stance leaf.phase leaf.current) (ap stance_in found))) in
       let nothing : at_current k (L.stances y) ≡ 0 = ap (at_current k) (ap stance_in found) ∙ ap (by_current k) free in
       absurd (omega (arith, none, nothing, one))
@@ -91,9 +97,10 @@ module _ (s : Scenario) (w : World) (h : Lasts s w) (idle : (x : ℕ) → can_ru
       no_current : (current : Option Current) → Fits Serving current → current ≡ None
       no_current None f = refl
       no_current (Some g) f = absurd f
-  server_blocked y k u d leaf there to at provides found one Handling e = absurd (true≢false (ap (runs w y) (sym e) ∙ stays y d leaf at found))
+  server_blocked y k u d leaf there to at provides found one Handling e = absurd (true≢false (ap (runs w y leaf) (sym e) ∙ stays y d leaf at found))
   server_blocked y k u d leaf there to at provides found one Exited e =
-      absurd (true≢false (sym provides ∙ ap is_some (subst (Suits d.node.provides) e (h.ready.suits y d leaf at found))))
+      absurd (true≢false (sym (or_left (is_some d.node.provides) (nat_lt 0 d.node.signals) provides)
+      ∙ subst (Suits d.node.provides d.node.signals) e (h.ready.suits y d leaf at found)))
 
   -- a session that waits has one request
   one_request : (k : ℕ) (t : Session) → L.slots t.slot_id ≡ Some (Waits k) → Stands L k t → pending_of L k t ≡ 1

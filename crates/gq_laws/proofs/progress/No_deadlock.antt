@@ -7,7 +7,7 @@ use Rattle.gq_model.specs.machine.Scenario.{Scenario, System, Component, system}
 use Rattle.gq_model.specs.machine.World.{Leaf, World}
 use Rattle.gq_model.specs.declared.phase.Phase.{Phase}
 use Rattle.gq_model.specs.declared.phase.Phase.TheVariants.{Pending, Running, Blocked, Serving, Handling, Exited}
-use Rattle.gq_laws.specs.Turn_effects.{runs, runs_as, can_run}
+use Rattle.gq_model.specs.machine.Rest.{runs, runs_as, can_run}
 use Rattle.gq_laws.specs.Session_links.{stance, stance_in}
 use Rattle.gq_laws.proofs.step_shapes.Step_counting.{counts_steps}
 use Rattle.gq_laws.proofs.upheld_worlds.Standing_world_invariant.{stands_upheld}
@@ -47,12 +47,12 @@ module _ (s : Scenario) (w : World) (h : Lasts s w) where
   all_rest : ((x : ℕ) → can_run (system s) w x ≡ false) → AllRest w
   all_rest idle x leaf there = by leaf.phase refl
     where
-      by : (phase : Phase) → leaf.phase ≡ phase → rests w x phase ≡ true
+      by : (phase : Phase) → leaf.phase ≡ phase → rests w x leaf phase ≡ true
       by Pending e = absurd (never_pending s w h idle x leaf there e)
-      by Running e = let c = placed s w h idle x leaf there in absurd (true≢false (ap (runs w x) (sym e) ∙ stays s w h idle x c.0 leaf c.1 there))
+      by Running e = let c = placed s w h idle x leaf there in absurd (true≢false (ap (runs w x leaf) (sym e) ∙ stays s w h idle x c.0 leaf c.1 there))
       by Blocked e = absurd (never_blocked s w h idle x (leaf.current, ap stance_in there ∙ ap (λ p. Some (stance p leaf.current)) e))
-      by Serving e = let c = placed s w h idle x leaf there in ap not (ap (runs w x) (sym e) ∙ stays s w h idle x c.0 leaf c.1 there)
-      by Handling e = let c = placed s w h idle x leaf there in absurd (true≢false (ap (runs w x) (sym e) ∙ stays s w h idle x c.0 leaf c.1 there))
+      by Serving e = let c = placed s w h idle x leaf there in ap not (ap (runs w x leaf) (sym e) ∙ stays s w h idle x c.0 leaf c.1 there)
+      by Handling e = let c = placed s w h idle x leaf there in absurd (true≢false (ap (runs w x leaf) (sym e) ∙ stays s w h idle x c.0 leaf c.1 there))
       by Exited e = refl
 
   pub rest_or_run : AllRest w ⊎ ((x : ℕ) × (can_run (system s) w x ≡ true))

@@ -9,7 +9,7 @@ use Rattle.gq_model.specs.machine.World.{Leaf, World}
 use Rattle.gq_model.specs.declared.phase.Phase.{Phase}
 use Rattle.gq_model.specs.declared.phase.Phase.TheVariants.{Pending, Running, Blocked, Serving, Handling, Exited}
 use Rattle.gq_model.specs.rules.Resolve.{leaf_child, sibling, after_of, leads_back}
-use Rattle.gq_laws.specs.Turn_effects.{runs, can_run}
+use Rattle.gq_model.specs.machine.Rest.{runs, can_run}
 use Rattle.gq_laws.specs.Names.{NamesDiffer}
 use Rattle.gq_laws.specs.Session_links.{stance, stance_in}
 use Rattle.gq_laws.specs.Shapes.{Each}
@@ -18,7 +18,7 @@ use Rattle.gq_laws.proofs.step_shapes.Whole_worlds.{each_get}
 use Rattle.gq_laws.proofs.quota_payment.Leaf_component_positions.{starts_after, never_back}
 use Rattle.gq_laws.proofs.quota_payment.Routed_server_provides.{Among, Holds, holds_at, IsKnown, all_known}
 use Rattle.gq_laws.proofs.verified_programs.Acyclic_chain_length.{Chain, chain_short}
-use Rattle.gq_laws.specs.Leaf_phases.{Suits}
+use Rattle.gq_laws.specs.Leaf_phases.{Suits, serves}
 use Rattle.gq_laws.proofs.progress.Lasting_world_invariant.{Lasts, afters_fit}
 use Rattle.gq_laws.proofs.progress.No_blocked_deadlock.{stays, placed, never_blocked}
 use Rattle.std.proofs.lemmas.Bool.{true≢false, false≢true, or_left, or_right, or_cases}
@@ -112,15 +112,15 @@ module _ (s : Scenario) (w : World) (h : Lasts s w) (idle : (x : ℕ) → can_ru
   IsPending x = (leaf : Leaf) × (slice_get w.leaves x ≡ Some leaf) × (leaf.phase ≡ Pending)
 
   -- the leaf before one that is pending is pending, where it does not run
-  before_pending : (y : ℕ) (d : Component) (leaf : Leaf) → slice_get (components s) y ≡ Some d → is_some d.node.provides ≡ false
+  before_pending : (y : ℕ) (d : Component) (leaf : Leaf) → slice_get (components s) y ≡ Some d → serves d.node.provides d.node.signals ≡ false
       → slice_get w.leaves y ≡ Some leaf → leaf.phase ≢ Exited → (phase : Phase) → leaf.phase ≡ phase → IsPending y
   before_pending y d leaf at bare there live Pending e = (leaf, there, e)
-  before_pending y d leaf at bare there live Running e = absurd (true≢false (ap (runs w y) (sym e) ∙ stays s w h idle y d leaf at there))
+  before_pending y d leaf at bare there live Running e = absurd (true≢false (ap (runs w y leaf) (sym e) ∙ stays s w h idle y d leaf at there))
   before_pending y d leaf at bare there live Blocked e =
       absurd (never_blocked s w h idle y (leaf.current, ap stance_in there ∙ ap (λ p. Some (stance p leaf.current)) e))
   before_pending y d leaf at bare there live Serving e =
-      absurd (true≢false (sym (subst (Suits d.node.provides) e (h.ready.suits y d leaf at there)) ∙ bare))
-  before_pending y d leaf at bare there live Handling e = absurd (true≢false (ap (runs w y) (sym e) ∙ stays s w h idle y d leaf at there))
+      absurd (true≢false (sym (subst (Suits d.node.provides d.node.signals) e (h.ready.suits y d leaf at there)) ∙ bare))
+  before_pending y d leaf at bare there live Handling e = absurd (true≢false (ap (runs w y leaf) (sym e) ∙ stays s w h idle y d leaf at there))
   before_pending y d leaf at bare there live Exited e = absurd (live e)
 
   next_pending : (x : ℕ) → IsPending x → (y : ℕ) × After s x y × IsPending y
@@ -135,7 +135,8 @@ module _ (s : Scenario) (w : World) (h : Lasts s w) (idle : (x : ℕ) → can_ru
       let y = found.0 in
       let d = found.1 in
       let named : d.node.name ≡ name = ap (λ (n : LeafNode). n.name) found.3 ∙ held.1 in
-      let bare : is_some d.node.provides ≡ false = ap (λ (n : LeafNode). is_some n.provides) found.3 ∙ fits.before_provides in
+      let bare : serves d.node.provides d.node.signals ≡ false =
+      ap (λ (n : LeafNode). serves n.provides n.signals) found.3 ∙ (λ i. fits.before_provides i || fits.before_signals i) in
       let below = slice_get_within (components s) y d found.2 in
       let count = h.stands.whole.count in
       let leaf = get_within w.leaves y (omega (arith, below, count)) in (

@@ -1,28 +1,28 @@
 -- The client of each session opens its service in its program, in each world that a scenario comes to.
-use Rattle.std.proofs.Common.{◌≡◌, ℕ, suc, inl, inr, true, false, List, [], ◌∷◌, ◌++◌, Option, Some, None, Ok, refl, ap, sym, ◌∙◌}
+use Rattle.std.proofs.Common.{◌≡◌, ℕ, suc, inl, inr, true, false, List, [], ◌∷◌, ◌++◌, Option, Some, None, Ok, refl, ap, sym, ◌∙◌, zero}
 use Rattle.std.proofs.Common.{subst}
 use Rattle.std.specs.Prelude.{slice_get, slice_set}
 use Rattle.std.proofs.lemmas.Bool.Decides.{eqb_tells}
 use Rattle.gq_model.specs.machine.Lists.{any_of}
-use Rattle.gq_model.specs.machine.Program.{Statements, Done, Do, If, Loop, text_eq}
+use Rattle.gq_model.specs.machine.Program.{Statements, Done, Do, If, Loop, text_eq, section_in}
 use Rattle.gq_model.specs.declared.section.Section.{Section}
 use Rattle.gq_model.specs.declared.program.OperandSlot.{OperandSlot}
 use Rattle.gq_model.specs.declared.program.Instruction.{Instruction}
 use Rattle.gq_model.specs.declared.program.Instruction.TheVariants.{Open}
 use Rattle.gq_model.specs.declared.phase.Phase.{Phase}
 use Rattle.gq_model.specs.declared.phase.Phase.TheVariants.{Pending, Running, Blocked, Serving, Handling, Exited}
-use Rattle.gq_model.specs.declared.fault.Wrong.TheVariants.{WrongKind, ExceededQuota}
+use Rattle.gq_model.specs.declared.fault.Wrong.TheVariants.{WrongKind, ExceededQuota, MissingSection}
 use Rattle.gq_model.specs.machine.Amounts.{amount}
 use Rattle.gq_model.specs.machine.Scenario.{System, Component, interface_in, open_caps}
 use Rattle.gq_model.specs.machine.Routes.{server_of}
-use Rattle.gq_model.specs.machine.World.{Slot, Waiting, SlotId, In_leaf, In_session, In_object, Session, Ask, Ask_open, Ask_upgrade, Ask_close}
+use Rattle.gq_model.specs.machine.World.{Slot, Waiting, SlotId, In_leaf, In_session, In_object, Session, Ask, Ask_open, Ask_upgrade, Ask_close, Signal}
 use Rattle.gq_model.specs.machine.World.{Ask_call, Request, Current, Round, Leaf, World, joined, session_at, slot_at, slot_id_of, with_leaf, with_session}
 use Rattle.gq_model.specs.machine.World.{with_slot}
 use Rattle.gq_model.specs.machine.World.{put_leaf_slot, put_session_slot, put_object, start}
 use Rattle.gq_model.specs.machine.Doing.{Doing, Event, Idle, Quiet, Finished, standing, settled}
 use Rattle.gq_model.specs.machine.Sums.{paid, with_peaks}
 use Rattle.gq_model.specs.machine.Requests.{add_session, free_place, new_session, asked, open_session, upgrade}
-use Rattle.gq_model.specs.machine.Step.{instruct, oldest, accept, accepted_as, serving, active_again, unblocked}
+use Rattle.gq_model.specs.machine.Step.{instruct, oldest, accept, accepted_as, serving, active_again, unblocked, serve, first_signal}
 use Rattle.gq_model.specs.machine.Step.{exit_of}
 use Rattle.gq_model.specs.machine.Step.{main_ended, section_ended, body_ended, perform, accept_oldest, step_in, step_of, next}
 use Rattle.gq_model.specs.rules.Use.{opened_by, services_of, services_in, services}
@@ -37,6 +37,7 @@ use Rattle.gq_laws.proofs.session_links.Linked_after_reply.{gone_here}
 use Rattle.gq_laws.proofs.step_shapes.Step_end_worlds.{blocking, asked_world}
 use Rattle.std.proofs.lemmas.Bool.{or_left, or_right, or_cases}
 use Rattle.gq_laws.proofs.step_shapes.Step_change_shapes.{instruct_by, section_by, accept_by}
+use Rattle.gq_model.specs.declared.section.Section.TheVariants.{Reacting}
 
 -- PROGRAMS
 
@@ -209,16 +210,17 @@ module _ (d : Doing) (h : AllOpened d.system d.world) (component : slice_get d.s
       (λ w requests hw. record { at = hw.at }) same_settled i (λ place service n e. open_opened place service n (subst (OpensOwn d.component) e own))
       (λ place n e. upgrade_opened place n)
 
-  main_opened : (provides : Option (List ℕ)) → Ends P (main_ended d provides)
-  main_opened (Some service) = gives (standing d (serving d.leaf)) Quiet (stands (serving d.leaf))
-  main_opened None = when_ends P _ _ _ (gives (exit_of d) Finished (record { at = h.at }))
+  main_opened : (provides : Option (List ℕ)) (signals : ℕ) → Ends P (main_ended d provides signals)
+  main_opened (Some service) signals = gives (standing d (serving d.leaf)) Quiet (stands (serving d.leaf))
+  main_opened None (suc n) = gives (standing d (serving d.leaf)) Quiet (stands (serving d.leaf))
+  main_opened None zero = when_ends P _ _ _ (gives (exit_of d) Finished (record { at = h.at }))
 
-  section_opened : (current : Option Current) → Ends P (section_ended d current)
-  section_opened current = section_by d P same_slot (stands (serving d.leaf)) (opened_active d.system) (opened_gone d.system)
-      (main_opened d.component.node.provides) current
+  section_opened : (current : Option Current) (reacting : Option ℕ) → Ends P (section_ended d current reacting)
+  section_opened current reacting = section_by d P same_slot (stands (serving d.leaf)) (opened_active d.system) (opened_gone d.system)
+      (main_opened d.component.node.provides d.component.node.signals) current reacting
 
   body_opened : (loops : List Round) → Ends P (body_ended d loops)
-  body_opened [] = section_opened d.leaf.current
+  body_opened [] = section_opened d.leaf.current d.leaf.reacting
   body_opened (r ∷ loops) = gives _ Quiet (stands _)
 
   accept_opened : (r : Request) (rest : List Request) → Ends P (accept d r rest)
@@ -244,11 +246,16 @@ step_opened : (d : Doing) → AllOpened d.system d.world → slice_get d.system.
 step_opened d h component left Pending = gives d.world Idle h
 step_opened d h component left Running = perform_opened d h component d.leaf.todo left
 step_opened d h component left Blocked = gives d.world Idle h
-step_opened d h component left Serving = by (oldest d.world d.x d.world.requests)
+step_opened d h component left Serving = serve_by (first_signal d.leaf.signals)
   where
     by : (found : Option (Request × List Request)) → Ends (AllOpened d.system) (accept_oldest d found)
     by None = gives d.world Idle h
     by (Some p) = accept_opened d h component p.0 p.1
+
+    serve_by : (found : Option (ℕ × List Signal)) → Ends (AllOpened d.system) (serve d found)
+    serve_by None = by (oldest d.world d.x d.world.requests)
+    serve_by (Some p) = need_ends (AllOpened d.system) (section_in (Reacting p.0) d.component.node.program.sections) MissingSection _
+        (λ body. gives _ Quiet (stands d h component _))
 step_opened d h component left Handling = perform_opened d h component d.leaf.todo left
 step_opened d h component left Exited = gives d.world Idle h
 

@@ -12,7 +12,7 @@ use Rattle.gq_model.specs.machine.World.{Leaf, World, start}
 use Rattle.gq_model.specs.rules.Accept.{Not_resolved, refusal}
 use Rattle.gq_model.specs.rules.Resolve.{Bad_after}
 use Rattle.gq_model.proofs.Sample_scenarios.{all_do, server, leaves, served, one, hello, echo, echo_of, asking, row_of_leaves}
-use Rattle.gq_laws.specs.Turn_effects.{can_run}
+use Rattle.gq_model.specs.machine.Rest.{can_run}
 use Rattle.gq_laws.specs.Progress.{GoesOn, after_turns, steps_in, taken, budgeted, after_rounds, Turn_of}
 
 abbrev phases_of : List Leaf → List Phase
@@ -68,7 +68,7 @@ no_step = refl
 
 -- EXACTLY
 
-hello_budget : budgeted hello ≡ 2
+hello_budget : budgeted hello (start (system hello)) ≡ 2
 hello_budget = refl
 
 -- as many turns are steps as are budgeted, and no more
@@ -82,7 +82,7 @@ hello_one_round = refl
 hello_two_rounds : seen hello (after_rounds (system hello) (start (system hello)) ((Turn_of 0 ∷ []) ∷ (Turn_of 0 ∷ []) ∷ [])) ≡ (Exited ∷ [], false ∷ [])
 hello_two_rounds = refl
 
-echo_budget : budgeted (echo_of 8192) ≡ 15
+echo_budget : budgeted (echo_of 8192) (start (system (echo_of 8192))) ≡ 15
 echo_budget = refl
 
 -- a server and its client: after all rounds one serves with no request, the other has exited

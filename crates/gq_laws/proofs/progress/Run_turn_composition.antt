@@ -2,17 +2,17 @@
 use Rattle.std.proofs.Common.{◌≡◌, ℕ, zero, suc, List, [], ◌∷◌, ◌++◌, None, refl, ap, sym, ◌∙◌, subst}
 use Rattle.std.specs.Prelude.{replicate}
 use Rattle.gq_model.specs.declared.act.Act.{Act}
-use Rattle.gq_model.specs.declared.act.Act.TheVariants.{Turns, Sets}
+use Rattle.gq_model.specs.declared.act.Act.TheVariants.{Turns, Sets, Submits}
 use Rattle.gq_model.specs.machine.Scenario.{Scenario, System, system}
 use Rattle.gq_model.specs.machine.World.{World, start}
 use Rattle.gq_model.specs.machine.Step.{next}
-use Rattle.gq_model.specs.machine.Run.{Ran, Acts, after_step, turn_from, turns_of, set_input, set_from, act_on, run_on}
+use Rattle.gq_model.specs.machine.Run.{Ran, Acts, after_step, turn_from, turns_of, set_input, set_from, act_on, run_on, submit, submit_from}
 use Rattle.gq_laws.specs.Sound_scenarios.{IsSound}
 use Rattle.gq_laws.specs.Stands.{Stands}
-use Rattle.gq_laws.proofs.upheld_worlds.Standing_world_invariant.{stands_first, stands_next, stands_set, stands_upheld}
+use Rattle.gq_laws.proofs.upheld_worlds.Standing_world_invariant.{stands_first, stands_next, stands_set, stands_upheld, stands_submit}
 use Rattle.gq_laws.specs.Progress.{world_after, Move, Turn_of, after_move, after_moves, moves_of, each_move, RunsThrough}
 
-after_both : (system : System) (w : World) (xs ys : List Move) → after_moves system w (xs ++ ys) ≡ after_moves system (after_moves system w xs) ys
+pub after_both : (system : System) (w : World) (xs ys : List Move) → after_moves system w (xs ++ ys) ≡ after_moves system (after_moves system w xs) ys
 after_both system w [] ys = refl
 after_both system w (m ∷ xs) ys = after_both system (after_move system w m) xs ys
 
@@ -45,9 +45,15 @@ module _ (s : Scenario) where
       subst (λ o. IsAt (set_from real x i n ran o) (set_input real w x i n)) (sym h.none)
       (record { world = ap (λ v. set_input real v x i n) h.world; none = h.none; stands = stands_set s ran.world x i n h.stands })
 
+  signal : (ran : Ran) (x i : ℕ) (w : World) → IsAt ran w → IsAt (submit_from x i ran ran.wrong) (submit w x i)
+  signal ran x i w h =
+      subst (λ o. IsAt (submit_from x i ran o) (submit w x i)) (sym h.none)
+      (record { world = ap (λ v. submit v x i) h.world; none = h.none; stands = stands_submit s ran.world x i h.stands })
+
   act : (ran : Ran) (x : ℕ) (a : Act) (w : World) → IsAt ran w → IsAt (act_on real x a ran) (after_moves real w (moves_of x a))
   act ran x (Turns n) w h = turns ran x n w h
   act ran x (Sets i n) w h = setting ran x i n w h
+  act ran x (Submits i) w h = signal ran x i w h
 
   all_acts : (ran : Ran) (acts : Acts) (w : World) → IsAt ran w → IsAt (run_on real acts ran) (after_moves real w (each_move acts))
   all_acts ran [] w h = h

@@ -22,6 +22,7 @@ use Rattle.gq_laws.proofs.session_links.Linked_after_accept.{stand_slots}
 use Rattle.gq_model.proofs.Small_facts.{some_same}
 use Rattle.gq_laws.specs.Inside_steps.{TakesLeaf}
 use Rattle.gq_laws.proofs.session_links.Linked_after_reply.{leaf_of_stance, session_of_outline, handling, slot_waits, was, not_server, put, put_outlines}
+use Rattle.gq_laws.proofs.session_links.Linked_after_reply.{its_reacting}
 use Rattle.gq_laws.proofs.session_links.Linked_after_reply.{put_serves}
 use Rattle.gq_laws.proofs.session_links.Linked_after_reply.{client_blocked, its_current}
 use Rattle.gq_laws.proofs.session_links.Linked_after_reply.{resumed_world}
@@ -186,7 +187,8 @@ module _ (s : Scenario) (d : Doing) (of : d.system ≡ system s) (t : TakesLeaf 
 
   client_now : (leaf : Leaf) × (slice_get after.leaves u.client ≡ Some leaf)
       × (stance leaf.phase leaf.current
-      ≡ stance (resumed (its_current d t h handles g current u there Empty)) (its_current d t h handles g current u there Empty))
+      ≡ stance (resumed (its_current d t h handles g current u there Empty) (its_reacting d t h handles g current u there Empty))
+      (its_current d t h handles g current u there Empty))
   client_now = leaf_of_stance (slice_get after.leaves u.client) _ (resumed_here d t h handles g current u there Empty (λ operands. operands) gone refl)
 
   server_now : (leaf : Leaf) × (slice_get after.leaves d.x ≡ Some leaf) × (stance leaf.phase leaf.current ≡ stance Serving None)
@@ -199,7 +201,7 @@ module _ (s : Scenario) (d : Doing) (of : d.system ≡ system s) (t : TakesLeaf 
   client_phase q = (
     ap (λ p. handed p q) (ap (λ (a : Stance). a.phase) client_was.2),
     ap (λ p. handed p q) (ap (λ (a : Stance). a.phase) client_now.2)
-        ∙ handed_resumed (its_current d t h handles g current u there Empty) q,
+        ∙ handed_resumed (its_current d t h handles g current u there Empty) (its_reacting d t h handles g current u there Empty) q,
   )
 
   server_phase : (q : ℕ) → (handed t.old.phase q ≡ q) × (handed server_now.0.phase q ≡ q)

@@ -1,5 +1,5 @@
 -- A session goes with the reply to its close alone.
-use Rattle.std.proofs.Common.{◌≡◌, ◌≢◌, ℕ, suc, inl, inr, Bool, true, false, cond, nat_lt, List, [], ◌∷◌, Option, Some, None, Ok, refl, ap, sym, ◌∙◌}
+use Rattle.std.proofs.Common.{◌≡◌, ◌≢◌, ℕ, suc, inl, inr, Bool, true, false, cond, nat_lt, List, [], ◌∷◌, Option, Some, None, Ok, refl, ap, sym, ◌∙◌, zero}
 use Rattle.std.proofs.Common.{subst, arith}
 use Rattle.std.specs.Prelude.{slice_get, slice_set}
 use Rattle.std.proofs.lemmas.Bool.Decides.{eqb_tells}
@@ -16,6 +16,7 @@ use Rattle.gq_model.specs.machine.Amounts.{amount}
 use Rattle.gq_model.specs.machine.Scenario.{System, Component, Scenario, components, system, interface_in, open_caps}
 use Rattle.gq_model.specs.machine.Routes.{server_of}
 use Rattle.gq_model.specs.machine.World.{Slot, Empty, Waiting, Link, SlotId, In_leaf, In_session, In_object, Session, Ask, Ask_open, Ask_upgrade, Request}
+use Rattle.gq_model.specs.machine.World.{Signal}
 use Rattle.gq_model.specs.machine.World.{Current}
 use Rattle.gq_model.specs.machine.World.{Round, Leaf, World, joined, session_at, slot_at, slot_id_of, with_leaf, with_session, with_slot, put_leaf_slot}
 use Rattle.gq_model.specs.machine.World.{put_session_slot, put_object}
@@ -23,6 +24,7 @@ use Rattle.gq_model.specs.machine.Doing.{Doing, Idle, Quiet, Finished, Stepped, 
 use Rattle.gq_model.specs.machine.Sums.{paid, with_peaks}
 use Rattle.gq_model.specs.machine.Requests.{add_session, free_place, new_session, asked, open_session, upgrade}
 use Rattle.gq_model.specs.machine.Step.{instruct, oldest, all_empty, accept, accepted_as, serving, active_again, unblocked, replied, reply_close, reply}
+use Rattle.gq_model.specs.machine.Step.{serve, first_signal}
 use Rattle.gq_model.specs.machine.Step.{exit_of, main_ended, section_ended, body_ended, perform, accept_oldest, step_in, step_of, next}
 use Rattle.gq_model.specs.Promises.{EachOf, GivesBack, IsClosed, ClosesWhole, EndsSessions}
 use Rattle.gq_laws.specs.Shapes.{IsWholeWorld}
@@ -154,9 +156,10 @@ module _ (k : ℕ) where
         left = let there = there_slot (standing d (serving d.leaf)) s.slot_id Empty h in
             (there.0, ap joined (set_else (with_slot (standing d (serving d.leaf)) s.slot_id Empty).sessions j k None ne) ∙ there.1)
 
-    main_stays : (provides : Option (List ℕ)) → Ends (IsThere k) (main_ended d provides)
-    main_stays (Some service) = gives (standing d (serving d.leaf)) Quiet h
-    main_stays None = when_ends (IsThere k) _ _ _ (gives (exit_of d) Finished h)
+    main_stays : (provides : Option (List ℕ)) (signals : ℕ) → Ends (IsThere k) (main_ended d provides signals)
+    main_stays (Some service) signals = gives (standing d (serving d.leaf)) Quiet h
+    main_stays None (suc n) = gives (standing d (serving d.leaf)) Quiet h
+    main_stays None zero = when_ends (IsThere k) _ _ _ (gives (exit_of d) Finished h)
 
     body_stays : (r : Round) (loops : List Round) → Ends (IsThere k) (body_ended d (r ∷ loops))
     body_stays r loops = by_round (nat_lt (suc r.round) r.count)
@@ -227,14 +230,16 @@ module _ (s : Scenario) (d : Doing) (of : d.system ≡ system s) (t : TakesLeaf 
     ]
     reply_closes (Reacting i) v at = fails WrongKind
 
-  section_closes : d.leaf.phase ≢ Blocked → (current : Option Current) → d.leaf.current ≡ current → Ends P (section_ended d current)
-  section_closes active None e = quiet _ (main_stays k d here d.component.node.provides)
-  section_closes active (Some g) e = need_found P (session_at d.world g.session) WrongKind _
+  section_closes : d.leaf.phase ≢ Blocked → (current : Option Current) (reacting : Option ℕ) → d.leaf.current ≡ current
+      → Ends P (section_ended d current reacting)
+  section_closes active None None e = quiet _ (main_stays k d here d.component.node.provides d.component.node.signals)
+  section_closes active None (Some i) e = quiet _ (gives _ Quiet here)
+  section_closes active (Some g) reacting e = need_found P (session_at d.world g.session) WrongKind _
       (λ v at. reply_closes (handling_with d.leaf.phase g
       (subst (Fits d.leaf.phase) e (linked.fits d.x (stance d.leaf.phase d.leaf.current) (stood d t))) active) g e g.section v at)
 
   body_closes : d.leaf.phase ≢ Blocked → (loops : List Round) → Ends P (body_ended d loops)
-  body_closes active [] = section_closes active d.leaf.current refl
+  body_closes active [] = section_closes active d.leaf.current d.leaf.reacting refl
   body_closes active (r ∷ loops) = quiet _ (body_stays k d here r loops)
 
   perform_closes : d.leaf.phase ≢ Blocked → (todo : Statements) → Ends P (perform d todo)
@@ -247,11 +252,15 @@ module _ (s : Scenario) (d : Doing) (of : d.system ≡ system s) (t : TakesLeaf 
   oldest_closes None = quiet _ (gives d.world Idle here)
   oldest_closes (Some p) = quiet _ (accept_stays k d here p.0 p.1)
 
+  serve_closes : (found : Option (ℕ × List Signal)) → Ends P (serve d found)
+  serve_closes None = oldest_closes (oldest d.world d.x d.world.requests)
+  serve_closes (Some p) = quiet _ (need_ends _ (section_in (Reacting p.0) d.component.node.program.sections) MissingSection _ (λ body. gives _ Quiet here))
+
   step_closes : (phase : Phase) → d.leaf.phase ≡ phase → Ends P (step_in d phase)
   step_closes Pending e = quiet _ (gives d.world Idle here)
   step_closes Running e = perform_closes (λ b. running_blocked (sym e ∙ b)) d.leaf.todo
   step_closes Blocked e = quiet _ (gives d.world Idle here)
-  step_closes Serving e = oldest_closes (oldest d.world d.x d.world.requests)
+  step_closes Serving e = serve_closes (first_signal d.leaf.signals)
   step_closes Handling e = perform_closes (λ b. handling_blocked (sym e ∙ b)) d.leaf.todo
   step_closes Exited e = quiet _ (gives d.world Idle here)
 
@@ -261,7 +270,7 @@ module _ (s : Scenario) (w : World) (linked : IsLinkedWorld (system s) w) (pays 
       → Ends (Closes s w k u) (step_of (system s) w x c leaf)
   next_closes x (Some c) (Some leaf) component at =
       step_closes s (record { system = system s; world = w; x = x; component = c; leaf = record leaf { steps = suc leaf.steps } }) refl
-      (record { old = leaf; there = at; slots = refl; phase = refl; current = refl }) linked component pays k u there refl leaf.phase refl
+      (record { old = leaf; there = at; slots = refl; phase = refl; current = refl; reacting = refl }) linked component pays k u there refl leaf.phase refl
   next_closes x (Some c) None component at = stays_closes s w k u _ (gives w Idle (u, there))
   next_closes x None leaf component at = stays_closes s w k u _ (gives w Idle (u, there))
 
@@ -286,8 +295,8 @@ module _ (d : Doing) (k l : ℕ) where
       by None = gone_here emptied.sessions k
       by (Some leaf) = gone_here emptied.sessions k
 
-  close_ended : Ends (λ w. session_at w k ≡ None) (section_ended d (Some (record { session = k; section = Closing l })))
-  close_ended = need_ends (λ w. session_at w k ≡ None) (session_at d.world k) WrongKind (reply d k (Closing l)) gone_ends
+  close_ended : (reacting : Option ℕ) → Ends (λ w. session_at w k ≡ None) (section_ended d (Some (record { session = k; section = Closing l })) reacting)
+  close_ended reacting = need_ends (λ w. session_at w k ≡ None) (session_at d.world k) WrongKind (reply d k (Closing l)) gone_ends
 
 pub ends_sessions : (s : Scenario) (w : World) → IsWholeWorld (system s) w → EndsSessions s w
 ends_sessions s w whole x k new event at_end stepped =
@@ -302,6 +311,6 @@ ends_sessions s w whole x k new event at_end stepped =
         → Ends (λ w. session_at w k ≡ None) (step_of (system s) w x (Some c) (Some leaf))
     ends c leaf phase todo loops current =
         let d : Doing = record { system = system s; world = w; x = x; component = c; leaf = record leaf { steps = suc leaf.steps } } in
-        let e : step_of (system s) w x (Some c) (Some leaf) ≡ section_ended d leaf.current =
+        let e : step_of (system s) w x (Some c) (Some leaf) ≡ section_ended d leaf.current leaf.reacting =
         ap (step_in d) phase ∙ (ap (perform d) todo ∙ ap (body_ended d) loops) in
-        subst (Ends (λ w. session_at w k ≡ None)) (sym (e ∙ ap (section_ended d) current)) (close_ended d k at_end.level)
+        subst (Ends (λ w. session_at w k ≡ None)) (sym (e ∙ ap (λ o. section_ended d o leaf.reacting) current)) (close_ended d k at_end.level leaf.reacting)

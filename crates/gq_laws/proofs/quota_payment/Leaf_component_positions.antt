@@ -73,8 +73,9 @@ pub record StartsAfter (c : Component) (name : List ℕ) : Type 0 where
   pub there : sibling name c.levels ≡ Some before
   pub ram : c.node.quantum.ram ≤ before.quantum.ram
   pub caps : c.node.quantum.caps ≤ before.quantum.caps
-  -- neither provides a service
+  -- neither provides a service, and the first has no signals
   pub before_provides : is_some before.provides ≡ false
+  pub before_signals : nat_lt 0 before.signals ≡ false
   pub provides : is_some c.node.provides ≡ false
 
 no_less : (a b : ℕ) → nat_lt a b ≡ false → b ≤ a
@@ -83,16 +84,19 @@ no_less a b e = elim (leb_tells (suc a) b) [ inl f ↦ absurd (true≢false (sym
 starts_by : (c : Component) (name : List ℕ) (o : Option LeafNode) → sibling name c.levels ≡ o → unfit_after o c.node ≡ false → StartsAfter c name
 starts_by c name None there e = absurd cc
 starts_by c name (Some before) there e =
-    let three = or_parts (is_some before.provides || is_some c.node.provides || nat_lt before.quantum.ram c.node.quantum.ram)
+    let three = or_parts (is_some before.provides || nat_lt 0 before.signals || is_some c.node.provides || nat_lt before.quantum.ram c.node.quantum.ram)
     (nat_lt before.quantum.caps c.node.quantum.caps) e in
-    let two = or_parts (is_some before.provides || is_some c.node.provides) (nat_lt before.quantum.ram c.node.quantum.ram) three.0 in
+    let two = or_parts (is_some before.provides || nat_lt 0 before.signals || is_some c.node.provides) (nat_lt before.quantum.ram c.node.quantum.ram) three.0 in
+    let one = or_parts (is_some before.provides || nat_lt 0 before.signals) (is_some c.node.provides) two.0 in
+    let first = or_parts (is_some before.provides) (nat_lt 0 before.signals) one.0 in
     record {
       before = before;
       there = there;
       ram = no_less before.quantum.ram c.node.quantum.ram two.1;
       caps = no_less before.quantum.caps c.node.quantum.caps three.1;
-      before_provides = (or_parts (is_some before.provides) (is_some c.node.provides) two.0).0;
-      provides = (or_parts (is_some before.provides) (is_some c.node.provides) two.0).1;
+      before_provides = first.0;
+      before_signals = first.1;
+      provides = one.1;
     }
 
 bad_by : (all : List Component) (earlier : List (List ℕ)) (c : Component) (name : List ℕ) → c.node.after ≡ Some name

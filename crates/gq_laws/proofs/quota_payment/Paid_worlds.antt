@@ -17,12 +17,14 @@ use Rattle.gq_model.specs.machine.Amounts.{Resource, Ram, Caps, part}
 use Rattle.gq_model.specs.machine.Resource_prices.{heap, price_pool}
 use Rattle.gq_model.specs.machine.Scenario.{System, Component, Scenario, components, system}
 use Rattle.gq_model.specs.machine.Routes.{is_service, server_of}
-use Rattle.gq_model.specs.machine.World.{Slot, Empty, Bytes, Pool, Link, SlotId, In_leaf, In_session, In_object, Session, Request, Current, Round, Leaf, World}
+use Rattle.gq_model.specs.machine.World.{Slot, Empty, Bytes, Pool, Link, SlotId, In_leaf, In_session, In_object, Session, Request, Current, Round, Leaf}
+use Rattle.gq_model.specs.machine.World.{World, Signal}
 use Rattle.gq_model.specs.machine.World.{joined, session_at, slot_at, with_leaf, start_leaf, start_leaves, start}
 use Rattle.gq_model.specs.machine.Doing.{Doing, Event, Idle, Quiet, Finished, Stepped, need, when, standing, settled, fill}
 use Rattle.gq_model.specs.machine.Sums.{slot_price, bank_price, donated, to_leaf, from_leaf, held, lent, received, handed, is_paid, are_paid, paid, with_peaks}
 use Rattle.gq_model.specs.machine.Memory.{bytes_in, pool_in}
-use Rattle.gq_model.specs.machine.Step.{oldest, no_link, released, all_released, exited, exit_of, serving, resumed, active_again, unblocked, all_empty}
+use Rattle.gq_model.specs.machine.Step.{oldest, no_link, released, all_released, exited, exit_of, serving, resumed, active_again, unblocked, all_empty, serve}
+use Rattle.gq_model.specs.machine.Step.{first_signal, reacting_to}
 use Rattle.gq_model.specs.machine.Step.{accept, replied, reply_close, reply, instruct, main_ended}
 use Rattle.gq_model.specs.machine.Step.{section_ended, body_ended, perform, accept_oldest, step_in, step_of, next}
 use Rattle.gq_laws.specs.Session_links.{Naming, Links, named, links, outline, outline_in, Belongs, AreLinked, IsLinkedWorld}
@@ -48,9 +50,10 @@ handed_most Serving q = omega arith
 handed_most Handling q = omega arith
 handed_most Exited q = omega arith
 
-pub handed_resumed : (current : Option Current) (quantum : ℕ) → handed (resumed current) quantum ≡ quantum
-handed_resumed None q = refl
-handed_resumed (Some g) q = refl
+pub handed_resumed : (current : Option Current) (reacting : Option ℕ) (quantum : ℕ) → handed (resumed current reacting) quantum ≡ quantum
+handed_resumed None None q = refl
+handed_resumed None (Some i) q = refl
+handed_resumed (Some g) reacting q = refl
 
 -- UNTESTED STEPS
 
@@ -154,10 +157,10 @@ module _ (d : Doing) (t : TakesLeaf d) (peaks : d.leaf.peaks ≡ t.old.peaks) (h
       go : (o : Option Leaf) → slice_get w.leaves x ≡ o → Q (active_again w x f o)
       go None e = q
       go (Some leaf) e =
-          leaf_no_dearer d.world w x leaf (record leaf { phase = resumed leaf.current; operands = f leaf.operands }) e
+          leaf_no_dearer d.world w x leaf (record leaf { phase = resumed leaf.current leaf.reacting; operands = f leaf.operands }) e
           (record {
             own = λ r. omega arith;
-            phase = λ n. (let most = handed_most leaf.phase n in let all = handed_resumed leaf.current n in
+            phase = λ n. (let most = handed_most leaf.phase n in let all = handed_resumed leaf.current leaf.reacting n in
                 omega (arith, most, all));
           }) q
 
@@ -344,25 +347,28 @@ module _ (s : Scenario) (differ : NamesDiffer s) (d : Doing) (of : d.system ≡ 
                     le-leb (held r (exit_of d) x leaf + lent r (exit_of d) x) (handed leaf.phase (part r c.node.quantum) + received r (exit_of d) x)
                     (omega (arith, was, slots, tops, phase))
 
-  main_ends : d.leaf.phase ≢ Blocked → d.leaf.current ≡ None → (provides : Option (List ℕ)) → d.component.node.provides ≡ provides
-      → Ends (λ w. paid d.system w ≡ true) (main_ended d provides)
-  main_ends active current (Some service) e = gives (standing d (serving d.leaf)) Quiet (cheap d t peaks h _ (serves d t peaks h))
-  main_ends active current None e = when_found (λ w. paid d.system w ≡ true) (no_link d.leaf.slots) WrongKind _
+  main_ends : d.leaf.phase ≢ Blocked → d.leaf.current ≡ None → (provides : Option (List ℕ)) (signals : ℕ) → d.component.node.provides ≡ provides
+      → Ends (λ w. paid d.system w ≡ true) (main_ended d provides signals)
+  main_ends active current (Some service) signals e = gives (standing d (serving d.leaf)) Quiet (cheap d t peaks h _ (serves d t peaks h))
+  main_ends active current None (suc n) e = gives (standing d (serving d.leaf)) Quiet (cheap d t peaks h _ (serves d t peaks h))
+  main_ends active current None zero e = when_found (λ w. paid d.system w ≡ true) (no_link d.leaf.slots) WrongKind _
       (λ bare. gives (exit_of d) Finished (exit_paid e active current bare))
 
-  section_ends : d.leaf.phase ≢ Blocked → (current : Option Current) → d.leaf.current ≡ current → Ends (λ w. paid d.system w ≡ true) (section_ended d current)
-  section_ends active None e = main_ends active e d.component.node.provides refl
-  section_ends active (Some g) e = need_found (λ w. paid d.system w ≡ true) (session_at d.world g.session) WrongKind _
+  section_ends : d.leaf.phase ≢ Blocked → (current : Option Current) (reacting : Option ℕ) → d.leaf.current ≡ current
+      → Ends (λ w. paid d.system w ≡ true) (section_ended d current reacting)
+  section_ends active None None e = main_ends active e d.component.node.provides d.component.node.signals refl
+  section_ends active None (Some i) e = gives (standing d (serving d.leaf)) Quiet (cheap d t peaks h _ (serves d t peaks h))
+  section_ends active (Some g) reacting e = need_found (λ w. paid d.system w ≡ true) (session_at d.world g.session) WrongKind _
       (λ u there. reply_ends d t peaks h linked g.session g.section u there)
 
   body_ends : d.leaf.phase ≢ Blocked → (loops : List Round) → Ends (λ w. paid d.system w ≡ true) (body_ended d loops)
-  body_ends active [] = section_ends active d.leaf.current refl
+  body_ends active [] = section_ends active d.leaf.current d.leaf.reacting refl
   body_ends active (r ∷ loops) = body_next_ends d t peaks h r loops
 
   perform_ends : d.leaf.phase ≢ Blocked → (todo : Statements) → Ends (λ w. paid d.system w ≡ true) (perform d todo)
   perform_ends active Done = body_ends active d.leaf.loops
   perform_ends active (Do i rest) = instruct_ends (record d { leaf = record d.leaf { todo = rest } })
-      (record { old = t.old; there = t.there; slots = t.slots; phase = t.phase; current = t.current }) peaks h i
+      (record { old = t.old; there = t.there; slots = t.slots; phase = t.phase; current = t.current; reacting = t.reacting }) peaks h i
   perform_ends active (If arm other rest) = pop_ends (λ w. paid d.system w ≡ true) _ _
       (λ a below. gives _ Quiet (cheap d t peaks h _ (stands d t peaks h _ refl refl refl)))
   perform_ends active (Loop count body rest) = gives _ Quiet (cheap d t peaks h _ (stands d t peaks h _ refl refl refl))
@@ -371,11 +377,17 @@ module _ (s : Scenario) (differ : NamesDiffer s) (d : Doing) (of : d.system ≡ 
   oldest_ends None = gives d.world Idle h
   oldest_ends (Some p) = accept_ends d t peaks h p.0 p.1
 
+  serve_ends : d.leaf.phase ≡ Serving → (found : Option (ℕ × List Signal)) → Ends (λ w. paid d.system w ≡ true) (serve d found)
+  serve_ends serves None = oldest_ends (oldest d.world d.x d.world.requests)
+  serve_ends serves (Some p) = need_ends (λ w. paid d.system w ≡ true) (section_in (Reacting p.0) d.component.node.program.sections) MissingSection _
+      (λ body. gives _ Quiet (cheap d t peaks h _
+      (stands_as d t peaks h (reacting_to d.leaf p.0 p.1 body) refl refl (λ q. let most = handed_most d.leaf.phase q in omega (arith, most)))))
+
   step_ends : (phase : Phase) → d.leaf.phase ≡ phase → Ends (λ w. paid d.system w ≡ true) (step_in d phase)
   step_ends Pending e = gives d.world Idle h
   step_ends Running e = perform_ends (λ b. running_blocked (sym e ∙ b)) d.leaf.todo
   step_ends Blocked e = gives d.world Idle h
-  step_ends Serving e = oldest_ends (oldest d.world d.x d.world.requests)
+  step_ends Serving e = serve_ends e (first_signal d.leaf.signals)
   step_ends Handling e = perform_ends (λ b. handling_blocked (sym e ∙ b)) d.leaf.todo
   step_ends Exited e = gives d.world Idle h
 
@@ -386,7 +398,7 @@ module _ (s : Scenario) (differ : NamesDiffer s) where
       → slice_get (components s) x ≡ c → slice_get w.leaves x ≡ leaf → Ends (λ v. paid (system s) v ≡ true) (step_of (system s) w x c leaf)
   next_by w x (Some c) (Some leaf) linked h component there =
       step_ends s differ (record { system = system s; world = w; x = x; component = c; leaf = record leaf { steps = suc leaf.steps } }) refl
-      (record { old = leaf; there = there; slots = refl; phase = refl; current = refl }) refl h linked component leaf.phase refl
+      (record { old = leaf; there = there; slots = refl; phase = refl; current = refl; reacting = refl }) refl h linked component leaf.phase refl
   next_by w x (Some c) None linked h component there = gives w Idle h
   next_by w x None leaf linked h component there = gives w Idle h
 

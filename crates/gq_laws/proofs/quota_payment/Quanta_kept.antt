@@ -3,26 +3,27 @@ use Rattle.std.proofs.Common.{◌≡◌, ◌≢◌, ℕ, zero, suc, inl, inr, Bo
 use Rattle.std.proofs.Common.{subst, arith}
 use Rattle.std.specs.Prelude.{slice_get, slice_set}
 use Rattle.std.proofs.lemmas.Bool.Decides.{eqb_tells}
-use Rattle.gq_model.specs.machine.Program.{Statements, Done, Do, If, Loop}
+use Rattle.gq_model.specs.machine.Program.{Statements, Done, Do, If, Loop, section_in}
 use Rattle.gq_model.specs.declared.program.Instruction.{Instruction}
 use Rattle.gq_model.specs.declared.section.Section.{Section}
 use Rattle.gq_model.specs.declared.section.Section.TheVariants.{Main, Opening, Upgrading, Calling, Closing, Reacting}
 use Rattle.gq_model.specs.declared.phase.Phase.{Phase}
 use Rattle.gq_model.specs.declared.phase.Phase.TheVariants.{Pending, Running, Blocked, Serving, Handling, Exited}
-use Rattle.gq_model.specs.declared.fault.Wrong.TheVariants.{WrongKind, ExceededQuota}
+use Rattle.gq_model.specs.declared.fault.Wrong.TheVariants.{WrongKind, ExceededQuota, MissingSection}
 use Rattle.gq_model.specs.machine.Amounts.{Resource, Ram, Caps}
 use Rattle.gq_model.specs.machine.Scenario.{System, Component, Scenario, components, system}
-use Rattle.gq_model.specs.machine.World.{Slot, Empty, Link, SlotId, Session, Request, Current, Round, Leaf}
+use Rattle.gq_model.specs.machine.World.{Slot, Empty, Link, SlotId, Session, Request, Current, Round, Leaf, Signal}
 use Rattle.gq_model.specs.machine.World.{World, session_at, with_leaf, with_slot, start}
 use Rattle.gq_model.specs.machine.Doing.{Doing, Event, Idle, Quiet, Finished, Stepped, standing, settled}
 use Rattle.gq_model.specs.machine.Sums.{handed, paid, with_peaks}
 use Rattle.gq_model.specs.machine.Accounts.{handed_to}
 use Rattle.gq_model.specs.rules.Resolve.{quanta_fault, offer_fault, after_fault, unresolved}
 use Rattle.gq_model.specs.machine.Step.{instruct, oldest, all_empty, accept, serving, resumed, active_again, unblocked, replied, reply_close, reply, exit_of}
+use Rattle.gq_model.specs.machine.Step.{serve, first_signal, reacting_to}
 use Rattle.gq_model.specs.machine.Step.{no_link, main_ended, section_ended, body_ended, perform, accept_oldest, step_in, step_of, next}
 use Rattle.gq_laws.specs.Session_links.{links, Stance, stance, stance_in, outline, outline_in, Fits, AreLinked, IsLinkedWorld}
 use Rattle.gq_laws.specs.Resolved_scenarios.{IsResolved}
-use Rattle.gq_laws.proofs.step_shapes.Step_end_shapes.{Ends, gives, fails, need_found, when_ends, pop_ends}
+use Rattle.gq_laws.proofs.step_shapes.Step_end_shapes.{Ends, gives, fails, need_found, when_ends, pop_ends, need_ends}
 use Rattle.gq_laws.proofs.session_links.Written_world_links.{set_here, set_else}
 use Rattle.gq_laws.proofs.session_links.Link_free_statements.{stood}
 use Rattle.gq_laws.specs.Inside_steps.{TakesLeaf}
@@ -99,9 +100,10 @@ module _ (d : Doing) (t : TakesLeaf d) (lives : (q : ℕ) → handed d.leaf.phas
   serves : P (standing d (serving d.leaf))
   serves = stands_in d.world (serving d.leaf) (λ q. refl) unchanged
 
-  resumed_alive : (current : Option Current) (q : ℕ) → handed (resumed current) q ≡ q
-  resumed_alive None q = refl
-  resumed_alive (Some g) q = refl
+  resumed_alive : (current : Option Current) (reacting : Option ℕ) (q : ℕ) → handed (resumed current reacting) q ≡ q
+  resumed_alive None None q = refl
+  resumed_alive None (Some i) q = refl
+  resumed_alive (Some g) reacting q = refl
 
   -- a client that was blocked goes on
   resumes : (v : World) (x : ℕ) (f : List ℕ → List ℕ) → ((q : ℕ) → handed_to (slice_get d.world.leaves x) q ≡ q) → P v → P (unblocked v x f)
@@ -109,7 +111,9 @@ module _ (d : Doing) (t : TakesLeaf d) (lives : (q : ℕ) → handed d.leaf.phas
     where
       go : (o : Option Leaf) → P (active_again v x f o)
       go None = h
-      go (Some leaf) = same_leaf d.world v x (record leaf { phase = resumed leaf.current; operands = f leaf.operands }) (λ q. resumed_alive leaf.current q
+      go (Some leaf) =
+          same_leaf d.world v x (record leaf { phase = resumed leaf.current leaf.reacting; operands = f leaf.operands })
+          (λ q. resumed_alive leaf.current leaf.reacting q
           ∙ sym (alive q)) h
 
   accept_ends : (r : Request) (rest : List Request) → Ends P (accept d r rest)
@@ -176,26 +180,28 @@ module _ (r : Resource) (s : Scenario) (resolved : IsResolved s) (after : after_
   same = same_fits r s d.world fits
 
   module _ (active : d.leaf.phase ≢ Blocked) (lives : (q : ℕ) → handed d.leaf.phase q ≡ q) where
-    main_fits : (provides : Option (List ℕ)) → Ends Q (main_ended d provides)
-    main_fits (Some service) = same _ (gives (standing d (serving d.leaf)) Quiet (serves d t lives))
-    main_fits None =
+    main_fits : (provides : Option (List ℕ)) (signals : ℕ) → Ends Q (main_ended d provides signals)
+    main_fits (Some service) signals = same _ (gives (standing d (serving d.leaf)) Quiet (serves d t lives))
+    main_fits None (suc n) = same _ (gives (standing d (serving d.leaf)) Quiet (serves d t lives))
+    main_fits None zero =
         when_ends Q (no_link d.leaf.slots) WrongKind _ (gives (exit_of d) Finished
         (exit_fits r s resolved after d t.old of t.there (λ q. ap (λ p. handed p q) (sym t.phase) ∙ lives q) component fits))
 
-    section_fits : (current : Option Current) → d.leaf.current ≡ current → Ends Q (section_ended d current)
-    section_fits None e = main_fits d.component.node.provides
-    section_fits (Some g) e = need_found Q (session_at d.world g.session) WrongKind _
+    section_fits : (current : Option Current) (reacting : Option ℕ) → d.leaf.current ≡ current → Ends Q (section_ended d current reacting)
+    section_fits None None e = main_fits d.component.node.provides d.component.node.signals
+    section_fits None (Some i) e = same _ (gives (standing d (serving d.leaf)) Quiet (serves d t lives))
+    section_fits (Some g) reacting e = need_found Q (session_at d.world g.session) WrongKind _
         (λ v at. same _ (reply_ends d t lives linked (handling_with d.leaf.phase g
         (subst (Fits d.leaf.phase) e (linked.fits d.x (stance d.leaf.phase d.leaf.current) (stood d t))) active) g e v at g.section))
 
     body_fits : (loops : List Round) → Ends Q (body_ended d loops)
-    body_fits [] = section_fits d.leaf.current refl
+    body_fits [] = section_fits d.leaf.current d.leaf.reacting refl
     body_fits (p ∷ loops) = same _ (body_next d t lives p loops)
 
     perform_fits : (todo : Statements) → Ends Q (perform d todo)
     perform_fits Done = body_fits d.leaf.loops
     perform_fits (Do i rest) = same _ (instruct_ends (record d { leaf = record d.leaf { todo = rest } })
-        (record { old = t.old; there = t.there; slots = t.slots; phase = t.phase; current = t.current }) lives i)
+        (record { old = t.old; there = t.there; slots = t.slots; phase = t.phase; current = t.current; reacting = t.reacting }) lives i)
     perform_fits (If arm other rest) = pop_ends Q _ _ (λ a below. same _ (gives _ Quiet (stands d t lives _ refl)))
     perform_fits (Loop count body rest) = same _ (gives _ Quiet (stands d t lives _ refl))
 
@@ -203,11 +209,16 @@ module _ (r : Resource) (s : Scenario) (resolved : IsResolved s) (after : after_
   oldest_fits lives None = gives d.world Idle fits
   oldest_fits lives (Some p) = same _ (accept_ends d t lives p.0 p.1)
 
+  serve_fits : ((q : ℕ) → handed d.leaf.phase q ≡ q) → (found : Option (ℕ × List Signal)) → Ends Q (serve d found)
+  serve_fits lives None = oldest_fits lives (oldest d.world d.x d.world.requests)
+  serve_fits lives (Some p) = same _ (need_ends _ (section_in (Reacting p.0) d.component.node.program.sections) MissingSection _
+      (λ body. gives _ Quiet (stands_in d t lives d.world (reacting_to d.leaf p.0 p.1 body) (λ q. refl) (unchanged d t lives))))
+
   step_fits : (phase : Phase) → d.leaf.phase ≡ phase → Ends Q (step_in d phase)
   step_fits Pending e = gives d.world Idle fits
   step_fits Running e = perform_fits (λ b. running_blocked (sym e ∙ b)) (λ q. ap (λ p. handed p q) e) d.leaf.todo
   step_fits Blocked e = gives d.world Idle fits
-  step_fits Serving e = oldest_fits (λ q. ap (λ p. handed p q) e) (oldest d.world d.x d.world.requests)
+  step_fits Serving e = serve_fits (λ q. ap (λ p. handed p q) e) (first_signal d.leaf.signals)
   step_fits Handling e = perform_fits (λ b. handling_blocked (sym e ∙ b)) (λ q. ap (λ p. handed p q) e) d.leaf.todo
   step_fits Exited e = gives d.world Idle fits
 
@@ -231,7 +242,7 @@ module _ (r : Resource) (s : Scenario) (resolved : IsResolved s) where
   next_fits w x (Some c) (Some leaf) linked h component there =
       step_fits r s resolved (quanta_fit s resolved.fits).2
       (record { system = system s; world = w; x = x; component = c; leaf = record leaf { steps = suc leaf.steps } }) refl
-      (record { old = leaf; there = there; slots = refl; phase = refl; current = refl }) linked component h leaf.phase refl
+      (record { old = leaf; there = there; slots = refl; phase = refl; current = refl; reacting = refl }) linked component h leaf.phase refl
   next_fits w x (Some c) None linked h component there = gives w Idle h
   next_fits w x None leaf linked h component there = gives w Idle h
 

@@ -6,14 +6,14 @@ use Rattle.gq_model.specs.machine.Program.{Statements, Done, Do, If, Loop, ◌th
 use Rattle.gq_model.specs.machine.Sections.{same_section}
 use Rattle.gq_model.specs.declared.program.Instruction.{Instruction}
 use Rattle.gq_model.specs.declared.section.Section.{Section}
-use Rattle.gq_model.specs.declared.section.Section.TheVariants.{Main}
+use Rattle.gq_model.specs.declared.section.Section.TheVariants.{Main, Reacting}
 use Rattle.gq_model.specs.declared.phase.Phase.{Phase}
 use Rattle.gq_model.specs.declared.phase.Phase.TheVariants.{Pending, Running, Blocked, Serving, Handling, Exited}
 use Rattle.gq_model.specs.machine.Scenario.{System, Component}
-use Rattle.gq_model.specs.machine.World.{Slot, SlotId, Request, Current, Round, Leaf, World}
+use Rattle.gq_model.specs.machine.World.{Slot, SlotId, Request, Current, Round, Leaf, World, Signal}
 use Rattle.gq_model.specs.machine.World.{start_leaf, start_leaves, start, with_leaf, with_slot}
 use Rattle.gq_model.specs.machine.Doing.{Doing, Event, standing, settled}
-use Rattle.gq_model.specs.machine.Step.{instruct, oldest, accept, serving, active_again, unblocked}
+use Rattle.gq_model.specs.machine.Step.{instruct, oldest, accept, serving, active_again, unblocked, serve, first_signal}
 use Rattle.gq_model.specs.machine.Step.{all_released, exited, exit_of, main_ended, section_ended, body_ended}
 use Rattle.gq_model.specs.machine.Step.{chosen, perform, accept_oldest, step_in, step_of, next}
 use Rattle.gq_laws.specs.Shapes.{Each}
@@ -22,6 +22,7 @@ use Rattle.gq_laws.proofs.step_shapes.Step_end_shapes.{Ends, gives, need_found, 
 use Rattle.gq_model.proofs.Small_facts.{some_same, none_some}
 use Rattle.gq_laws.proofs.step_shapes.Step_end_worlds.{begun, section_taken}
 use Rattle.gq_laws.proofs.step_shapes.Step_change_shapes.{plain_instruct_by, section_by, accept_by, slot_by}
+use Rattle.gq_model.specs.declared.fault.Wrong.TheVariants.{MissingSection}
 
 -- LISTS
 
@@ -138,16 +139,17 @@ module _ (P : Component → Instruction → Type 0) where
             let before = (stands (exited d.leaf) (tt, tt)).at y was.0 was.1 c there in
             (subst (AllAre (P c)) was.2 before.0, subst (Each (λ r. AllAre (P c) r.body × AllAre (P c) r.rest)) was.3 before.1)
 
-    main_ends : (provides : Option (List ℕ)) → Ends Q (main_ended d provides)
-    main_ends (Some service) = gives _ _ (stands (serving d.leaf) (tt, tt))
-    main_ends None = when_ends Q _ _ _ (gives _ _ exit_ends)
+    main_ends : (provides : Option (List ℕ)) (signals : ℕ) → Ends Q (main_ended d provides signals)
+    main_ends (Some service) signals = gives _ _ (stands (serving d.leaf) (tt, tt))
+    main_ends None (suc n) = gives _ _ (stands (serving d.leaf) (tt, tt))
+    main_ends None zero = when_ends Q _ _ _ (gives _ _ exit_ends)
 
-    section_ends : (current : Option Current) → Ends Q (section_ended d current)
-    section_ends current = section_by d Q same_slot (stands (serving d.leaf) (tt, tt)) (left_active P d.system) (λ w k hw. record { at = hw.at })
-        (main_ends d.component.node.provides) current
+    section_ends : (current : Option Current) (reacting : Option ℕ) → Ends Q (section_ended d current reacting)
+    section_ends current reacting = section_by d Q same_slot (stands (serving d.leaf) (tt, tt)) (left_active P d.system) (λ w k hw. record { at = hw.at })
+        (main_ends d.component.node.provides d.component.node.signals) current reacting
 
     body_ends : (loops : List Round) → Each (λ r. AllAre (P d.component) r.body × AllAre (P d.component) r.rest) loops → Ends Q (body_ended d loops)
-    body_ends [] rounds = section_ends d.leaf.current
+    body_ends [] rounds = section_ends d.leaf.current d.leaf.reacting
     body_ends (r ∷ loops) rounds = gives _ _ (stands _ (by (nat_lt (suc r.round) r.count)))
       where
         by : (b : Bool) → Left P d.system d.component (cond b (record d.leaf { todo = r.body; loops = record r { round = suc r.round } ∷ loops })
@@ -177,13 +179,25 @@ module _ (P : Component → Instruction → Type 0) where
   oldest_ends d programs h component fits None = gives _ _ h
   oldest_ends d programs h component fits (Some p) = accept_ends d programs h component fits p.0 p.1
 
+  serve_ends : (d : Doing) → ArePrograms P d.system → Lefts P d.system d.world → slice_get d.system.components d.x ≡ Some d.component
+      → Left P d.system d.component d.leaf
+      → (found : Option (ℕ × List Signal)) → Ends (Lefts P d.system) (serve d found)
+  serve_ends d programs h component fits None = oldest_ends d programs h component fits (oldest d.world d.x d.world.requests)
+  serve_ends d programs h component fits (Some p) =
+      need_found (Lefts P d.system) (section_in (Reacting p.0) d.component.node.program.sections) MissingSection _ (λ body there.
+      gives _ _ (stands d programs h component fits _ (
+        subst (λ o. AllAre (P d.component) (body_of o)) there
+            (all_of_body (P d.component) (Reacting p.0) d.component.node.program.sections (programs d.x d.component component)),
+        tt,
+      )))
+
   step_ends : (d : Doing) → ArePrograms P d.system → Lefts P d.system d.world → slice_get d.system.components d.x ≡ Some d.component
       → Left P d.system d.component d.leaf
       → (phase : Phase) → Ends (Lefts P d.system) (step_in d phase)
   step_ends d programs h component fits Pending = gives _ _ h
   step_ends d programs h component fits Running = perform_ends d programs h component fits d.leaf.todo fits.0
   step_ends d programs h component fits Blocked = gives _ _ h
-  step_ends d programs h component fits Serving = oldest_ends d programs h component fits (oldest d.world d.x d.world.requests)
+  step_ends d programs h component fits Serving = serve_ends d programs h component fits (first_signal d.leaf.signals)
   step_ends d programs h component fits Handling = perform_ends d programs h component fits d.leaf.todo fits.0
   step_ends d programs h component fits Exited = gives _ _ h
 

@@ -116,12 +116,16 @@ module _ (promised : ℕ → Option Kind) (c : Context) (d : Doing) (t : TakesLe
   provides_none : d.component.node.provides ≡ None → c.subject.provided ≡ None
   provides_none e = ap (λ (v : Subject). v.provided) mine ∙ ap (λ p. service_in p d.system.interfaces) e
 
-  main_safe : section_end c.subject Main state ≡ Ok last → (provides : Option (List ℕ)) → d.component.node.provides ≡ provides → Safe (main_ended d provides)
-  main_safe e (Some service) p = safe_gives _ _ tt
-  main_safe e None p =
-      let left = then_there (none_left state) (main_end c.subject.provided) last e in
+  main_safe : section_end c.subject Main state ≡ Ok last → (provides : Option (List ℕ)) (signals : ℕ) → d.component.node.provides ≡ provides
+      → d.component.node.signals ≡ signals → Safe (main_ended d provides signals)
+  main_safe e (Some service) signals p q = safe_gives _ _ tt
+  main_safe e None (suc n) p q = safe_gives _ _ tt
+  main_safe e None zero p q =
+      let left = then_there (none_left state) (main_end c.subject.provided c.subject.signals) last e in
       let none = none_left_ok state left.0 left.1 in
-      let unlinked = subst (λ o. main_end o left.0 ≡ Ok last) (provides_none p) left.2 in
+      let n : c.subject.signals ≡ 0 = ap (λ (v : Subject). v.signals) mine ∙ q in
+      let unlinked : main_end None 0 left.0 ≡ Ok last = subst (λ n. main_end None n left.0 ≡ Ok last) n
+      (subst (λ o. main_end o c.subject.signals left.0 ≡ Ok last) (provides_none p) left.2) in
       let links = not-true (has_link left.0.own) (must_holds (not (has_link left.0.own)) _ _ last unlinked).0 in
       safe_when (no_link d.leaf.slots) _ _ (no_links promised d.leaf.slots state.own m.own own_plain
       (ap (λ (s : AbstractState). has_link s.own) (sym none.1) ∙ links))
@@ -165,15 +169,16 @@ module _ (promised : ℕ → Option Kind) (c : Context) (d : Doing) (t : TakesLe
       (ap (λ (s : AbstractState). bank_is_empty s.bank) (sym none.1) ∙ empty.0)) (safe_tested _ _ (safe_gives _ _ tt))
   bank_safe (Reacting i) current handed outside e s there kinds = absurd (true≢false outside)
 
-  ends_safe : section_end c.subject c.section state ≡ Ok last → (current : Option Current) → d.leaf.current ≡ current → IsCurrent c.section current
-      → CurrentMeets promised c state.bank d.world current → Safe (section_ended d current)
-  ends_safe e None handed at bank =
-      main_safe (subst (λ section. section_end c.subject section state ≡ Ok last) at e) d.component.node.provides refl
-  ends_safe e (Some current) handed at bank =
+  ends_safe : section_end c.subject c.section state ≡ Ok last → (current : Option Current) (reacting : Option ℕ) → d.leaf.current ≡ current
+      → IsCurrent c.section current reacting → CurrentMeets promised c state.bank d.world current → Safe (section_ended d current reacting)
+  ends_safe e None None handed at bank =
+      main_safe (subst (λ section. section_end c.subject section state ≡ Ok last) at e) d.component.node.provides d.component.node.signals refl refl
+  ends_safe e None (Some i) handed at bank = safe_gives _ _ tt
+  ends_safe e (Some current) reacting handed at bank =
       safe_need (session_at d.world current.session) _ _ bank.0 bank.1
       (subst (λ section. Safe (reply d current.session section bank.0)) (sym at.0) (bank_safe c.section current handed at.1 e bank.0 bank.1 bank.2.slots))
 
 pub ends_ruled : (promised : ℕ → Option Kind) (c : Context) (d : Doing) → TakesLeaf d → Grants promised c d → c.subject ≡ subject d.system d.component
     → EndsAsRuled promised c d
 ends_ruled promised c d t g mine state last wrong m e fails =
-    (ends_safe promised c d t g mine state last m e d.leaf.current refl m.current m.bank).short wrong fails
+    (ends_safe promised c d t g mine state last m e d.leaf.current d.leaf.reacting refl m.current m.bank).short wrong fails

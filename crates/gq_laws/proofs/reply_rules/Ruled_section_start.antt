@@ -56,6 +56,7 @@ module _ (promised : ℕ → Option Kind) (d : Doing) (t : TakesLeaf d) (eight :
         todo = refl;
         loops = refl;
         current = refl;
+        reacting = refl;
         phase = refl;
       }
 

@@ -93,9 +93,9 @@ pub record Wakes (v w : World) (x : ℕ) (new : Leaf) : Type 0 where
   pub requests : w.requests ≡ v.requests
 
 wakes : (v : World) (x : ℕ) (f : List ℕ → List ℕ) (old : Leaf) → slice_get v.leaves x ≡ Some old
-    → Wakes v (unblocked v x f) x (record old { phase = resumed old.current; operands = f old.operands })
+    → Wakes v (unblocked v x f) x (record old { phase = resumed old.current old.reacting; operands = f old.operands })
 wakes v x f old there =
-    let new : Leaf = record old { phase = resumed old.current; operands = f old.operands } in
+    let new : Leaf = record old { phase = resumed old.current old.reacting; operands = f old.operands } in
     subst (λ o. Wakes v (active_again v x f o) x new) (sym there)
     (record { there = set_here v.leaves x new old there; leaves = λ y ne. set_else v.leaves x y new ne; sessions = λ j. refl; requests = refl })
 
@@ -249,9 +249,10 @@ module _ (promised : ℕ → Option Kind) (c : Context) (d : Doing) (t : TakesLe
 
   pub replies_by : (w : World) → HasEnded promised c state d g s w → Replies promised c state d g s w
   replies_by w e =
-      let at : IsCurrent c.section (Some g) = subst (IsCurrent c.section) at_current e.meets.current in
+      let at : IsCurrent c.section (Some g) d.leaf.reacting = subst (λ o. IsCurrent c.section o d.leaf.reacting) at_current e.meets.current in
       let ends = ap (λ section. section_end c.subject section state) at.0 ∙ e.ends in
-      let is : reply d k g.section s ≡ Ok (w, e.event) = sym (ap (section_ended d) at_current ∙ ap (λ o. need o WrongKind (reply d k g.section)) found)
+      let is : reply d k g.section s ≡ Ok (w, e.event) = sym (ap (λ o. section_ended d o d.leaf.reacting) at_current
+      ∙ ap (λ o. need o WrongKind (reply d k g.section)) found)
       ∙ e.ended in
       let m = (reply_made g.section e.last e.meets.operands ends).holds w e.event is in
       record {

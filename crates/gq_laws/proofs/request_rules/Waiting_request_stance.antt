@@ -55,7 +55,7 @@ module _ (promised : ℕ → Option Kind) (c : Context) (d : Doing) (k : ℕ) (k
   requested u = record u { requests = u.requests ++ record { session = k; ask = ask } ∷ [] }
 
   -- its own slot waits
-  own_awaits : (at : ℕ) → Made d k kind ask w → IsCurrent c.section d.leaf.current
+  own_awaits : (at : ℕ) → Made d k kind ask w → IsCurrent c.section d.leaf.current d.leaf.reacting
       → AreKinds m (slice_set d.leaf.slots at (Waiting k)) (while_waiting i state).own
       → CurrentMeets m c (while_waiting i state).bank w d.leaf.current → Under ops (while_waiting i state).bounds → Under d.leaf.locals c.subject.program.locals
       → AreCounts d.leaf.loops c.counts
@@ -73,6 +73,7 @@ module _ (promised : ℕ → Option Kind) (c : Context) (d : Doing) (k : ℕ) (k
         todo = refl;
         loops = refl;
         current = refl;
+        reacting = refl;
         phase = refl;
         ask = ask;
         is = is;
@@ -96,7 +97,7 @@ module _ (promised : ℕ → Option Kind) (c : Context) (d : Doing) (k : ℕ) (k
   fits_slots (Ask_call value) s slots f = f
 
   -- a slot of the current session waits
-  shared_awaits : (g : Current) (at : ℕ) → d.leaf.current ≡ Some g → Made d k kind ask w → IsCurrent c.section d.leaf.current
+  shared_awaits : (g : Current) (at : ℕ) → d.leaf.current ≡ Some g → Made d k kind ask w → IsCurrent c.section d.leaf.current d.leaf.reacting
       → AreKinds m d.leaf.slots (while_waiting i state).own
       → (s : Session) → session_at w g.session ≡ Some s → BankMeets m c (while_waiting i state).bank (record s { slots = slice_set s.slots at (Waiting k) })
       → Under ops (while_waiting i state).bounds → Under d.leaf.locals c.subject.program.locals → AreCounts d.leaf.loops c.counts
@@ -132,6 +133,7 @@ module _ (promised : ℕ → Option Kind) (c : Context) (d : Doing) (k : ℕ) (k
         todo = refl;
         loops = refl;
         current = refl;
+        reacting = refl;
         phase = refl;
         ask = ask;
         is = is;

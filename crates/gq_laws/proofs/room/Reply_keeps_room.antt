@@ -52,7 +52,7 @@ answered v x c k f u w ne g leaves requests sessions = go (slice_get w.leaves c)
           requests = requests ∙ g.requests;
         }
     go (Some leaf) e =
-        let new = record leaf { phase = resumed leaf.current; operands = f leaf.operands } in
+        let new = record leaf { phase = resumed leaf.current leaf.reacting; operands = f leaf.operands } in
         record {
           own = λ h at. g.own h (sym (same x) ∙ (sym (leaf_held_else w c x new (λ e. ne (sym e))) ∙ at));
           client = λ h at.

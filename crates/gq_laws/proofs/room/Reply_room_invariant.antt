@@ -1,17 +1,20 @@
 -- At the start and after each step, who waits for the reply to a call has room for it.
-use Rattle.std.proofs.Common.{◌≡◌, ◌≢◌, ℕ, suc, ◌≤◌, nat_lt, Bool, true, false, cond, List, [], ◌∷◌, length, Option, Some, None, Ok, refl, ap, sym, ◌∙◌, subst}
+use Rattle.std.proofs.Common.{◌≡◌, ◌≢◌, ℕ, suc, ◌≤◌, nat_lt, Bool, true, false, cond, List, [], ◌∷◌, length, Option, Some, None, Ok, refl, ap, sym, ◌∙◌}
+use Rattle.std.proofs.Common.{subst, zero}
 use Rattle.std.proofs.Common.{arith}
 use Rattle.std.specs.Prelude.{slice_get}
 use Rattle.gq_model.specs.declared.section.Section.{Section}
-use Rattle.gq_model.specs.declared.section.Section.TheVariants.{Opening, Upgrading, Calling, Closing}
-use Rattle.gq_model.specs.declared.fault.Wrong.TheVariants.{WrongKind}
+use Rattle.gq_model.specs.declared.section.Section.TheVariants.{Opening, Upgrading, Calling, Closing, Reacting}
+use Rattle.gq_model.specs.declared.fault.Wrong.TheVariants.{WrongKind, MissingSection}
 use Rattle.gq_model.specs.declared.phase.Phase.{Phase}
 use Rattle.gq_model.specs.declared.phase.Phase.TheVariants.{Pending, Running, Blocked, Serving, Handling, Exited}
-use Rattle.gq_model.specs.machine.Program.{Statements, Done, Do, If, Loop}
+use Rattle.gq_model.specs.machine.Program.{Statements, Done, Do, If, Loop, section_in}
 use Rattle.gq_model.specs.machine.Scenario.{System, Component}
 use Rattle.gq_model.specs.machine.World.{Session, Ask, Ask_open, Ask_upgrade, Ask_close, Ask_call, Request, Current, Round, Leaf, World, start, session_at}
+use Rattle.gq_model.specs.machine.World.{Signal}
 use Rattle.gq_model.specs.machine.Doing.{Doing, Event, Quiet, Finished, standing}
-use Rattle.gq_model.specs.machine.Step.{oldest, section_for, first_operands, accepted_as, serving, no_link, exited, exit_of, main_ended, section_ended}
+use Rattle.gq_model.specs.machine.Step.{oldest, section_for, first_operands, accepted_as, serving, no_link, exited, exit_of, main_ended, section_ended, serve}
+use Rattle.gq_model.specs.machine.Step.{first_signal}
 use Rattle.gq_model.specs.machine.Step.{body_ended, perform, accept, accept_oldest, step_in, step_of, next}
 use Rattle.gq_model.proofs.Small_facts.{some_same, none_some}
 use Rattle.gq_laws.specs.Session_links.{stance, Fits, IsLinkedWorld}
@@ -19,9 +22,9 @@ use Rattle.gq_laws.specs.Inside_steps.{TakesLeaf}
 use Rattle.gq_laws.proofs.session_links.Linked_after_accept.{Found, oldest_found}
 use Rattle.gq_laws.proofs.session_links.Linked_after_change.{handling_with}
 use Rattle.gq_laws.proofs.session_links.Link_free_statements.{stood}
-use Rattle.gq_laws.proofs.step_shapes.Step_end_shapes.{Ends, gives, need_found, when_ends}
+use Rattle.gq_laws.proofs.step_shapes.Step_end_shapes.{Ends, gives, need_found, when_ends, need_ends}
 use Rattle.gq_laws.proofs.step_shapes.Step_change_shapes.{accept_by}
-use Rattle.gq_laws.proofs.step_shapes.Step_end_worlds.{begun, taken, running_blocked, handling_blocked}
+use Rattle.gq_laws.proofs.step_shapes.Step_end_worlds.{begun, taken, running_blocked, handling_blocked, serving_blocked}
 use Rattle.gq_laws.specs.Room.{HasRoomFor, HasRoomIfCalled, HasRoomAsked, calling, IsRoomy}
 use Rattle.gq_laws.proofs.room.Operand_holders_write.{Held, held, held_in, client_in, released_held, start_held}
 use Rattle.gq_laws.proofs.room.Step_room_frame.{Goes, goes_leaf, goes_session, goes_requests}
@@ -67,18 +70,20 @@ module _ (d : Doing) (t : TakesLeaf d) (active : d.leaf.phase ≢ Blocked) (h : 
         requests = g.requests;
       })
 
-  main_ends : d.leaf.current ≡ None → (provides : Option (List ℕ)) → Ends IsRoomy (main_ended d provides)
-  main_ends free (Some service) = gives _ Quiet (stands_roomy (serving d.leaf) (omega arith) (sym free))
-  main_ends free None = when_ends IsRoomy (no_link d.leaf.slots) WrongKind _ (gives (exit_of d) Finished exit_roomy)
+  main_ends : d.leaf.current ≡ None → (provides : Option (List ℕ)) (signals : ℕ) → Ends IsRoomy (main_ended d provides signals)
+  main_ends free (Some service) signals = gives _ Quiet (stands_roomy (serving d.leaf) (omega arith) (sym free))
+  main_ends free None (suc n) = gives _ Quiet (stands_roomy (serving d.leaf) (omega arith) (sym free))
+  main_ends free None zero = when_ends IsRoomy (no_link d.leaf.slots) WrongKind _ (gives (exit_of d) Finished exit_roomy)
 
-  section_ends : (current : Option Current) → d.leaf.current ≡ current → Ends IsRoomy (section_ended d current)
-  section_ends None e = main_ends e d.component.node.provides
-  section_ends (Some g) e = need_found IsRoomy (session_at d.world g.session) WrongKind _
+  section_ends : (current : Option Current) (reacting : Option ℕ) → d.leaf.current ≡ current → Ends IsRoomy (section_ended d current reacting)
+  section_ends None None e = main_ends e d.component.node.provides d.component.node.signals
+  section_ends None (Some i) e = gives _ Quiet (stands_roomy (serving d.leaf) (omega arith) (sym e))
+  section_ends (Some g) reacting e = need_found IsRoomy (session_at d.world g.session) WrongKind _
       (λ s there. reply_ends d t h roomy start_at (handling_with d.leaf.phase g
       (subst (Fits d.leaf.phase) e (h.fits d.x (stance d.leaf.phase d.leaf.current) (stood d t))) active) g e s there g.section refl)
 
   body_ends : (loops : List Round) → Ends IsRoomy (body_ended d loops)
-  body_ends [] = section_ends d.leaf.current refl
+  body_ends [] = section_ends d.leaf.current d.leaf.reacting refl
   body_ends (r ∷ loops) = by_round (nat_lt (suc r.round) r.count)
     where
       by_round : (b : Bool) → Ends IsRoomy (Ok (
@@ -94,9 +99,6 @@ module _ (d : Doing) (t : TakesLeaf d) (active : d.leaf.phase ≢ Blocked) (h : 
 module _ (d : Doing) (t : TakesLeaf d) (serves : d.leaf.phase ≡ Serving) (h : IsLinkedWorld d.system d.world) (roomy : IsRoomy d.world) where
   active : d.leaf.phase ≢ Blocked
   active e = serving_blocked (sym serves ∙ e)
-    where
-      serving_blocked : Serving ≢ Blocked
-      serving_blocked e = cc
 
   abbrev at_current : ℕ → Section → Current
   at_current k section = record { session = k; section = section }
@@ -172,17 +174,22 @@ module _ (d : Doing) (t : TakesLeaf d) (h : IsLinkedWorld d.system d.world) (roo
   perform_ends active Done = body_ends d t active h roomy few d.leaf.loops
   perform_ends active (Do i rest) =
       let e : Doing = record d { leaf = record d.leaf { todo = rest } } in
-      let u : TakesLeaf e = record { old = t.old; there = t.there; slots = t.slots; phase = t.phase; current = t.current } in
+      let u : TakesLeaf e = record { old = t.old; there = t.there; slots = t.slots; phase = t.phase; current = t.current; reacting = t.reacting } in
       instruct_ends e u active h roomy few (goes_start e u roomy) i
   perform_ends active (If arm other rest) = pop_few IsRoomy _ _ few (λ a below less.
       gives _ Quiet (stands_roomy d t active h roomy few _ (no_more below less) refl))
   perform_ends active (Loop count body rest) = gives _ Quiet (stands_roomy d t active h roomy few _ few refl)
 
+  serve_ends : d.leaf.phase ≡ Serving → (found : Option (ℕ × List Signal)) → Ends IsRoomy (serve d found)
+  serve_ends serves None = oldest_ends d t serves h roomy (oldest d.world d.x d.world.requests) refl
+  serve_ends serves (Some p) = need_ends IsRoomy (section_in (Reacting p.0) d.component.node.program.sections) MissingSection _
+      (λ body. gives _ Quiet (stands_roomy d t (λ b. serving_blocked (sym serves ∙ b)) h roomy few _ (omega arith) refl))
+
   step_ends : (phase : Phase) → d.leaf.phase ≡ phase → Ends IsRoomy (step_in d phase)
   step_ends Pending e = gives _ _ roomy
   step_ends Running e = perform_ends (λ b. running_blocked (sym e ∙ b)) d.leaf.todo
   step_ends Blocked e = gives _ _ roomy
-  step_ends Serving e = oldest_ends d t e h roomy (oldest d.world d.x d.world.requests) refl
+  step_ends Serving e = serve_ends e (first_signal d.leaf.signals)
   step_ends Handling e = perform_ends (λ b. handling_blocked (sym e ∙ b)) d.leaf.todo
   step_ends Exited e = gives _ _ roomy
 
@@ -190,7 +197,7 @@ next_by : (system : System) (w : World) (x : ℕ) (c : Option Component) (leaf :
     → slice_get w.leaves x ≡ leaf → Ends IsRoomy (step_of system w x c leaf)
 next_by system w x (Some c) (Some leaf) h roomy there =
     step_ends (record { system = system; world = w; x = x; component = c; leaf = record leaf { steps = suc leaf.steps } })
-    (record { old = leaf; there = there; slots = refl; phase = refl; current = refl }) h roomy (roomy.small x leaf there) leaf.phase refl
+    (record { old = leaf; there = there; slots = refl; phase = refl; current = refl; reacting = refl }) h roomy (roomy.small x leaf there) leaf.phase refl
 next_by system w x (Some c) None h roomy there = gives _ _ roomy
 next_by system w x None leaf h roomy there = gives _ _ roomy
 

@@ -160,5 +160,5 @@ long = with_main (Loop 65535 (Loop 65535 (Loop 65535 Done Done) Done) Done)
 budget_too_large : rule_of (refusal long) ≡ Some rule.BudgetTooLarge
 budget_too_large = refl
 
-above_the_greatest : map (λ (b : Budget). b.steps) (budgets long) ≡ 281470681808897 ∷ []
+above_the_greatest : map (λ (b : Budget). b.steps.from_start) (budgets long) ≡ 281470681808897 ∷ []
 above_the_greatest = refl

@@ -20,7 +20,7 @@ use Rattle.gq_laws.specs.Typed.{AreKinds, Meets}
 use Rattle.gq_laws.specs.Inside_steps.{TakesLeaf}
 use Rattle.gq_laws.specs.Reply_stances.{HasEnded, Replies, Resumes}
 use Rattle.gq_laws.proofs.upheld_worlds.Reached_world_induction.{in_reached}
-use Rattle.gq_laws.proofs.input_settings.Setting_keeps_invariants.{set_linked}
+use Rattle.gq_laws.proofs.input_settings.Setting_keeps_invariants.{set_linked, submit_linked}
 use Rattle.gq_laws.proofs.session_links.Linked_worlds.{kept_linked, start_linked}
 use Rattle.gq_laws.proofs.statement_rules.Statement_number_bounds.{zeros_bytes}
 use Rattle.gq_laws.proofs.statement_rules.Stance_frame.{zeros}
@@ -38,7 +38,7 @@ abbrev w : World
 w = (run log ((1, Turns 1) ∷ (0, Turns 4) ∷ [])).world
 
 linked : IsLinkedWorld log v
-linked = in_reached good_log (IsLinkedWorld log) (kept_linked log) (set_linked log) (start_linked log) v (record {
+linked = in_reached good_log (IsLinkedWorld log) (kept_linked log) (set_linked log) (submit_linked log) (start_linked log) v (record {
   turns =
       (1, Turns 1) ∷ (0, Turns 3) ∷ [];
   is = refl;
@@ -49,7 +49,21 @@ the a None = a
 the a (Some b) = b
 
 abbrev none : Leaf
-none = record { phase = Running; current = None; todo = Done; loops = []; operands = []; locals = []; slots = []; peaks = []; steps = 0; inputs = [] }
+none =
+    record {
+      phase = Running;
+      current = None;
+      reacting = None;
+      todo = Done;
+      loops = [];
+      operands = [];
+      locals = [];
+      slots = [];
+      peaks = [];
+      steps = 0;
+      inputs = [];
+      signals = [];
+    }
 
 -- the leaf at the fourth step, which is counted
 abbrev server : Leaf
@@ -91,7 +105,7 @@ abbrev state : AbstractState
 state = record { own = replicate 64 Empty_kind; bank = Memory Space 16 ∷ replicate 7 Empty_kind; bounds = [] }
 
 takes : TakesLeaf d
-takes = record { old = the none (slice_get v.leaves 0); there = refl; slots = refl; phase = refl; current = refl }
+takes = record { old = the none (slice_get v.leaves 0); there = refl; slots = refl; phase = refl; current = refl; reacting = refl }
 
 empties : (n : ℕ) → AreKinds promised (replicate n Empty) (replicate n Empty_kind)
 empties zero = tt

@@ -51,6 +51,11 @@ programs zero c e = subst (λ (c : Component). IsProgram c.node.program) (some_s
 programs (suc zero) c e = subst (λ (c : Component). IsProgram c.node.program) (some_same e) refl
 programs (suc (suc x)) c e = absurd (none_some e)
 
+no_signals : (x : ℕ) (c : Component) → slice_get (components s) x ≡ Some c → c.node.signals ≤ 3
+no_signals zero c e = subst (λ (c : Component). c.node.signals ≤ 3) (some_same e) (omega arith)
+no_signals (suc zero) c e = subst (λ (c : Component). c.node.signals ≤ 3) (some_same e) (omega arith)
+no_signals (suc (suc x)) c e = absurd (none_some e)
+
 its_interface : (service : List ℕ) (i : Interface) → interface_in service s.interfaces ≡ Some i → i ≡ echo
 its_interface service i e = by (text_eq service (codes "echo")) e
   where
@@ -67,6 +72,7 @@ echo_sound =
         programs = programs;
         counted = λ service i e. ap (λ (i : Interface). i.counted) (its_interface service i e);
         upgrades = λ service i e. subst (λ (i : Interface). length i.upgrades ≤ 3) (sym (its_interface service i e)) (omega arith);
+        signals = no_signals;
       };
       accepted = accepted;
     }
@@ -78,7 +84,7 @@ abbrev whole_quantum : Scenario
 whole_quantum = one 65536 8192 (Make Space (Own 0) 8192 ∷ [])
 
 abbrev budget_of_first : Scenario → List (ℕ × ℕ)
-budget_of_first s = map (λ (b : Budget). (b.own.ram, b.steps)) (budgets s)
+budget_of_first s = map (λ (b : Budget). (b.own.ram, b.steps.from_start)) (budgets s)
 
 abbrev held_and_steps : World → List (ℕ × ℕ)
 held_and_steps w = map (λ (l : Leaf). (held Ram w 0 l + lent Ram w 0, l.steps)) w.leaves
@@ -95,5 +101,5 @@ steps_met = refl
 abbrev steps_in : World → List ℕ
 steps_in w = map (λ (l : Leaf). l.steps) w.leaves
 
-steps_of_both : map (λ (b : Budget). b.steps) (budgets s) ≡ steps_in (run (system s) echo_turns).world
+steps_of_both : map (λ (b : Budget). b.steps.from_start) (budgets s) ≡ steps_in (run (system s) echo_turns).world
 steps_of_both = refl

@@ -21,7 +21,7 @@ use Rattle.gq_laws.specs.Inside_steps.{IsSafe, TakesLeaf, Grants, LeadsOn}
 use Rattle.gq_laws.specs.Shapes.{AreInputs}
 use Rattle.gq_laws.specs.Typed.{AreKinds, IsLinkKind, HasBuffer, PromisesLinks, SharesBuffers, Meets}
 use Rattle.gq_model.proofs.Small_facts.{some_same, none_some}
-use Rattle.gq_laws.proofs.input_settings.Setting_keeps_invariants.{set_linked}
+use Rattle.gq_laws.proofs.input_settings.Setting_keeps_invariants.{set_linked, submit_linked}
 use Rattle.gq_laws.proofs.upheld_worlds.Reached_world_induction.{in_reached}
 use Rattle.gq_laws.proofs.session_links.Linked_worlds.{kept_linked, start_linked}
 use Rattle.gq_laws.specs.Session_links.{IsLinkedWorld}
@@ -38,7 +38,7 @@ abbrev w : World
 w = (run log ((1, Turns 1) ∷ (0, Turns 4) ∷ (1, Turns 2) ∷ [])).world
 
 linked : IsLinkedWorld log w
-linked = in_reached good_log (IsLinkedWorld log) (kept_linked log) (set_linked log) (start_linked log) w (record {
+linked = in_reached good_log (IsLinkedWorld log) (kept_linked log) (set_linked log) (submit_linked log) (start_linked log) w (record {
   turns =
       (1, Turns 1) ∷ (0, Turns 4) ∷ (1, Turns 2) ∷ [];
   is = refl;
@@ -49,7 +49,21 @@ the a None = a
 the a (Some b) = b
 
 abbrev client : Leaf
-client = the (record { phase = Running; current = None; todo = Done; loops = []; operands = []; locals = []; slots = []; peaks = []; steps = 0; inputs = [] })
+client =
+    the (record {
+      phase = Running;
+      current = None;
+      reacting = None;
+      todo = Done;
+      loops = [];
+      operands = [];
+      locals = [];
+      slots = [];
+      peaks = [];
+      steps = 0;
+      inputs = [];
+      signals = [];
+    })
     (slice_get w.leaves 1)
 
 abbrev d : Doing
@@ -77,7 +91,7 @@ abbrev end : AbstractState
 end = state_or state (flow c state client.todo)
 
 takes : TakesLeaf d
-takes = record { old = client; there = refl; slots = refl; phase = refl; current = refl }
+takes = record { old = client; there = refl; slots = refl; phase = refl; current = refl; reacting = refl }
 
 empties : (n : ℕ) → AreKinds promised (replicate n Empty) (replicate n Empty_kind)
 empties zero = tt

@@ -5,7 +5,8 @@ use Rattle.gq_model.specs.machine.Scenario.{system}
 use Rattle.gq_model.specs.machine.World.{World}
 use Rattle.gq_model.specs.machine.Run.{run, Acts}
 use Rattle.gq_model.proofs.Sample_scenarios.{echo_of, echo_turns}
-use Rattle.gq_laws.specs.Turn_effects.{can_run, steps_of}
+use Rattle.gq_model.specs.machine.Rest.{can_run}
+use Rattle.gq_laws.specs.Turn_effects.{steps_of}
 
 abbrev after : Acts → World
 after turns = (run (system (echo_of 8192)) turns).world

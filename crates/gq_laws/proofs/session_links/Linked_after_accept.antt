@@ -90,11 +90,11 @@ module _ (d : Doing) (t : TakesLeaf d) (h : AreLinked d.system (links d.world)) 
   pub stand_stances : (leaf : Leaf) (y : ℕ) → y ≢ d.x → stance_in (slice_get (standing d leaf).leaves y) ≡ stance_in (slice_get d.world.leaves y)
   stand_stances leaf y ne = leaf_stances d.world d.x t.old leaf t.there y ne
 
-  fits_now : Fits d.leaf.phase d.leaf.current
+  pub fits_now : Fits d.leaf.phase d.leaf.current
   fits_now = h.fits d.x (stance d.leaf.phase d.leaf.current) (stood d t)
 
   -- who serves has no current request
-  no_current_serving : (current : Option Current) → Fits Serving current → current ≡ None
+  pub no_current_serving : (current : Option Current) → Fits Serving current → current ≡ None
   no_current_serving None f = refl
   no_current_serving (Some g) f = absurd f
 

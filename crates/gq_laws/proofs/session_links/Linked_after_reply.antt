@@ -45,13 +45,15 @@ slot_of_naming None n e = absurd (none_some e)
 slot_of_naming (Some slot) n e = (slot, refl)
 
 -- a leaf goes on in a phase that fits its current request, and is not blocked
-goes_on : (current : Option Current) → resumed current ≢ Blocked
-goes_on None e = absurd cc
-goes_on (Some g) e = absurd cc
+goes_on : (current : Option Current) (reacting : Option ℕ) → resumed current reacting ≢ Blocked
+goes_on None None e = absurd cc
+goes_on None (Some i) e = absurd cc
+goes_on (Some g) reacting e = absurd cc
 
-goes_on_fits : (current : Option Current) → Fits (resumed current) current
-goes_on_fits None = tt
-goes_on_fits (Some g) = tt
+goes_on_fits : (current : Option Current) (reacting : Option ℕ) → Fits (resumed current reacting) current
+goes_on_fits None None = tt
+goes_on_fits None (Some i) = tt
+goes_on_fits (Some g) reacting = tt
 
 -- a session whose section is current at its server waits
 pub handled_waits : (system : System) (l : Links) → AreLinked system l → (y : ℕ) (p : Phase) (g : Current) (s : Session)
@@ -146,12 +148,15 @@ module _ (d : Doing) (t : TakesLeaf d) (h : AreLinked d.system (links d.world)) 
     abbrev pub its_current : Option Current
     its_current = client_leaf.0.current
 
+    abbrev pub its_reacting : Option ℕ
+    its_reacting = client_leaf.0.reacting
+
     pub client_blocked : M.stances s.client ≡ Some (stance Blocked its_current)
     client_blocked = client_waits.1 ∙ ap (λ o. Some (stance Blocked o)) (sym (ap (λ (u : Stance). u.current) client_leaf.2))
 
     module _ (f : List ℕ → List ℕ) where
       abbrev pub resumes : Leaf
-      resumes = record client_leaf.0 { phase = resumed its_current; operands = f client_leaf.0.operands }
+      resumes = record client_leaf.0 { phase = resumed its_current its_reacting; operands = f client_leaf.0.operands }
 
       -- a world like that one but for its sessions
       module _ (v : World) (same_leaves : v.leaves ≡ put.leaves) where
@@ -164,7 +169,7 @@ module _ (d : Doing) (t : TakesLeaf d) (h : AreLinked d.system (links d.world)) 
         resumed_slots : (r : SlotId) → slot_at resumed_world r ≡ slot_at v r
         resumed_slots r = leaf_keeps_slots v s.client client_leaf.0 resumes v_there refl r
 
-        pub resumed_here : stance_in (slice_get resumed_world.leaves s.client) ≡ Some (stance (resumed its_current) its_current)
+        pub resumed_here : stance_in (slice_get resumed_world.leaves s.client) ≡ Some (stance (resumed its_current its_reacting) its_current)
         resumed_here = leaf_stance v s.client client_leaf.0 resumes v_there
 
         pub resumed_else : (y : ℕ) → y ≢ s.client → stance_in (slice_get resumed_world.leaves y) ≡ stance_in (slice_get put.leaves y)
@@ -172,15 +177,15 @@ module _ (d : Doing) (t : TakesLeaf d) (h : AreLinked d.system (links d.world)) 
 
         answers : ((r : SlotId) → r ≢ s.slot_id → naming_in (slot_at v r) ≡ naming_in (slot_at d.world r))
             → ((j : ℕ) → j ≢ k → outline_in (session_at v j) ≡ outline_in (session_at d.world j)) → v.requests ≡ d.world.requests
-            → Answers M (links resumed_world) d.x k (outline s) g (resumed its_current) its_current
+            → Answers M (links resumed_world) d.x k (outline s) g (resumed its_current its_reacting) its_current
         answers slots sessions requests =
             record {
               handling = handling;
               current_session = refl;
               was = was;
               waiting = client_blocked;
-              goes_on = goes_on its_current;
-              fits = goes_on_fits its_current;
+              goes_on = goes_on its_current its_reacting;
+              fits = goes_on_fits its_current its_reacting;
               slots = λ r ne. ap naming_in (resumed_slots r) ∙ slots r ne;
               sessions = sessions;
               serves = resumed_else d.x (λ e. not_server (sym e)) ∙ put_serves;
@@ -200,7 +205,8 @@ module _ (d : Doing) (t : TakesLeaf d) (h : AreLinked d.system (links d.world)) 
       (put_requests (Link k)) in
       unblocked_linked (Link k) f (put (Link k)) refl
       (changes_linked same_slot_id d.system M m k s.slot_id h
-      (link_changes d.system M m d.x k (outline s) g (resumed (its_current (Link k))) (its_current (Link k)) h a (put_outlines (Link k) k ∙ was)
+      (link_changes d.system M m d.x k (outline s) g (resumed (its_current (Link k)) (its_reacting (Link k))) (its_current (Link k)) h a
+      (put_outlines (Link k) k ∙ was)
       (ap naming_in (resumed_slots (Link k) f (put (Link k)) refl s.slot_id) ∙ ap naming_in (put_here (Link k)))))
 
   replied_ends : (f : List ℕ → List ℕ) → Ends (IsLinkedWorld d.system) (replied d k s f)
@@ -257,7 +263,8 @@ module _ (d : Doing) (t : TakesLeaf d) (h : AreLinked d.system (links d.world)) 
         (put_requests Empty) in
         unblocked_linked Empty (λ operands. operands) without refl
         (changes_linked same_slot_id d.system M m k s.slot_id h
-        (close_changes d.system M m d.x k (outline s) g (resumed (its_current Empty)) (its_current Empty) h a (ap outline_in (gone_here (put Empty).sessions k))
+        (close_changes d.system M m d.x k (outline s) g (resumed (its_current Empty) (its_reacting Empty)) (its_current Empty) h a
+        (ap outline_in (gone_here (put Empty).sessions k))
         (ap naming_in (resumed_slots Empty (λ operands. operands) without refl s.slot_id) ∙ without_free) bare_l))
 
   close_ends : Ends (IsLinkedWorld d.system) (reply_close d k s)

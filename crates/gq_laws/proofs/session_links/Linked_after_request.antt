@@ -302,6 +302,6 @@ pub call_ends : (d : Doing) → TakesLeaf d → d.leaf.phase ≢ Blocked → Are
 call_ends d t active h place =
     pop_ends (IsLinkedWorld d.system) _ _ (λ a rest.
     let e : Doing = record d { leaf = with_operands d rest } in
-    let u : TakesLeaf e = record { old = t.old; there = t.there; slots = t.slots; phase = t.phase; current = t.current } in
+    let u : TakesLeaf e = record { old = t.old; there = t.there; slots = t.slots; phase = t.phase; current = t.current; reacting = t.reacting } in
     need_found (IsLinkedWorld d.system) _ _ _ (λ q at. link_found (IsLinkedWorld d.system) d.world q _
     (λ k s link there. link_ends e u active h place q at k s link there (Ask_call a) refl)))

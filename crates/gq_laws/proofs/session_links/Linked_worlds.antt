@@ -3,21 +3,23 @@ use Rattle.std.proofs.Common.{◌≡◌, ◌≢◌, ℕ, zero, suc, ◌⊎◌, i
 use Rattle.std.proofs.Common.{subst}
 use Rattle.std.specs.Prelude.{slice_get}
 use Rattle.std.proofs.lemmas.Bool.Decides.{eqb_tells}
-use Rattle.gq_model.specs.machine.Program.{Statements, Done, Do, If, Loop}
+use Rattle.gq_model.specs.machine.Program.{Statements, Done, Do, If, Loop, section_in}
 use Rattle.gq_model.specs.declared.program.Instruction.{Instruction}
 use Rattle.gq_model.specs.declared.program.Instruction.TheVariants.{Say, Out, Operands, Make, MakePool, Load}
 use Rattle.gq_model.specs.declared.program.Instruction.TheVariants.{Store, Free, Take, Give, Peek, Poke, Open, Upgrade, Call, Close}
 use Rattle.gq_model.specs.declared.phase.Phase.{Phase}
 use Rattle.gq_model.specs.declared.phase.Phase.TheVariants.{Pending, Running, Blocked, Serving, Handling, Exited}
-use Rattle.gq_model.specs.declared.fault.Wrong.TheVariants.{WrongKind}
+use Rattle.gq_model.specs.declared.fault.Wrong.TheVariants.{WrongKind, MissingSection}
 use Rattle.gq_model.specs.machine.Scenario.{System, Component}
-use Rattle.gq_model.specs.machine.World.{Slot, Empty, Bytes, Pool, Link, Waiting, SlotId, In_leaf, In_session, In_object, Request, Current, Round, Leaf, World}
+use Rattle.gq_model.specs.machine.World.{Slot, Empty, Bytes, Pool, Link, Waiting, SlotId, In_leaf, In_session, In_object, Request, Current, Round, Leaf}
+use Rattle.gq_model.specs.machine.World.{World, Signal}
 use Rattle.gq_model.specs.machine.World.{session_at, leaf_slot, slot_at, first_phase, start_leaves, start}
 use Rattle.gq_model.specs.machine.Doing.{Doing, Event, Quiet, Finished, Stepped, standing}
 use Rattle.gq_model.specs.machine.Step.{oldest, no_link, released, all_released, is_named, exited, exit_of, serving, instruct, main_ended, section_ended}
+use Rattle.gq_model.specs.machine.Step.{serve, take_signal, first_signal, reacting_to}
 use Rattle.gq_model.specs.machine.Step.{body_ended, perform, accept_oldest, step_in, step_of, next}
 use Rattle.gq_laws.specs.Session_links.{Naming, Leads, Waits, naming_in, Stance, stance, stance_in, Links, links, Belongs, Fits, AreLinked, IsLinkedWorld}
-use Rattle.gq_laws.proofs.step_shapes.Step_end_shapes.{Ends, gives, need_found, pop_ends}
+use Rattle.gq_laws.proofs.step_shapes.Step_end_shapes.{Ends, gives, need_found, pop_ends, need_ends}
 use Rattle.gq_model.proofs.Small_facts.{some_same, none_some}
 use Rattle.gq_laws.proofs.session_links.Asked_request_changes.{same_phase}
 use Rattle.gq_laws.proofs.session_links.Reply_changes.{Steps_aside, calm_linked}
@@ -26,11 +28,12 @@ use Rattle.gq_laws.proofs.session_links.Link_free_statements.{stood, Same, stand
 use Rattle.gq_laws.specs.Inside_steps.{TakesLeaf}
 use Rattle.gq_laws.proofs.session_links.Linked_after_request.{upgrade_ends, call_ends, close_ends}
 use Rattle.gq_laws.proofs.session_links.Linked_after_open.{none_named, open_ends}
-use Rattle.gq_laws.proofs.session_links.Linked_after_accept.{same_linked, stand_slots, stand_stance, stand_stances, accept_ends}
+use Rattle.gq_laws.proofs.session_links.Linked_after_accept.{same_linked, stand_slots, stand_stance, stand_stances, accept_ends, no_current_serving, fits_now}
 use Rattle.gq_laws.proofs.session_links.Linked_after_reply.{reply_ends}
 use Rattle.gq_model.proofs.Small_facts.{some_none}
-use Rattle.gq_laws.proofs.step_shapes.Step_end_worlds.{running_blocked, handling_blocked}
+use Rattle.gq_laws.proofs.step_shapes.Step_end_worlds.{running_blocked, handling_blocked, serving_blocked}
 use Rattle.gq_laws.proofs.session_links.Linked_after_change.{handling_with}
+use Rattle.gq_model.specs.declared.section.Section.TheVariants.{Reacting}
 
 -- a step that leaves the same links
 ends_same : (system : System) (l : Links) (r : Stepped) → AreLinked system l → Ends (Same l) r → Ends (IsLinkedWorld system) r
@@ -96,31 +99,35 @@ module _ (d : Doing) (t : TakesLeaf d) (active : d.leaf.phase ≢ Blocked) (h : 
     stood_free : L.stances d.x ≡ Some (stance d.leaf.phase None)
     stood_free = stood d t ∙ ap (λ o. Some (stance d.leaf.phase o)) current
 
-    -- the leaf stands in another phase that fits no current request
-    serving_linked : AreLinked d.system (links (standing d (serving d.leaf)))
-    serving_linked =
-        calm_linked d.system L (links (standing d (serving d.leaf))) h
+    -- the leaf stands in another phase that fits no current request, with the same slots
+    aside_linked : (leaf : Leaf) → leaf.slots ≡ d.leaf.slots → leaf.current ≡ None → leaf.phase ≢ Blocked → Fits leaf.phase None
+        → AreLinked d.system (links (standing d leaf))
+    aside_linked leaf slots none calm fits =
+        calm_linked d.system L (links (standing d leaf)) h
         (record {
-          slots = λ r. ap naming_in (stand_slots d t h (serving d.leaf) refl r);
+          slots = λ r. ap naming_in (stand_slots d t h leaf slots r);
           sessions = λ j. refl;
           requests = refl;
           stances = λ y. elim (eqb_tells y d.x) [
             | inl e ↦ inr
-                (subst (λ y. Steps_aside (L.stances y) (stance_in (slice_get (standing d (serving d.leaf)).leaves y))) (sym e.1) aside)
-            | inr e ↦ inl (stand_stances d t h (serving d.leaf) y e.1)
+                (subst (λ y. Steps_aside (L.stances y) (stance_in (slice_get (standing d leaf).leaves y))) (sym e.1) aside)
+            | inr e ↦ inl (stand_stances d t h leaf y e.1)
           ];
         })
       where
-        aside : Steps_aside (L.stances d.x) (stance_in (slice_get (standing d (serving d.leaf)).leaves d.x))
+        aside : Steps_aside (L.stances d.x) (stance_in (slice_get (standing d leaf).leaves d.x))
         aside = record {
           old = d.leaf.phase;
-          new = Serving;
+          new = leaf.phase;
           stood = stood_free;
-          stands = stand_stance d t h (serving d.leaf);
+          stands = stand_stance d t h leaf ∙ ap (λ o. Some (stance leaf.phase o)) none;
           old_ne = active;
-          new_ne = λ e. cc;
-          new_fits = tt;
+          new_ne = calm;
+          new_fits = fits;
         }
+
+    serving_linked : AreLinked d.system (links (standing d (serving d.leaf)))
+    serving_linked = aside_linked (serving d.leaf) refl refl (λ e. cc) tt
 
     -- none of its slots names a session
     pub unnamed : no_link d.leaf.slots ≡ true → (i : ℕ) → L.slots (In_leaf d.x i) ≡ None
@@ -203,18 +210,20 @@ module _ (d : Doing) (t : TakesLeaf d) (active : d.leaf.phase ≢ Blocked) (h : 
     exit_linked none = calm_linked d.system L (links (exit_of d)) h
         (record { slots = exit_slots none; sessions = λ j. refl; requests = refl; stances = exit_stances })
 
-    main_ends : (provides : Option (List ℕ)) → Ends P (main_ended d provides)
-    main_ends (Some service) = gives _ Quiet serving_linked
-    main_ends None = when_found P (no_link d.leaf.slots) WrongKind _ (λ none. gives (exit_of d) Finished (exit_linked none))
+    main_ends : (provides : Option (List ℕ)) (signals : ℕ) → Ends P (main_ended d provides signals)
+    main_ends (Some service) signals = gives _ Quiet serving_linked
+    main_ends None (suc n) = gives _ Quiet serving_linked
+    main_ends None zero = when_found P (no_link d.leaf.slots) WrongKind _ (λ none. gives (exit_of d) Finished (exit_linked none))
 
-  section_ends : (current : Option Current) → d.leaf.current ≡ current → Ends P (section_ended d current)
-  section_ends None e = main_ends e d.component.node.provides
-  section_ends (Some g) e = need_found P (session_at d.world g.session) WrongKind _
+  section_ends : (current : Option Current) (reacting : Option ℕ) → d.leaf.current ≡ current → Ends P (section_ended d current reacting)
+  section_ends None None e = main_ends e d.component.node.provides d.component.node.signals
+  section_ends None (Some i) e = gives _ Quiet (serving_linked e)
+  section_ends (Some g) reacting e = need_found P (session_at d.world g.session) WrongKind _
       (λ s there. reply_ends d t h (handling_with d.leaf.phase g
       (subst (Fits d.leaf.phase) e (h.fits d.x (stance d.leaf.phase d.leaf.current) (stood d t))) active) g e s there g.section)
 
   body_ends : (loops : List Round) → Ends P (body_ended d loops)
-  body_ends [] = section_ends d.leaf.current refl
+  body_ends [] = section_ends d.leaf.current d.leaf.reacting refl
   body_ends (r ∷ loops) = by_round (nat_lt (suc r.round) r.count)
     where
       by_round : (b : Bool) → Ends P (Ok (
@@ -249,7 +258,7 @@ module _ (d : Doing) (t : TakesLeaf d) (h : AreLinked d.system (links d.world)) 
   perform_ends : d.leaf.phase ≢ Blocked → (todo : Statements) → Ends (IsLinkedWorld d.system) (perform d todo)
   perform_ends active Done = body_ends d t active h d.leaf.loops
   perform_ends active (Do i rest) = instruct_ends (record d { leaf = record d.leaf { todo = rest } })
-      (record { old = t.old; there = t.there; slots = t.slots; phase = t.phase; current = t.current }) active h component i
+      (record { old = t.old; there = t.there; slots = t.slots; phase = t.phase; current = t.current; reacting = t.reacting }) active h component i
   perform_ends active (If arm other rest) = pop_ends (IsLinkedWorld d.system) _ _
       (λ a below. gives _ Quiet (same_linked d.system (links d.world) _ h (stands d t _ refl refl refl)))
   perform_ends active (Loop count body rest) = gives _ Quiet (same_linked d.system (links d.world) _ h (stands d t _ refl refl refl))
@@ -259,11 +268,23 @@ module _ (d : Doing) (t : TakesLeaf d) (h : AreLinked d.system (links d.world)) 
   oldest_ends serves None e = gives _ _ h
   oldest_ends serves (Some p) e = accept_ends d t h serves p.0 p.1 e
 
+  -- who serves has no current request
+  signal_ends : d.leaf.phase ≡ Serving → (i : ℕ) (signals : List Signal) → Ends (IsLinkedWorld d.system) (take_signal d i signals)
+  signal_ends serves i signals = need_ends (IsLinkedWorld d.system) (section_in (Reacting i) d.component.node.program.sections) MissingSection _
+      (λ body. gives _ Quiet (aside_linked d t (λ b. serving_blocked (sym serves ∙ b)) h none (reacting_to d.leaf i signals body) refl none (λ e. cc) tt))
+    where
+      none : d.leaf.current ≡ None
+      none = no_current_serving d t h d.leaf.current (subst (λ p. Fits p d.leaf.current) serves (fits_now d t h))
+
+  serve_ends : d.leaf.phase ≡ Serving → (found : Option (ℕ × List Signal)) → Ends (IsLinkedWorld d.system) (serve d found)
+  serve_ends serves None = oldest_ends serves (oldest d.world d.x d.world.requests) refl
+  serve_ends serves (Some p) = signal_ends serves p.0 p.1
+
   step_ends : (phase : Phase) → d.leaf.phase ≡ phase → Ends (IsLinkedWorld d.system) (step_in d phase)
   step_ends Pending e = gives _ _ h
   step_ends Running e = perform_ends (λ b. running_blocked (sym e ∙ b)) d.leaf.todo
   step_ends Blocked e = gives _ _ h
-  step_ends Serving e = oldest_ends e (oldest d.world d.x d.world.requests) refl
+  step_ends Serving e = serve_ends e (first_signal d.leaf.signals)
   step_ends Handling e = perform_ends (λ b. handling_blocked (sym e ∙ b)) d.leaf.todo
   step_ends Exited e = gives _ _ h
 
@@ -271,7 +292,7 @@ next_by : (system : System) (w : World) (x : ℕ) (c : Option Component) (leaf :
     → slice_get w.leaves x ≡ leaf → Ends (IsLinkedWorld system) (step_of system w x c leaf)
 next_by system w x (Some c) (Some leaf) h component there =
     step_ends (record { system = system; world = w; x = x; component = c; leaf = record leaf { steps = suc leaf.steps } })
-    (record { old = leaf; there = there; slots = refl; phase = refl; current = refl }) h component leaf.phase refl
+    (record { old = leaf; there = there; slots = refl; phase = refl; current = refl; reacting = refl }) h component leaf.phase refl
 next_by system w x (Some c) None h component there = gives _ _ h
 next_by system w x None leaf h component there = gives _ _ h
 

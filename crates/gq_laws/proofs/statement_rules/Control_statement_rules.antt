@@ -49,9 +49,10 @@ module _ (promised : ℕ → Option Kind) (c : Context) (d : Doing) (t : TakesLe
   -- the leaf goes on with other statements
   leads : (new : AbstractState) (leaf : Leaf) → Moves c state d.leaf.todo d.leaf.loops new leaf.todo leaf.loops → Meets promised (within c leaf.loops) new
       d.world leaf
-      → Continues c new leaf.todo leaf.loops end → leaf.current ≡ d.leaf.current → leaf.phase ≡ d.leaf.phase → Leads (Ok (standing d leaf, Quiet))
+      → Continues c new leaf.todo leaf.loops end → leaf.current ≡ d.leaf.current → leaf.reacting ≡ d.leaf.reacting → leaf.phase ≡ d.leaf.phase
+      → Leads (Ok (standing d leaf, Quiet))
   unfolding Leads
-  leads new leaf moves m goes current phase =
+  leads new leaf moves m goes current reacting phase =
       safe_gives (standing d leaf) Quiet
       (record {
         leaf = leaf;
@@ -61,6 +62,7 @@ module _ (promised : ℕ → Option Kind) (c : Context) (d : Doing) (t : TakesLe
         moves = moves;
         goes_on = goes;
         current = current;
+        reacting = reacting;
         phase = phase;
       })
 
@@ -87,7 +89,7 @@ module _ (promised : ℕ → Option Kind) (c : Context) (d : Doing) (t : TakesLe
       let e : Doing = record d { leaf = record d.leaf { todo = rest } } in
       let v = then_ok (at 1 (judged k state i)) (λ s. later 1 (flow k s rest)) goes.0 goes.1 in
       let flows = later_ok 1 (flow k v.0 rest) goes.0 v.2 in
-      let taken : TakesLeaf e = record { old = t.old; there = t.there; slots = t.slots; phase = t.phase; current = t.current } in
+      let taken : TakesLeaf e = record { old = t.old; there = t.there; slots = t.slots; phase = t.phase; current = t.current; reacting = t.reacting } in
       let granted : Grants promised k e =
       record { interfaces = g.interfaces; provided = g.provided; links = g.links; buffers = g.buffers; awake = g.awake; inputs = g.inputs } in
       let m : Meets promised k state d.world e.leaf = record {
@@ -108,6 +110,7 @@ module _ (promised : ℕ → Option Kind) (c : Context) (d : Doing) (t : TakesLe
         goes_on = subst (λ l. Continues c v.0 s.leaf.todo l end) (sym s.loops)
             (subst (λ todo. Continues c v.0 todo d.leaf.loops end) (sym s.todo) (goes.0, flows, goes.2));
         current = s.current;
+        reacting = s.reacting;
         phase = s.phase;
       }) (own_goes promised k e taken granted state v.0 i inside.0 inside.1 m (at_ok 1 (judged k state i) v.0 v.1))
 
@@ -125,7 +128,7 @@ module _ (promised : ℕ → Option Kind) (c : Context) (d : Doing) (t : TakesLe
       let m = stands_in v.0 a.1 todo d.leaf.loops (ap (λ (s : AbstractState). s.own) n.1) (ap (λ (s : AbstractState). s.bank) n.1)
       (subst (λ (s : AbstractState). Under a.1 s.bounds) (sym n.1) a.4) h.loops in
       safe_pop d.leaf.operands _ a.0 a.1 a.2 (leads v.0 leaf (Chooses arm other rest is v.1 (either a.0 arm other rest) refl) m
-      (goes.0, chosen_flows k v.0 goes.0 arm other rest a.0 v.2 v.3, goes.2) refl refl)
+      (goes.0, chosen_flows k v.0 goes.0 arm other rest a.0 v.2 v.3, goes.2) refl refl refl)
 
   loop_leads : (n : ℕ) (body rest : Statements) → d.leaf.todo ≡ Loop n body rest → 0 < n → Continues c state (Loop n body rest) d.leaf.loops end
       → Leads (perform d (Loop n body rest))
@@ -134,7 +137,7 @@ module _ (promised : ℕ → Option Kind) (c : Context) (d : Doing) (t : TakesLe
       let loops = entered ∷ d.leaf.loops in
       leads state (record d.leaf { todo = body; loops = loops }) (Enters n body rest is refl refl refl)
       (stands_in state d.leaf.operands body loops refl refl h.operands (refl, positive, h.loops))
-      (loop_enters c state n body rest d.leaf.loops end positive goes) refl refl
+      (loop_enters c state n body rest d.leaf.loops end positive goes) refl refl refl
 
   body_leads : (loops : List Round) → d.leaf.todo ≡ Done → d.leaf.loops ≡ loops → IsInside Done loops → Continues c state Done loops end
       → Leads (body_ended d loops)
@@ -154,10 +157,10 @@ module _ (promised : ℕ → Option Kind) (c : Context) (d : Doing) (t : TakesLe
           let more = ltb-true (suc r.round) r.count e in
           leads state (record d.leaf { todo = r.body; loops = record r { round = suc r.round } ∷ loops }) (Repeats r loops is same refl more refl refl)
           (stands_in state d.leaf.operands r.body (record r { round = suc r.round } ∷ loops) refl refl h.operands (refl, more, counts.2))
-          (loop_again c state r loops end more goes) refl refl
+          (loop_again c state r loops end more goes) refl refl refl
       by false e =
           leads state (record d.leaf { todo = r.rest; loops = loops }) (Leaves r loops is same refl refl refl)
-          (stands_in state d.leaf.operands r.rest loops refl refl h.operands counts.2) (loop_leaves c state r loops end goes) refl refl
+          (stands_in state d.leaf.operands r.rest loops refl refl h.operands counts.2) (loop_leaves c state r loops end goes) refl refl refl
 
   all_lead : (todo : Statements) → d.leaf.todo ≡ todo → IsInside todo d.leaf.loops → Continues c state todo d.leaf.loops end → Leads (perform d todo)
   all_lead Done is inside goes = body_leads d.leaf.loops is refl inside goes

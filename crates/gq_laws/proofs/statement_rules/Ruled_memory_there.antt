@@ -193,7 +193,7 @@ module _ (promised : ℕ → Option Kind) (c : Context) (d : Doing) (t : TakesLe
 
   -- the leaf of the step, put into the world
   pub stood : StandsAt promised c state d (standing d d.leaf)
-  stood = stands_with promised c d state d.world t.old d.leaf t.there h refl refl refl refl
+  stood = stands_with promised c d state d.world t.old d.leaf t.there h refl refl refl refl refl
 
   -- the same slots as before
   pub slots_kept : (leaf : Leaf) → leaf.slots ≡ d.leaf.slots → (q : SlotId) → slot_at (standing d leaf) q ≡ slot_at d.world q
@@ -264,7 +264,7 @@ module _ (promised : ℕ → Option Kind) (c : Context) (d : Doing) (t : TakesLe
   kept_same Object current q ranged at named = absurd (false≢true ranged)
   kept_same (Shared i) None q ranged at named = absurd (none_some named)
   kept_same (Shared i) (Some current) q ranged at named =
-      let section = subst (IsCurrent c.section) at h.current in
+      let section = subst (λ o. IsCurrent c.section o d.leaf.reacting) at h.current in
       let bank = subst (CurrentMeets promised c state.bank d.world) at h.bank in
       let later : is_later current.section ≡ is_later c.section = ap is_later section.0 in
       let shares : shares_buffer d.system (session_at d.world current.session) ≡ nat_lt 0 (number_of c.subject.provided (λ i. i.buffer)) =

@@ -1,5 +1,5 @@
 -- Slots by their kinds: what is found where a statement names one, and where the leaf stands once one is written.
-use Rattle.std.proofs.Common.{◌≡◌, ◌≢◌, ℕ, zero, suc, inl, inr, cond, List, [], ◌∷◌, Option, Some, None, refl, ap, sym, ◌∙◌, subst}
+use Rattle.std.proofs.Common.{◌≡◌, ◌≢◌, ℕ, zero, suc, inl, inr, cond, List, [], ◌∷◌, Option, Some, None, refl, ap, sym, ◌∙◌, subst, true}
 use Rattle.std.specs.Prelude.{slice_get, slice_set}
 use Rattle.std.proofs.lemmas.Bool.Decides.{eqb_tells}
 use Rattle.gq_model.specs.declared.program.OperandSlot.{OperandSlot}
@@ -7,6 +7,7 @@ use Rattle.gq_model.specs.declared.program.OperandSlot.TheVariants.{Own, Shared,
 use Rattle.gq_model.specs.declared.program.Form.TheVariants.{Slice}
 use Rattle.gq_model.specs.machine.Scenario.{number_of}
 use Rattle.gq_model.specs.machine.World.{Slot, SlotId, In_leaf, In_session, In_object, Session, Current, Leaf, World, session_at, leaf_slot, session_slot}
+use Rattle.gq_model.specs.machine.World.{own_section}
 use Rattle.gq_model.specs.machine.World.{session_object, slot_at, with_leaf, with_session, with_slot, put_leaf_slot, put_session_slot, put_object, slot_id_of}
 use Rattle.gq_model.specs.machine.Sums.{with_peaks}
 use Rattle.gq_model.specs.machine.Doing.{Doing, Quiet, settled}
@@ -60,21 +61,30 @@ pub record Finds (promised : ℕ → Option Kind) (w : World) (x : ℕ) (current
   pub there : slot_at w q ≡ Some slot
   pub is : IsKind promised slot kind
 
+-- a section without a session is one of the leaf's own
+own_is_own : (reacting : Option ℕ) → is_own_section (own_section reacting) ≡ true
+own_is_own None = refl
+own_is_own (Some i) = refl
+
 module _ (promised : ℕ → Option Kind) (c : Context) (state : AbstractState) (w : World) (x : ℕ) where
-  shared_found : (i : ℕ) (kind : Kind) (current : Option Current) → IsCurrent c.section current → CurrentMeets promised c state.bank w current
+  shared_found : (i : ℕ) (kind : Kind) (current : Option Current) (reacting : Option ℕ) → IsCurrent c.section current reacting
+      → CurrentMeets promised c state.bank w current
       → kind_at c state (Shared i) ≡ Some kind → Finds promised w x current (Shared i) kind
-  shared_found i kind None at bank e = absurd (none_some (ap (λ b. cond b None (slice_get state.bank i)) (sym (ap is_own_section at)) ∙ e))
-  shared_found i kind (Some g) at bank e =
+  shared_found i kind None reacting at bank e =
+      absurd (none_some (ap (λ b. cond b None (slice_get state.bank i)) (sym (ap is_own_section at ∙ own_is_own reacting)) ∙ e))
+  shared_found i kind (Some g) reacting at bank e =
       let f = kinds_get promised bank.0.slots state.bank i kind bank.2.slots (ap (λ b. cond b None (slice_get state.bank i)) (sym at.1) ∙ e) in
       record { q = In_session g.session i; named = refl; slot = f.0; there = ap (λ o. session_slot o i) bank.1 ∙ f.1; is = f.2 }
 
-  object_found : (kind : Kind) (current : Option Current) → IsCurrent c.section current → CurrentMeets promised c state.bank w current
+  object_found : (kind : Kind) (current : Option Current) (reacting : Option ℕ) → IsCurrent c.section current reacting
+      → CurrentMeets promised c state.bank w current
       → kind_at c state Object ≡ Some kind
       → Finds promised w x current Object kind
-  object_found kind None at bank e =
-      let own = sym (ap is_own_section at) in
-      absurd (none_some (ap (λ b. cond b None (Some (Memory Slice (number_of c.subject.provided (λ i. i.object))))) own ∙ e))
-  object_found kind (Some g) at bank e =
+  object_found kind None reacting at bank e =
+      absurd (none_some (ap (λ b. cond b None (Some (Memory Slice (number_of c.subject.provided (λ i. i.object)))))
+      (sym (ap is_own_section at ∙ own_is_own reacting))
+      ∙ e))
+  object_found kind (Some g) reacting at bank e =
       let same = some_same (ap (λ b. cond b None (Some (Memory Slice (number_of c.subject.provided (λ i. i.object))))) (sym at.1) ∙ e) in
       record {
         q = In_object g.session;
@@ -89,8 +99,8 @@ module _ (promised : ℕ → Option Kind) (c : Context) (state : AbstractState) 
   found leaf old there slots h (Own i) kind e =
       let f = kinds_get promised leaf.slots state.own i kind h.own e in
       record { q = In_leaf x i; named = refl; slot = f.0; there = ap (λ o. leaf_slot o i) there ∙ (ap (λ l. slice_get l i) (sym slots) ∙ f.1); is = f.2 }
-  found leaf old there slots h (Shared i) kind e = shared_found i kind leaf.current h.current h.bank e
-  found leaf old there slots h Object kind e = object_found kind leaf.current h.current h.bank e
+  found leaf old there slots h (Shared i) kind e = shared_found i kind leaf.current leaf.reacting h.current h.bank e
+  found leaf old there slots h Object kind e = object_found kind leaf.current leaf.reacting h.current h.bank e
 
 -- WHERE THE LEAF STANDS
 
@@ -130,9 +140,9 @@ module _ (promised : ℕ → Option Kind) (c : Context) where
   module _ (d : Doing) where
     -- a leaf put into a world of the same sessions
     pub stands_with : (state : AbstractState) (w : World) (old leaf : Leaf) → slice_get w.leaves d.x ≡ Some old → Meets promised c state w leaf
-        → leaf.todo ≡ d.leaf.todo → leaf.loops ≡ d.leaf.loops → leaf.current ≡ d.leaf.current → leaf.phase ≡ d.leaf.phase
-        → StandsAt promised c state d (with_leaf w d.x leaf)
-    stands_with state w old leaf there h todo loops current phase =
+        → leaf.todo ≡ d.leaf.todo → leaf.loops ≡ d.leaf.loops → leaf.current ≡ d.leaf.current → leaf.reacting ≡ d.leaf.reacting
+        → leaf.phase ≡ d.leaf.phase → StandsAt promised c state d (with_leaf w d.x leaf)
+    stands_with state w old leaf there h todo loops current reacting phase =
         record {
           leaf = leaf;
           there = set_here w.leaves d.x leaf old there;
@@ -140,6 +150,7 @@ module _ (promised : ℕ → Option Kind) (c : Context) where
           todo = todo;
           loops = loops;
           current = current;
+          reacting = reacting;
           phase = phase;
         }
 
@@ -155,7 +166,7 @@ module _ (promised : ℕ → Option Kind) (c : Context) where
           loops = s.meets.loops;
         } in
         safe_need (slice_get w.leaves d.x) _ _ s.leaf s.there
-        (safe_tested _ _ (safe_gives (with_leaf w d.x new) Quiet (stands_with state w s.leaf new s.there m s.todo s.loops s.current s.phase)))
+        (safe_tested _ _ (safe_gives (with_leaf w d.x new) Quiet (stands_with state w s.leaf new s.there m s.todo s.loops s.current s.reacting s.phase)))
 
     -- own slots written
     own_written : (state new : AbstractState) (w : World) (s : StandsAt promised c state d w) (i : ℕ) (slot : Slot)
@@ -174,7 +185,7 @@ module _ (promised : ℕ → Option Kind) (c : Context) where
         }
         in
         subst (λ o. StandsAt promised c new d (put_leaf_slot w o d.x i slot)) (sym s.there)
-        (stands_with new w s.leaf leaf s.there m s.todo s.loops s.current s.phase)
+        (stands_with new w s.leaf leaf s.there m s.todo s.loops s.current s.reacting s.phase)
 
     -- a session written: the leaf stays, and what is current is given
     session_written : (state new : AbstractState) (w v : World) (s : StandsAt promised c state d w) → v.leaves ≡ w.leaves → new.own ≡ state.own
@@ -195,6 +206,7 @@ module _ (promised : ℕ → Option Kind) (c : Context) where
           todo = s.todo;
           loops = s.loops;
           current = s.current;
+          reacting = s.reacting;
           phase = s.phase;
         }
 
@@ -246,6 +258,7 @@ module _ (promised : ℕ → Option Kind) (c : Context) where
               todo = s.todo;
               loops = s.loops;
               current = s.current;
+              reacting = s.reacting;
               phase = s.phase;
             })
     put_alike state w s (In_session k i) old slot there alike =

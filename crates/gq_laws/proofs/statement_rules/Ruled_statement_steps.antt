@@ -55,7 +55,7 @@ module _ (promised : ℕ → Option Kind) (c : Context) (d : Doing) (t : TakesLe
       let leaf : Leaf = record d.leaf { operands = ops; locals = locs } in
       let m : Meets promised c (record state { bounds = bounds }) d.world leaf =
       record { own = h.own; current = h.current; bank = h.bank; operands = u; locals = l; loops = h.loops } in
-      stands_with promised c d (record state { bounds = bounds }) d.world t.old leaf t.there m refl refl refl refl
+      stands_with promised c d (record state { bounds = bounds }) d.world t.old leaf t.there m refl refl refl refl refl
 
   Ends_at : AbstractState → Stepped → Type 0
   Ends_at new r = IsSafe (StandsAt promised c new d) r

@@ -92,7 +92,7 @@ same_ends : (d : Doing) → TakesLeaf d → IsLinkedWorld d.system d.world → (
 same_ends d t h todo inside = by todo inside
   where
     u : TakesLeaf d
-    u = record { old = t.old; there = t.there; slots = t.slots; phase = t.phase; current = t.current }
+    u = record { old = t.old; there = t.there; slots = t.slots; phase = t.phase; current = t.current; reacting = t.reacting }
 
     by_loops : (loops : List Round) → IsInside Done loops → Ends (Same (links d.world)) (body_ended d loops)
     by_loops [] inside = absurd inside
@@ -110,7 +110,8 @@ same_ends d t h todo inside = by todo inside
     by Done inside = by_loops d.leaf.loops inside
     by (Do i rest) inside =
         let e : Doing = record d { leaf = record d.leaf { todo = rest } } in
-        quiet_ends e (record { old = t.old; there = t.there; slots = t.slots; phase = t.phase; current = t.current }) h i (quiet i inside.0)
+        quiet_ends e (record { old = t.old; there = t.there; slots = t.slots; phase = t.phase; current = t.current; reacting = t.reacting }) h i
+        (quiet i inside.0)
     by (If arm other rest) inside = pop_ends (Same (links d.world)) d.leaf.operands _ (λ a below. gives _ Quiet (stands d u _ refl refl refl))
     by (Loop count body rest) inside = gives _ Quiet (stands d u _ refl refl refl)
 

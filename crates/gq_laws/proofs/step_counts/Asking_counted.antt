@@ -5,7 +5,7 @@ use Rattle.std.specs.Prelude.{slice_get}
 use Rattle.std.proofs.lemmas.Bool.Decides.{eqb_tells}
 use Rattle.gq_model.specs.declared.program.Instruction.{Instruction}
 use Rattle.gq_model.specs.declared.section.Section.{Section}
-use Rattle.gq_model.specs.declared.section.Section.TheVariants.{Main}
+use Rattle.gq_model.specs.declared.section.Section.TheVariants.{Main, Reacting}
 use Rattle.gq_model.specs.declared.phase.Phase.TheVariants.{Blocked}
 use Rattle.gq_model.specs.machine.Program.{Statements, Do}
 use Rattle.gq_model.specs.machine.Sections.{same_section, is_own_section}
@@ -28,7 +28,8 @@ use Rattle.gq_laws.specs.Inside_steps.{TakesLeaf, Grants}
 use Rattle.gq_laws.specs.Asking.{promised_anew, IsServed, Awaits}
 use Rattle.gq_laws.specs.Typing.{IsTypedBy}
 use Rattle.gq_laws.specs.internal.Carrying.{Carries}
-use Rattle.gq_laws.specs.internal.Section_counts.{Often, Requests, ahead, one_at, served_at, asks_at, waiting_in, waiting, made_for, Within, Counts, IsCounted}
+use Rattle.gq_laws.specs.internal.Section_counts.{Often, Requests, ahead, one_at, served_at, asks_at, waiting_in, waiting, made_for, Within, Since, Counts}
+use Rattle.gq_laws.specs.internal.Section_counts.{IsCounted}
 use Rattle.gq_model.proofs.Small_facts.{some_same}
 use Rattle.gq_laws.proofs.remaining_work.Move_requests_left.{requests_does}
 use Rattle.gq_laws.proofs.verified_programs.Sure_system_facts.{IsSure}
@@ -37,7 +38,7 @@ use Rattle.gq_laws.proofs.typed_worlds.Typed_world_promises.{grants, reports_lin
 use Rattle.gq_laws.proofs.typed_worlds.Typed_world_step.{Acts, with_rest, not_blocked, asked_typed}
 use Rattle.gq_laws.proofs.step_counts.Section_request_sums.{section_self, made_one}
 use Rattle.gq_model.proofs.Small_facts.{text_self}
-use Rattle.gq_laws.proofs.step_counts.Counted_world_step.{then_served, waiting_else, waiting_last, none_own, Spends, spends_counted}
+use Rattle.gq_laws.proofs.step_counts.Counted_world_step.{then_served, waiting_else, waiting_last, none_own, Rises, Spends, spends_counted}
 use Rattle.gq_laws.proofs.step_counts.Inside_step_counted.{all_left, IsOneOn, one_on, was_ahead}
 use Rattle.gq_laws.proofs.step_counts.Service_request_count.{asks_one}
 use Rattle.gq_model.proofs.Rules_laws.{same_section_is}
@@ -91,21 +92,23 @@ module _ (system : System) (z x : ℕ) (section : Section) (service : List ℕ) 
 module _ (promised : ℕ → Option Kind) (left : Requests) (d : Doing) (sure : IsSure d.system) (named : ProvidesNamed d.system) (takes : TakesLeaf d)
     (h : IsLinkedWorld d.system d.world) (t : IsTypedBy promised (Within d.system left) d.system d.world)
     (at : slice_get d.system.components d.x ≡ Some d.component)
-    (own : IsOneOn d takes) (w : World) (linked : IsLinkedWorld d.system w) (stepped : (leaf : Leaf) → slice_get w.leaves d.x ≡ Some leaf
+    (own : IsOneOn d takes) (w : World) (rises : Rises d.world w) (linked : IsLinkedWorld d.system w) (stepped : (leaf : Leaf)
+    → slice_get w.leaves d.x ≡ Some leaf
     → leaf.steps ≡ d.leaf.steps) (a : Acts promised (Within d.system left) d)
     (i : Instruction) (rest : Statements) (first : d.leaf.todo ≡ Do i rest) (served : IsServed (with_rest d rest) i) (new : AbstractState)
-    (judges : judged (within (context (subject d.system d.component) (section_of d.leaf.current)) d.leaf.loops) a.state i ≡ Ok new)
-    (goes_on : Continues (context (subject d.system d.component) (section_of d.leaf.current)) new rest d.leaf.loops a.end) (event : Event)
+    (judges : judged (within (context (subject d.system d.component) (section_of d.leaf.current d.leaf.reacting)) d.leaf.loops) a.state i ≡ Ok new)
+    (goes_on : Continues (context (subject d.system d.component) (section_of d.leaf.current d.leaf.reacting)) new rest d.leaf.loops a.end) (event : Event)
     (is : instruct (with_rest d rest) i ≡ Ok (w, event))
-    (awaits : Awaits promised (within (context (subject d.system d.component) (section_of d.leaf.current)) d.leaf.loops) new i (with_rest d rest) w) where
+    (awaits : Awaits promised (within (context (subject d.system d.component) (section_of d.leaf.current d.leaf.reacting)) d.leaf.loops) new i
+    (with_rest d rest) w) where
   abbrev c : Context
-  c = context (subject d.system d.component) (section_of d.leaf.current)
+  c = context (subject d.system d.component) (section_of d.leaf.current d.leaf.reacting)
 
   abbrev s : Session
   s = awaits.session
 
   taken : TakesLeaf (with_rest d rest)
-  taken = record { old = takes.old; there = takes.there; slots = takes.slots; phase = takes.phase; current = takes.current }
+  taken = record { old = takes.old; there = takes.there; slots = takes.slots; phase = takes.phase; current = takes.current; reacting = takes.reacting }
 
   active : d.leaf.phase ≢ Blocked
   active = not_blocked promised (Within d.system left) d sure takes h t at a.active
@@ -150,7 +153,9 @@ module _ (promised : ℕ → Option Kind) (left : Requests) (d : Doing) (sure : 
   left_then y service q = left y service q - further y service q
 
   g : Grants promised (within c d.leaf.loops) (with_rest d rest)
-  g = grants promised (Within d.system left) (with_rest d rest) sure h t (section_of d.leaf.current) (counts_of d.leaf.loops) taken active at a.inputs
+  g =
+      grants promised (Within d.system left) (with_rest d rest) sure h t (section_of d.leaf.current d.leaf.reacting) (counts_of d.leaf.loops) taken active at
+      a.inputs
 
   meets : Meets promised (within c d.leaf.loops) a.state d.world (record d.leaf { todo = rest })
   meets = record {
@@ -237,9 +242,10 @@ module _ (promised : ℕ → Option Kind) (left : Requests) (d : Doing) (sure : 
         more = one_at s.server section;
         further = further;
         waits = waits;
-        not_own = not_own;
-        covered = covers d.system s.server d.x section s.service d.component at routed provides further (further_here d.x refl s.service section
-            ∙ self_one s.service section);
+        no_main = λ y. not_own y Main refl;
+        reacts = λ y i. (let none = not_own y (Reacting i) refl in let most = rises y i in omega (arith, none, most));
+        covered = λ y q other. covers d.system s.server d.x section s.service d.component at routed provides further (further_here d.x refl s.service section
+            ∙ self_one s.service section) y q;
         leaves = leaves;
         pays = pays;
       }
@@ -249,15 +255,16 @@ module _ (promised : ℕ → Option Kind) (left : Requests) (d : Doing) (sure : 
   carries y from state todo loops ne b e placed service q = let most = b e placed service q in let none = further_else y ne service q in
       omega (arith, most, none)
 
-  within_left : Within d.system left_then d.x (section_of d.leaf.current) new rest d.leaf.loops
+  within_left : Within d.system left_then d.x (section_of d.leaf.current d.leaf.reacting) new rest d.leaf.loops
   unfolding left_then
   within_left b placed service q =
-      subst (λ b. left_requests service q (context (subject d.system b) (section_of d.leaf.current)) new rest d.leaf.loops ≤ left_then d.x service q)
+      subst (λ b. left_requests service q (context (subject d.system b) (section_of d.leaf.current d.leaf.reacting)) new rest d.leaf.loops ≤ left_then d.x
+      service q)
       (some_same (sym at ∙ placed))
       (let most = among service q in omega (arith, most))
 
-  pub asked_counted : (done : Often) (made : Requests) → Counts done made left d.system d.world → IsCounted d.system w
-  asked_counted done made counts =
-      spends_counted done made left left_then d.system d.world w counts spends (promised_anew promised awaits.k awaits.kind)
+  pub asked_counted : (since : Since) (done : Often) (made : Requests) → Counts since done made left d.system d.world → IsCounted since d.system w
+  asked_counted since done made counts =
+      spends_counted since done made left left_then d.system d.world w counts spends (promised_anew promised awaits.k awaits.kind)
       (asked_typed promised (Within d.system left) d sure takes h t at
       (Within d.system left_then) carries w a i rest served new judges goes_on event is awaits within_left)

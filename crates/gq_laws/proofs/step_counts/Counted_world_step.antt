@@ -13,7 +13,8 @@ use Rattle.gq_model.specs.rules.Kinds.{Kind}
 use Rattle.gq_laws.specs.Session_links.{requests_of}
 use Rattle.gq_laws.specs.Reply_stances.{bank_then, session_then}
 use Rattle.gq_laws.specs.Typing.{IsTypedBy}
-use Rattle.gq_laws.specs.internal.Section_counts.{Often, Requests, ahead, one_at, served_at, asks_at, waiting_in, waiting, made_for, Within, Counts, IsCounted}
+use Rattle.gq_laws.specs.internal.Section_counts.{Often, Requests, ahead, one_at, served_at, asks_at, waiting_in, waiting, made_for, Within, Since}
+use Rattle.gq_laws.specs.internal.Section_counts.{steps_taken, taken_in, Counts, IsCounted}
 use Rattle.gq_model.proofs.Small_facts.{some_same, none_some}
 use Rattle.gq_laws.proofs.session_links.Asked_request_changes.{one_one}
 use Rattle.gq_laws.proofs.step_counts.Section_request_sums.{steps_add, from_add, made_for_add}
@@ -100,8 +101,9 @@ pub record Spends (system : System) (v w : World) (left new : Requests) : Type 0
   pub more : Often
   pub further : Requests
   pub waits : (y : ℕ) (q : Section) → waiting w y q + begun y q ≡ waiting v y q + more y q
-  pub not_own : (y : ℕ) (q : Section) → is_own_section q ≡ true → more y q ≡ 0
-  pub covered : (y : ℕ) (q : Section) → more y q ≤ made_for further system y q (provided_by (slice_get system.components y))
+  pub no_main : (y : ℕ) → more y Main ≡ 0
+  pub reacts : (y i : ℕ) → more y (Reacting i) + taken_in v y i ≤ taken_in w y i
+  pub covered : (y : ℕ) (q : Section) → is_own_section q ≡ false → more y q ≤ made_for further system y q (provided_by (slice_get system.components y))
   pub leaves : (y : ℕ) (c : Component) (leaf : Leaf) → slice_get system.components y ≡ Some c → slice_get w.leaves y ≡ Some leaf
       → (old : Leaf) × (slice_get v.leaves y ≡ Some old) × (leaf.steps + ahead leaf leaf.phase
       ≤ old.steps + ahead old old.phase + steps_of (begun y) c.node.program.sections)
@@ -109,26 +111,33 @@ pub record Spends (system : System) (v w : World) (left new : Requests) : Type 0
       → further y service section + new y service section
       ≤ left y service section + from_sections (begun y) (subject system c) service section c.node.program.sections
 
+-- no signal was taken more often before
+abbrev pub Rises : World → World → Type 0
+Rises v w = (y i : ℕ) → taken_in v y i ≤ taken_in w y i
+
 -- a step that takes up nothing and asks for nothing
-pub quiet_spends : (system : System) (v w : World) (left : Requests) → ((y : ℕ) (q : Section) → waiting w y q ≡ waiting v y q)
+pub quiet_spends : (system : System) (v w : World) (left : Requests) → Rises v w → ((y : ℕ) (q : Section) → waiting w y q ≡ waiting v y q)
     → ((y : ℕ) (c : Component) (leaf : Leaf) → slice_get system.components y ≡ Some c → slice_get w.leaves y ≡ Some leaf
     → (old : Leaf) × (slice_get v.leaves y ≡ Some old) × (leaf.steps + ahead leaf leaf.phase ≤ old.steps + ahead old old.phase))
     → Spends system v w left left
-quiet_spends system v w left waits leaves =
+quiet_spends system v w left rises waits leaves =
     record {
       begun = λ y q. 0;
       more = λ y q. 0;
       further = λ y service q. 0;
       waits = λ y q. (let same = waits y q in omega (arith, same));
-      not_own = λ y q own. refl;
-      covered = λ y q. omega arith;
+      no_main = λ y. refl;
+      reacts = λ y i. (let most = rises y i in omega (arith, most));
+      covered = λ y q other. omega arith;
       leaves = λ y c leaf at there. (let o = leaves y c leaf at there in let most = o.2 in (o.0, o.1, omega (arith, most)));
       pays = λ y c at service section. omega arith;
     }
 
-module _ (done : Often) (made left new : Requests) (system : System) (v w : World) (h : Counts done made left system v) (s : Spends system v w left new) where
+module _ (since : Since) (done : Often) (made left new : Requests) (system : System) (v w : World) (h : Counts since done made left system v)
+    (s : Spends system v w left new) where
   taken : (x : ℕ) (c : Component) (leaf : Leaf) → slice_get system.components x ≡ Some c → slice_get w.leaves x ≡ Some leaf
-      → leaf.steps + ahead leaf leaf.phase + steps_of (waiting w x) c.node.program.sections ≤ steps_of (λ q. done x q + s.more x q) c.node.program.sections
+      → leaf.steps + ahead leaf leaf.phase + steps_of (waiting w x) c.node.program.sections ≤ steps_taken since.world x + steps_of (λ q. done x q + s.more x q)
+      c.node.program.sections
   taken x c leaf at there =
       let o = s.leaves x c leaf at there in
       let most = o.2 in
@@ -158,23 +167,23 @@ module _ (done : Often) (made left new : Requests) (system : System) (v w : Worl
       omega (arith, most, before, same, a, b, c)
 
   -- so all is paid after it
-  pub spends_counts : Counts (λ y q. done y q + s.more y q) (λ y u q. made y u q + s.further y u q) new system w
+  pub spends_counts : Counts since (λ y q. done y q + s.more y q) (λ y u q. made y u q + s.further y u q) new system w
   spends_counts =
       record {
-        once = λ x. (let before = h.once x in let none = s.not_own x Main refl in omega (arith, before, none));
-        never = λ x i. (let before = h.never x i in let none = s.not_own x (Reacting i) refl in omega (arith, before, none));
+        once = λ x. (let before = h.once x in let none = s.no_main x in omega (arith, before, none));
+        reacted = λ x i. (let before = h.reacted x i in let more = s.reacts x i in omega (arith, before, more));
         taken = taken;
         asked = λ x section not_main.
             let provides = provided_by (slice_get system.components x) in
             let before = h.asked x section not_main in
-            let more = s.covered x section in
+            let more = s.covered x section not_main in
             let both = made_for_add system x section made s.further provides in
             omega (arith, before, more, both);
         requests = requests;
       }
 
   -- and a world that is typed is counted
-  pub spends_counted : (promised : ℕ → Option Kind) → IsTypedBy promised (Within system new) system w → IsCounted system w
+  pub spends_counted : (promised : ℕ → Option Kind) → IsTypedBy promised (Within system new) system w → IsCounted since system w
   spends_counted promised typed =
       record {
         promised = promised;

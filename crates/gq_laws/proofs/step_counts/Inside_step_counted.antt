@@ -16,14 +16,14 @@ use Rattle.gq_laws.specs.internal.Remaining.{left_requests}
 use Rattle.gq_laws.specs.internal.Remaining_instructions.{IsGood}
 use Rattle.gq_laws.specs.Inside_steps.{TakesLeaf, LeadsOn, KeepsSessionIn, LeavesOthers}
 use Rattle.gq_laws.specs.Typing.{IsTypedBy}
-use Rattle.gq_laws.specs.internal.Section_counts.{Often, Requests, ahead, served_at, waiting_in, Within, Counts, IsCounted}
+use Rattle.gq_laws.specs.internal.Section_counts.{Often, Requests, ahead, served_at, waiting_in, Within, Since, Counts, IsCounted}
 use Rattle.gq_model.proofs.Small_facts.{some_same}
 use Rattle.gq_laws.proofs.remaining_work.Move_step_count.{all_have_round, cost_move}
 use Rattle.gq_laws.proofs.remaining_work.Move_requests_left.{requests_moves}
 use Rattle.gq_laws.proofs.verified_programs.Sure_system_facts.{IsSure}
 use Rattle.gq_laws.proofs.typed_worlds.Inside_step_typed.{IsActive}
 use Rattle.gq_laws.proofs.typed_worlds.Typed_world_step.{Acts, goes_typed}
-use Rattle.gq_laws.proofs.step_counts.Counted_world_step.{waiting_all, Spends, quiet_spends, spends_counted}
+use Rattle.gq_laws.proofs.step_counts.Counted_world_step.{waiting_all, Rises, Spends, quiet_spends, spends_counted}
 
 -- LEAVES
 
@@ -58,10 +58,10 @@ kept_served current k (Some old) new h = ap served_at h.1 ∙ ap (λ (s : Sessio
 module _ (promised : ℕ → Option Kind) (left : Requests) (d : Doing) (sure : IsSure d.system) (takes : TakesLeaf d) (h : IsLinkedWorld d.system d.world)
     (t : IsTypedBy promised (Within d.system left) d.system d.world) (at : slice_get d.system.components d.x ≡ Some d.component)
     (own : IsOneOn d takes) (w : World) (stepped : (leaf : Leaf) → slice_get w.leaves d.x ≡ Some leaf
-    → leaf.steps ≡ d.leaf.steps) (a : Acts promised (Within d.system left) d) (others : LeavesOthers d w)
-    (leads : LeadsOn promised (context (subject d.system d.component) (section_of d.leaf.current)) a.state a.end d w) where
+    → leaf.steps ≡ d.leaf.steps) (rises : Rises d.world w) (a : Acts promised (Within d.system left) d) (others : LeavesOthers d w)
+    (leads : LeadsOn promised (context (subject d.system d.component) (section_of d.leaf.current d.leaf.reacting)) a.state a.end d w) where
   abbrev c : Context
-  c = context (subject d.system d.component) (section_of d.leaf.current)
+  c = context (subject d.system d.component) (section_of d.leaf.current d.leaf.reacting)
 
   here : (leaf : Leaf) → slice_get w.leaves d.x ≡ Some leaf → leaf.steps + ahead leaf leaf.phase ≤ takes.old.steps + ahead takes.old takes.old.phase
   here leaf there =
@@ -90,23 +90,24 @@ module _ (promised : ℕ → Option Kind) (left : Requests) (d : Doing) (sure : 
 
   spends : Spends d.system d.world w left left
   spends =
-      quiet_spends d.system d.world w left
+      quiet_spends d.system d.world w left rises
       (λ y q. ap (waiting_in w y q) others.requests ∙ waiting_all d.world w
       (λ j. kept_served d.leaf.current j (session_at d.world j) (session_at w j) (others.sessions j)) d.world.requests y q)
       leaves
 
   -- no more requests are left
-  within_left : Within d.system left d.x (section_of d.leaf.current) leads.state leads.leaf.todo leads.leaf.loops
+  within_left : Within d.system left d.x (section_of d.leaf.current d.leaf.reacting) leads.state leads.leaf.todo leads.leaf.loops
   within_left b placed service section =
       let same : d.component ≡ b = some_same (sym at ∙ placed) in
       let most = a.also d.component at service section in
       let fewer = requests_moves service section c a.state leads.state a.end d.leaf.todo leads.leaf.todo d.leaf.loops leads.leaf.loops
       (all_have_round (IsGood d.system d.component) d.leaf.todo a.good) a.goes_on leads.moves in
-      subst (λ b. left_requests service section (context (subject d.system b) (section_of d.leaf.current)) leads.state leads.leaf.todo leads.leaf.loops
+      subst (λ b. left_requests service section (context (subject d.system b) (section_of d.leaf.current d.leaf.reacting)) leads.state leads.leaf.todo
+      leads.leaf.loops
       ≤ left d.x service section) same (omega (arith, most, fewer))
 
-  pub goes_counted : (done : Often) (made : Requests) → Counts done made left d.system d.world → IsCounted d.system w
-  goes_counted done made counts =
-      spends_counted done made left left d.system d.world w counts spends promised
+  pub goes_counted : (since : Since) (done : Often) (made : Requests) → Counts since done made left d.system d.world → IsCounted since d.system w
+  goes_counted since done made counts =
+      spends_counted since done made left left d.system d.world w counts spends promised
       (goes_typed promised (Within d.system left) d sure takes h t at (Within d.system left)
       (λ y section state todo loops ne b. b) w a others leads within_left)

@@ -18,7 +18,7 @@ use Rattle.gq_laws.specs.internal.Remaining.{left_requests}
 use Rattle.gq_laws.specs.Inside_steps.{TakesLeaf}
 use Rattle.gq_laws.specs.Typing.{IsTypedBy}
 use Rattle.gq_laws.specs.internal.Carrying.{Carries}
-use Rattle.gq_laws.specs.internal.Section_counts.{Often, Requests, ahead, one_at, served_at, asks_at, waiting_in, waiting, Within, Counts, IsCounted}
+use Rattle.gq_laws.specs.internal.Section_counts.{Often, Requests, ahead, one_at, served_at, asks_at, waiting_in, waiting, Within, Since, Counts, IsCounted}
 use Rattle.gq_laws.proofs.step_shapes.Step_end_shapes.{Ends, gives, need_found, when_ends}
 use Rattle.gq_model.proofs.Small_facts.{some_same}
 use Rattle.gq_laws.proofs.session_links.Asked_request_changes.{one_one}
@@ -28,7 +28,8 @@ use Rattle.gq_laws.proofs.remaining_work.Move_requests_left.{requests_start}
 use Rattle.gq_laws.proofs.verified_programs.Sure_system_facts.{IsSure}
 use Rattle.gq_laws.proofs.typed_worlds.Typed_world_step.{taken_typed}
 use Rattle.gq_laws.proofs.step_counts.Section_request_sums.{steps_one, from_one}
-use Rattle.gq_laws.proofs.step_counts.Counted_world_step.{waiting_else, waiting_oldest, Spends, spends_counted}
+use Rattle.gq_laws.proofs.step_counts.Counted_world_step.{waiting_else, waiting_oldest, Rises, Spends, spends_counted}
+use Rattle.gq_laws.proofs.step_counts.Section_begun_counted.{Begun, leaves, new, pays, carries, within_new}
 use Rattle.gq_laws.proofs.step_counts.Inside_step_counted.{IsOneOn, one_on}
 use Rattle.gq_laws.proofs.typed_worlds.Accepted_request_typed.{accepted_section}
 
@@ -83,7 +84,7 @@ starts d takes r rest =
 
 module _ (promised : ℕ → Option Kind) (left : Requests) (d : Doing) (sure : IsSure d.system) (takes : TakesLeaf d) (h : IsLinkedWorld d.system d.world)
     (t : IsTypedBy promised (Within d.system left) d.system d.world) (at : slice_get d.system.components d.x ≡ Some d.component)
-    (own : IsOneOn d takes) (w : World) (serves : d.leaf.phase ≡ Serving) (r : Request) (rest : List Request)
+    (own : IsOneOn d takes) (w : World) (rises : Rises d.world w) (serves : d.leaf.phase ≡ Serving) (r : Request) (rest : List Request)
     (first : oldest d.world d.x d.world.requests ≡ Some (r, rest)) (s : Starts d r rest w) where
   abbrev k : ℕ
   k = r.session
@@ -99,7 +100,8 @@ module _ (promised : ℕ → Option Kind) (left : Requests) (d : Doing) (sure : 
 
   server : s.old.server ≡ d.x
   server = server_is d
-      (record { old = takes.old; there = takes.there; slots = takes.slots; phase = takes.phase; current = takes.current }) h serves r rest found
+      (record { old = takes.old; there = takes.there; slots = takes.slots; phase = takes.phase; current = takes.current; reacting = takes.reacting }) h serves
+      r rest found
       s.old s.was
 
   -- it is the one request of its session
@@ -119,108 +121,52 @@ module _ (promised : ℕ → Option Kind) (left : Requests) (d : Doing) (sure : 
       ap (λ o. asks_at r.ask (served_at o) y q) s.was ∙ ap (λ z. one_at z section y q) server in
       omega (arith, now, was, its)
 
-  -- STEPS
+  begun : Begun d section w
+  begun =
+      record {
+        list = s.list;
+        listed = s.listed;
+        costs = cost_of r.ask (level_then r.ask s.old.level) s.list;
+        leaf = s.leaf;
+        there = s.there;
+        steps = s.steps;
+        whole = s.whole;
+        leaves = s.leaves;
+      }
 
-  here : (c : Component) (leaf : Leaf) → d.component ≡ c → s.leaf ≡ leaf
-      → leaf.steps + ahead leaf leaf.phase ≤ takes.old.steps + ahead takes.old takes.old.phase + steps_of (one_at d.x section d.x) c.node.program.sections
-  here c leaf component same =
-      let steps : leaf.steps ≡ d.leaf.steps = ap (λ (l : Leaf). l.steps) (sym same) ∙ s.steps in
-      let now : ahead leaf leaf.phase ≡ cost s.list + 1 = ap (λ (l : Leaf). ahead l l.phase) (sym same) ∙ s.whole in
-      let one = one_on d takes own in
-      let pays = steps_one d.x section c.node.program.sections s.list
-      (subst (λ (c : Component). section_in section c.node.program.sections ≡ Some s.list) component s.listed) in
-      let costs = cost_of r.ask (level_then r.ask s.old.level) s.list in
-      omega (arith, steps, now, one, pays, costs)
+  abbrev then_left : Requests
+  then_left = new left d takes at own w section begun
 
-  leaves : (y : ℕ) (c : Component) (leaf : Leaf) → slice_get d.system.components y ≡ Some c → slice_get w.leaves y ≡ Some leaf
-      → (old : Leaf) × (slice_get d.world.leaves y ≡ Some old)
-      × (leaf.steps + ahead leaf leaf.phase ≤ old.steps + ahead old old.phase + steps_of (one_at d.x section y) c.node.program.sections)
-  leaves y c leaf placed there =
-      elim (eqb_tells y d.x) [
-        | inl e ↦ (
-          takes.old,
-          ap (slice_get d.world.leaves) e.1 ∙ takes.there,
-          subst (λ z. leaf.steps + ahead leaf leaf.phase ≤ takes.old.steps + ahead takes.old takes.old.phase + steps_of
-              (one_at d.x section z) c.node.program.sections) (sym e.1)
-              (here c leaf (some_same (sym at ∙ (ap (slice_get d.system.components) (sym e.1) ∙ placed)))
-              (some_same (sym s.there ∙ (ap (slice_get w.leaves) (sym e.1) ∙ there)))),
-        )
-        | inr e ↦ (leaf, sym (s.leaves y e.1) ∙ there, omega arith)
-      ]
-
-  -- REQUESTS THAT ARE LEFT
-
-  new : Requests
-  new y service q = cond (y == d.x) (section_requests v section service q) (left y service q)
-
-  new_else : (y : ℕ) → y ≢ d.x → (service : List ℕ) (q : Section) → new y service q ≡ left y service q
-  unfolding new
-  new_else y ne service q = elim (eqb_tells y d.x) [
-    | inl e ↦ absurd (ne e.1)
-    | inr e ↦ ap (λ b. cond b (section_requests v section service q) (left y service q)) e.0
-  ]
-
-  new_here : (y : ℕ) → y ≡ d.x → (service : List ℕ) (q : Section) → new y service q ≡ section_requests v section service q
-  unfolding new
-  new_here y same service q = elim (eqb_tells y d.x) [
-    | inl e ↦ ap (λ b. cond b (section_requests v section service q) (left y service q)) e.0
-    | inr e ↦ absurd (e.1 same)
-  ]
-
-  pays : (y : ℕ) (c : Component) → slice_get d.system.components y ≡ Some c → (service : List ℕ) (q : Section)
-      → 0 + new y service q ≤ left y service q + from_sections (one_at d.x section y) (subject d.system c) service q c.node.program.sections
-  pays y c placed service q =
-      elim (eqb_tells y d.x) [
-        | inl e ↦ (
-            let component : d.component ≡ c = some_same (sym at ∙ (ap (slice_get d.system.components) (sym e.1) ∙ placed)) in
-            let one : section_requests v section service q ≤ from_sections (one_at d.x section y) (subject d.system c) service q c.node.program.sections =
-            subst (λ z. section_requests v section service q ≤ from_sections (one_at d.x section z) (subject d.system c) service q c.node.program.sections)
-            (sym e.1)
-            (subst (λ c. section_requests v section service q ≤ from_sections (one_at d.x section d.x) (subject d.system c) service q c.node.program.sections)
-            component (from_one d.x section v service q d.component.node.program.sections s.list s.listed)) in
-            let is = new_here y e.1 service q in
-            omega (arith, one, is)
-            )
-        | inr e ↦ (let is = new_else y e.1 service q in omega (arith, is))
-      ]
-
-  spends : Spends d.system d.world w left new
+  spends : Spends d.system d.world w left then_left
   spends = record {
     begun = one_at d.x section;
     more = λ y q. 0;
     further = λ y service q. 0;
     waits = waits;
-    not_own = λ y q own. refl;
-    covered = λ y q. omega arith;
-    leaves = leaves;
-    pays = pays;
+    no_main = λ y. refl;
+    reacts = λ y i. (let most = rises y i in omega (arith, most));
+    covered = λ y q other. omega arith;
+    leaves = leaves left d takes at own w section begun;
+    pays = pays left d takes at own w section begun;
   }
 
-  carries : Carries d.x (Within d.system left) (Within d.system new)
-  carries y from state todo loops ne b c placed service q = let most = b c placed service q in let is = new_else y ne service q in omega (arith, most, is)
+  within_then : (old : Session) → session_at d.world k ≡ Some old
+      → Within d.system then_left d.x (asked_section r.ask old) (start_of v (asked_section r.ask old)) (body v (asked_section r.ask old)) []
+  within_then old there = subst (λ old. Within d.system then_left d.x (asked_section r.ask old) (start_of v (asked_section r.ask old))
+      (body v (asked_section r.ask old)) []) (some_same (sym s.was ∙ there)) (within_new left d takes at own w section begun)
 
-  within_new : (old : Session) → session_at d.world k ≡ Some old
-      → Within d.system new d.x (asked_section r.ask old) (start_of v (asked_section r.ask old)) (body v (asked_section r.ask old)) []
-  within_new old there = subst (λ old. Within d.system new d.x (asked_section r.ask old) (start_of v (asked_section r.ask old))
-      (body v (asked_section r.ask old)) []) (some_same (sym s.was ∙ there)) by
-    where
-      by : Within d.system new d.x section (start_of v section) (body v section) []
-      by c placed service q =
-          let whole = requests_start service q (context v section) (start_of v section) (body v section) refl in
-          let is = new_here d.x refl service q in
-          subst (λ c. left_requests service q (context (subject d.system c) section) (start_of v section) (body v section) [] ≤ new d.x service q)
-          (some_same (sym at ∙ placed)) (omega (arith, whole, is))
-
-  taken_by : (event : Event) → accept d r rest ≡ Ok (w, event) → (done : Often) (made : Requests) → Counts done made left d.system d.world
-      → IsCounted d.system w
-  taken_by event is done made counts =
-      spends_counted done made left new d.system d.world w counts spends promised
-      (taken_typed promised (Within d.system left) d sure takes h t at (Within d.system new) carries w serves r rest first event is within_new)
+  taken_by : (event : Event) → accept d r rest ≡ Ok (w, event) → (since : Since) (done : Often) (made : Requests)
+      → Counts since done made left d.system d.world → IsCounted since d.system w
+  taken_by event is since done made counts =
+      spends_counted since done made left then_left d.system d.world w counts spends promised
+      (taken_typed promised (Within d.system left) d sure takes h t at (Within d.system then_left)
+      (carries left d takes at own w section begun) w serves r rest first event is within_then)
 
 pub taken_counted : (promised : ℕ → Option Kind) (left : Requests) (d : Doing) → IsSure d.system → (takes : TakesLeaf d) → IsLinkedWorld d.system d.world
     → IsTypedBy promised (Within d.system left) d.system d.world → slice_get d.system.components d.x ≡ Some d.component
-    → IsOneOn d takes → (w : World) → d.leaf.phase ≡ Serving → (r : Request) (rest : List Request) → oldest d.world d.x d.world.requests ≡ Some (r, rest)
+    → IsOneOn d takes → (w : World) → Rises d.world w → d.leaf.phase ≡ Serving → (r : Request) (rest : List Request)
+    → oldest d.world d.x d.world.requests ≡ Some (r, rest)
     → (event : Event) → accept d r rest ≡ Ok (w, event)
-    → (done : Often) (made : Requests) → Counts done made left d.system d.world → IsCounted d.system w
-taken_counted promised left d sure takes h t at own w serves r rest first event is done made counts =
-    taken_by promised left d sure takes h t at own w serves r rest first ((starts d takes r rest).holds w event is) event is done made counts
+    → (since : Since) (done : Often) (made : Requests) → Counts since done made left d.system d.world → IsCounted since d.system w
+taken_counted promised left d sure takes h t at own w rises serves r rest first event is since done made counts =
+    taken_by promised left d sure takes h t at own w rises serves r rest first ((starts d takes r rest).holds w event is) event is since done made counts

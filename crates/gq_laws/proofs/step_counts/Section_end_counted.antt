@@ -20,7 +20,7 @@ use Rattle.gq_laws.specs.Typed.{Meets}
 use Rattle.gq_laws.specs.Inside_steps.{TakesLeaf}
 use Rattle.gq_laws.specs.Reply_stances.{HasEnded, Replies, slot_replied, own_then, resuming}
 use Rattle.gq_laws.specs.Typing.{IsTypedBy}
-use Rattle.gq_laws.specs.internal.Section_counts.{Often, Requests, ahead, served_at, waiting_in, Within, Counts, IsCounted}
+use Rattle.gq_laws.specs.internal.Section_counts.{Often, Requests, ahead, served_at, waiting_in, Within, Since, Counts, IsCounted}
 use Rattle.gq_laws.proofs.step_shapes.Step_end_shapes.{Ends, gives, when_ends}
 use Rattle.gq_model.proofs.Small_facts.{some_same, none_some}
 use Rattle.gq_laws.proofs.session_links.Written_world_links.{set_here, set_else}
@@ -30,7 +30,7 @@ use Rattle.gq_laws.proofs.typed_worlds.Typed_world_promises.{stood}
 use Rattle.gq_laws.proofs.session_links.Linked_after_reply.{session_of_outline}
 use Rattle.gq_laws.proofs.typed_worlds.Reply_typed.{no_request}
 use Rattle.gq_laws.proofs.typed_worlds.Typed_world_step.{Acts, handling, ended_typed}
-use Rattle.gq_laws.proofs.step_counts.Counted_world_step.{then_served, waiting_else, Spends, quiet_spends, spends_counted}
+use Rattle.gq_laws.proofs.step_counts.Counted_world_step.{then_served, waiting_else, Rises, Spends, quiet_spends, spends_counted}
 use Rattle.gq_laws.proofs.step_counts.Inside_step_counted.{all_left, IsOneOn, one_on, was_ahead}
 
 -- a leaf that takes what another had left, and no more
@@ -89,37 +89,54 @@ module _ (left : Requests) (d : Doing) (takes : TakesLeaf d) where
           | inr e ↦ (leaf, sym (set_else d.world.leaves d.x y new e.1) ∙ there, omega arith)
         ]
 
-  main_spends : Costs (serving d.leaf) takes.old → Costs (exited d.leaf) takes.old → (provides : Option (List ℕ))
-      → Ends (λ w. Spends d.system d.world w left left) (main_ended d provides)
-  main_spends serves exits (Some service) = gives _ Quiet
-      (quiet_spends d.system d.world (standing d (serving d.leaf)) left (λ y q. refl)
-      (λ y c leaf at there. standing_leaves (serving d.leaf) serves y leaf there))
-  main_spends serves exits None =
-      when_ends (λ w. Spends d.system d.world w left left) _ _ _
-      (gives (exit_of d) Finished (quiet_spends d.system d.world (exit_of d) left (λ y q. refl) (λ y c leaf at there.
+  -- no signal was taken more often before
+  abbrev SpendsRising : World → Type 0
+  SpendsRising w = Rises d.world w → Spends d.system d.world w left left
+
+  serving_spends : Costs (serving d.leaf) takes.old → SpendsRising (standing d (serving d.leaf))
+  serving_spends serves rises = quiet_spends d.system d.world (standing d (serving d.leaf)) left rises (λ y q. refl)
+      (λ y c leaf at there. standing_leaves (serving d.leaf) serves y leaf there)
+
+  main_spends : Costs (serving d.leaf) takes.old → Costs (exited d.leaf) takes.old → (provides : Option (List ℕ)) (signals : ℕ)
+      → Ends SpendsRising (main_ended d provides signals)
+  main_spends serves exits (Some service) signals = gives _ Quiet (serving_spends serves)
+  main_spends serves exits None (suc n) = gives _ Quiet (serving_spends serves)
+  main_spends serves exits None zero =
+      when_ends SpendsRising _ _ _
+      (gives (exit_of d) Finished (λ rises. quiet_spends d.system d.world (exit_of d) left rises (λ y q. refl) (λ y c leaf at there.
       let o = released_back d.component.node.name d.system.components (standing d (exited d.leaf)).leaves y leaf there in
       let u = standing_leaves (exited d.leaf) exits y o.0 o.1 in
       let a = o.2 in
       let b = u.2 in
       (u.0, u.1, omega (arith, a, b)))))
 
+-- a section of the leaf's own has ended
+module _ (left : Requests) (d : Doing) (takes : TakesLeaf d) where
+  own_spends : Costs (serving d.leaf) takes.old → Costs (exited d.leaf) takes.old → (reacting : Option ℕ)
+      → Ends (SpendsRising left d takes) (section_ended d None reacting)
+  own_spends serves exits None = main_spends left d takes serves exits d.component.node.provides d.component.node.signals
+  own_spends serves exits (Some i) = gives _ Quiet (serving_spends left d takes serves)
+
 -- REPLIES
 
 -- a client that waited goes on with what it had left
 resuming_costs : (leaf : Leaf) (operands : List ℕ) (slots : List Slot) → leaf.phase ≡ Blocked → Costs (resuming leaf operands slots) leaf
-resuming_costs leaf operands slots blocked = by leaf.current
+resuming_costs leaf operands slots blocked = by leaf.current leaf.reacting
   where
     was : ahead leaf leaf.phase ≡ all_left leaf
     was = ap (ahead leaf) blocked
 
-    by : (current : Option Current) → leaf.steps + ahead (record leaf { phase = resumed current; operands = operands; slots = slots }) (resumed current)
+    by : (current : Option Current) (reacting : Option ℕ) → leaf.steps + ahead
+        (record leaf { phase = resumed current reacting; operands = operands; slots = slots }) (resumed current reacting)
         ≤ leaf.steps + ahead leaf leaf.phase
-    by None = omega (arith, was)
-    by (Some g) = omega (arith, was)
+    by None None = omega (arith, was)
+    by None (Some i) = omega (arith, was)
+    by (Some g) reacting = omega (arith, was)
 
 module _ (promised : ℕ → Option Kind) (left : Requests) (d : Doing) (sure : IsSure d.system) (takes : TakesLeaf d) (h : IsLinkedWorld d.system d.world)
     (t : IsTypedBy promised (Within d.system left) d.system d.world) (at : slice_get d.system.components d.x ≡ Some d.component)
-    (own : IsOneOn d takes) (w : World) (a : Acts promised (Within d.system left) d) (nothing : d.leaf.todo ≡ Done) (out : d.leaf.loops ≡ []) where
+    (own : IsOneOn d takes) (w : World) (rises : Rises d.world w) (a : Acts promised (Within d.system left) d) (nothing : d.leaf.todo ≡ Done)
+    (out : d.leaf.loops ≡ []) where
   -- the section's end is left
   one_left : all_left d.leaf ≡ 1
   one_left = (λ i. cost (nothing i) + rounds_cost (out i) + 1)
@@ -156,25 +173,27 @@ module _ (promised : ℕ → Option Kind) (left : Requests) (d : Doing) (sure : 
 
     reply_spends : Spends d.system d.world w left left
     reply_spends =
-        quiet_spends d.system d.world w left
+        quiet_spends d.system d.world w left rises
         (λ y q. ap (waiting_in w y q) r.2.requests ∙ waiting_else d.world w g.session (λ j ne. ap served_at (r.2.sessions j ne)
         ∙ then_served s.slot_id _ j (session_at d.world j)) d.world.requests
         (no_request promised (Within d.system left) d sure takes h t at
         (handling promised (Within d.system left) d sure takes h t at g mine a.active) g s mine found) y q)
         (λ y c leaf placed there. leaves y leaf there)
 
-  reply_ended : (last : AbstractState) → Meets promised (context (subject d.system d.component) (section_of d.leaf.current)) a.end d.world d.leaf
-      → section_end (subject d.system d.component) (section_of d.leaf.current) a.end ≡ Ok last
-      → (g : Current) → d.leaf.current ≡ Some g → (event : Event) → section_ended d d.leaf.current ≡ Ok (w, event) → Spends d.system d.world w left left
+  reply_ended : (last : AbstractState) → Meets promised (context (subject d.system d.component) (section_of d.leaf.current d.leaf.reacting)) a.end d.world
+      d.leaf
+      → section_end (subject d.system d.component) (section_of d.leaf.current d.leaf.reacting) a.end ≡ Ok last
+      → (g : Current) → d.leaf.current ≡ Some g → (event : Event) → section_ended d d.leaf.current d.leaf.reacting ≡ Ok (w, event)
+      → Spends d.system d.world w left left
   reply_ended last meets ends g mine event is =
       let handles = handling promised (Within d.system left) d sure takes h t at g mine a.active in
       let handled = h.handles d.x d.leaf.phase g (stood d takes ∙ ap (λ o. Some (stance d.leaf.phase o)) mine) in
       let s = session_of_outline (session_at d.world g.session) handled.0 handled.1 in
       let c : Context = context (subject d.system d.component) g.section in
       let m : Meets promised c a.end d.world d.leaf = subst
-      (λ o. Meets promised (context (subject d.system d.component) (section_of o)) a.end d.world d.leaf) mine meets in
+      (λ o. Meets promised (context (subject d.system d.component) (section_of o d.leaf.reacting)) a.end d.world d.leaf) mine meets in
       let last_is : section_end (subject d.system d.component) g.section a.end ≡ Ok last =
-      subst (λ o. section_end (subject d.system d.component) (section_of o) a.end ≡ Ok last) mine ends in
+      subst (λ o. section_end (subject d.system d.component) (section_of o d.leaf.reacting) a.end ≡ Ok last) mine ends in
       let ended : HasEnded promised c a.end d g s.0 w = record {
         meets = m;
         last = last;
@@ -186,19 +205,20 @@ module _ (promised : ℕ → Option Kind) (left : Requests) (d : Doing) (sure : 
       } in
       reply_spends g s.0 mine s.1 (c, a.end, replies_ruled promised c d takes h handles a.end g s.0 w ended)
 
-  spends : (last : AbstractState) → Meets promised (context (subject d.system d.component) (section_of d.leaf.current)) a.end d.world d.leaf
-      → section_end (subject d.system d.component) (section_of d.leaf.current) a.end ≡ Ok last
-      → (current : Option Current) → d.leaf.current ≡ current → (event : Event) → section_ended d d.leaf.current ≡ Ok (w, event)
+  spends : (last : AbstractState) → Meets promised (context (subject d.system d.component) (section_of d.leaf.current d.leaf.reacting)) a.end d.world d.leaf
+      → section_end (subject d.system d.component) (section_of d.leaf.current d.leaf.reacting) a.end ≡ Ok last
+      → (current : Option Current) → d.leaf.current ≡ current → (event : Event) → section_ended d d.leaf.current d.leaf.reacting ≡ Ok (w, event)
       → Spends d.system d.world w left left
-  spends last meets ends None mine event is = (main_spends left d takes serves exits d.component.node.provides).holds w event
-      (subst (λ o. section_ended d o ≡ Ok (w, event)) mine is)
+  spends last meets ends None mine event is = (own_spends left d takes serves exits d.leaf.reacting).holds w event
+      (subst (λ o. section_ended d o d.leaf.reacting ≡ Ok (w, event)) mine is) rises
   spends last meets ends (Some g) mine event is = reply_ended last meets ends g mine event is
 
-  pub ended_counted : (last : AbstractState) → Meets promised (context (subject d.system d.component) (section_of d.leaf.current)) a.end d.world d.leaf
-      → section_end (subject d.system d.component) (section_of d.leaf.current) a.end ≡ Ok last
-      → (event : Event) → section_ended d d.leaf.current ≡ Ok (w, event) → (done : Often) (made : Requests) → Counts done made left d.system d.world
-      → IsCounted d.system w
-  ended_counted last meets ends event is done made counts =
-      spends_counted done made left left d.system d.world w counts (spends last meets ends d.leaf.current refl event is) promised
+  pub ended_counted : (last : AbstractState) → Meets promised (context (subject d.system d.component) (section_of d.leaf.current d.leaf.reacting)) a.end
+      d.world d.leaf
+      → section_end (subject d.system d.component) (section_of d.leaf.current d.leaf.reacting) a.end ≡ Ok last
+      → (event : Event) → section_ended d d.leaf.current d.leaf.reacting ≡ Ok (w, event) → (since : Since) (done : Often) (made : Requests)
+      → Counts since done made left d.system d.world → IsCounted since d.system w
+  ended_counted last meets ends event is since done made counts =
+      spends_counted since done made left left d.system d.world w counts (spends last meets ends d.leaf.current refl event is) promised
       (ended_typed promised (Within d.system left) d sure takes h t at (Within d.system left)
       (λ y section state todo loops ne b. b) w d.leaf.current refl a last meets ends event is)

@@ -22,7 +22,7 @@ pub times_plus : (a b n : ℕ) → (a + b) * n ≡ a * n + b * n
 times_plus zero b n = omega arith
 times_plus (suc a) b n = let further = times_plus a b n in omega (arith, further)
 
-times_below : (a b n : ℕ) → a ≤ b → a * n ≤ b * n
+pub times_below : (a b n : ℕ) → a ≤ b → a * n ≤ b * n
 times_below a b n h =
     let same : b ≡ a + (b - a) = omega (arith, h) in
     let more = ap (λ m. m * n) same ∙ times_plus a (b - a) n in

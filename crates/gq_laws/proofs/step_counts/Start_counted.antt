@@ -13,7 +13,7 @@ use Rattle.gq_model.specs.rules.Flow.{flow, context, body, start_of}
 use Rattle.gq_model.specs.rules.Budgets.{cost, section_cost, section_requests}
 use Rattle.gq_model.specs.rules.Use.{subject, from_sections, steps_of}
 use Rattle.gq_laws.specs.internal.Remaining.{left_requests}
-use Rattle.gq_laws.specs.internal.Section_counts.{Often, Requests, ahead, one_at, waiting, Within, Counts, IsCounted}
+use Rattle.gq_laws.specs.internal.Section_counts.{Often, Requests, ahead, one_at, waiting, Within, since_start, steps_taken, Counts, IsCounted}
 use Rattle.gq_model.proofs.Small_facts.{some_same}
 use Rattle.gq_laws.proofs.verified_programs.Accepted_program_facts.{main_there}
 use Rattle.gq_laws.proofs.remaining_work.Move_requests_left.{requests_start}
@@ -105,7 +105,8 @@ module _ (system : System) (sure : IsSure system) where
       omega (arith, whole, is))
 
   taken : (x : ℕ) (c : Component) (leaf : Leaf) → slice_get system.components x ≡ Some c → slice_get (start system).leaves x ≡ Some leaf
-      → leaf.steps + ahead leaf leaf.phase + steps_of (waiting (start system) x) c.node.program.sections ≤ steps_of (done x) c.node.program.sections
+      → leaf.steps + ahead leaf leaf.phase + steps_of (waiting (start system) x) c.node.program.sections ≤ steps_taken (start system) x + steps_of (done x)
+      c.node.program.sections
   unfolding done
   taken x c leaf placed there =
       let same = start_get system.components x c leaf placed there in
@@ -128,18 +129,18 @@ module _ (system : System) (sure : IsSure system) where
       let pays = from_one y Main (subject system c) service section c.node.program.sections l.0 l.1 in
       omega (arith, is, none, pays)
 
-  first_counts : Counts done (λ y service q. 0) left system (start system)
+  first_counts : Counts (since_start system) done (λ y service q. 0) left system (start system)
   unfolding done
   first_counts =
       record {
         once = λ x. (let one = one_here x Main in omega (arith, one));
-        never = λ x i. never_signalled x i;
+        reacted = λ x i. (let none = never_signalled x i in omega (arith, none));
         taken = taken;
         asked = λ x section other. (let none = not_main x section other in omega (arith, none));
         requests = requests;
       }
 
-  pub start_counted : IsCounted system (start system)
+  pub start_counted : IsCounted (since_start system) system (start system)
   start_counted = record {
     promised = nothing;
     done = done;

@@ -1,184 +1,184 @@
--- Each world that an accepted scenario comes to is counted: no leaf takes more steps than its budget.
-use Rattle.std.proofs.Common.{◌≡◌, ◌≤◌, ℕ, zero, suc, ◌+◌, cond, Bool, true, false, List, [], ◌∷◌, map, length, Option, Some, None, Ok, refl, ap, sym, ◌∙◌}
+-- No leaf takes more steps than its budget: for the start, and for the signals that were taken.
+use Rattle.std.proofs.Common.{◌≡◌, ◌≤◌, ℕ, zero, suc, ◌+◌, ◌*◌, ◌&&◌, cond, List, [], ◌∷◌, ◌++◌, length, Option, Some, None, refl, ap, sym, ◌∙◌}
 use Rattle.std.proofs.Common.{subst, arith}
-use Rattle.std.specs.Prelude.{slice_get, slice_index}
+use Rattle.std.specs.Prelude.{slice_get, if◌then◌else◌}
 use Rattle.gq_model.specs.declared.section.Section.{Section}
 use Rattle.gq_model.specs.declared.section.Section.TheVariants.{Main, Reacting}
-use Rattle.gq_model.specs.machine.Scenario.{Scenario, System, Component, components, system}
-use Rattle.gq_model.specs.machine.Routes.{is_service, server_of}
-use Rattle.gq_model.specs.machine.World.{Leaf, World, start}
-use Rattle.gq_model.specs.machine.Doing.{Doing, Event, Stepped, Idle}
-use Rattle.gq_model.specs.machine.Step.{step_of, next}
-use Rattle.gq_model.specs.machine.Sections.{is_own_section}
-use Rattle.gq_model.specs.rules.Use.{subject, is_there, from_sections, from_leaves, asked_of, provided_by, times, step_budget}
-use Rattle.gq_laws.specs.Session_links.{IsLinkedWorld}
+use Rattle.gq_model.specs.machine.Scenario.{System, Component}
+use Rattle.gq_model.specs.machine.World.{Signal, Leaf, World}
+use Rattle.gq_model.specs.machine.Step_budgets.{taken_steps, reaction_steps}
+use Rattle.gq_model.specs.rules.Resolve.{cycle_fault}
+use Rattle.gq_model.specs.rules.Use.{Cause, The_start, A_signal, is_signal, times, steps_of, steps_for, steps_for_signals, steps_for_leaves, step_budget}
 use Rattle.gq_laws.specs.Shapes.{IsWholeWorld}
-use Rattle.gq_laws.specs.Sound_scenarios.{IsSound}
-use Rattle.gq_laws.specs.internal.Remaining_instructions.{AreLeft, IsGood}
-use Rattle.gq_laws.specs.Inside_steps.{TakesLeaf}
-use Rattle.gq_laws.specs.Turn_effects.{steps_of, can_run}
-use Rattle.gq_laws.specs.internal.Section_counts.{Often, Requests, made_from, made_for, Within, IsCounted}
-use Rattle.gq_model.proofs.Small_facts.{some_same, none_some, add_none, add_next}
-use Rattle.gq_laws.proofs.session_links.Written_world_links.{set_here}
-use Rattle.gq_laws.proofs.session_links.Linked_worlds.{kept_linked}
-use Rattle.gq_laws.proofs.quota_payment.Routed_server_provides.{server_provides}
-use Rattle.gq_model.proofs.Small_facts.{text_is}
-use Rattle.gq_laws.proofs.step_shapes.Step_counting.{counts_steps, stands_still}
-use Rattle.gq_laws.proofs.verified_programs.Sure_system_facts.{IsSure}
-use Rattle.gq_laws.proofs.verified_programs.Sound_systems.{sure_of}
-use Rattle.gq_laws.proofs.typed_worlds.Typed_world_step.{Outcome, Idles, Goes_on, Has_asked, Has_taken, Has_ended, outcome}
-use Rattle.gq_laws.proofs.typed_worlds.Accepted_run_typed.{counted}
-use Rattle.gq_laws.proofs.step_counts.Section_request_sums.{steps_below}
-use Rattle.gq_laws.proofs.step_counts.Inside_step_counted.{IsOneOn, goes_counted}
-use Rattle.gq_laws.proofs.step_counts.Section_end_counted.{ended_counted}
-use Rattle.gq_laws.proofs.step_counts.Request_taken_counted.{taken_counted}
-use Rattle.gq_laws.proofs.step_counts.Asking_counted.{ProvidesNamed, asked_counted}
-use Rattle.gq_laws.proofs.step_counts.Start_counted.{start_counted}
-use Rattle.gq_laws.proofs.step_shapes.Step_counting.{index_there}
+use Rattle.gq_laws.specs.internal.Section_counts.{Often, Since, steps_taken, times_taken, taken_of, taken_in, IsCounted}
+use Rattle.gq_model.proofs.Small_facts.{some_same, none_some, equal_self, add_none, add_next}
+use Rattle.gq_laws.proofs.verified_programs.Times_bound.{times_by, counts_bounded}
+use Rattle.gq_laws.proofs.step_counts.Section_request_sums.{times_plus, times_below, steps_below}
+use Rattle.gq_laws.proofs.step_counts.Cause_sums.{Causes, sum_of, times_all, steps_all}
+use Rattle.gq_laws.proofs.step_counts.Counted_worlds.{done_below}
 
--- STEPS ARE COUNTED
+-- SIGNALS AS CAUSES
 
-pub steps_at : (leaves : List Leaf) (x : ℕ) (leaf : Leaf) → slice_get leaves x ≡ Some leaf → slice_get (map (λ l. l.steps) leaves) x ≡ Some leaf.steps
-steps_at [] x leaf e = absurd (none_some e)
-steps_at (l ∷ rest) zero leaf e = ap (λ (l : Leaf). Some l.steps) (some_same e)
-steps_at (l ∷ rest) (suc x) leaf e = steps_at rest x leaf e
+-- each leaf has as many signals as its component
+abbrev HaveSignals : List Component → List Leaf → Type 0
+HaveSignals [] [] = Unit {0}
+HaveSignals [] (l ∷ ls) = ⊥
+HaveSignals (c ∷ cs) [] = ⊥
+HaveSignals (c ∷ cs) (l ∷ ls) = (length l.signals ≡ c.node.signals) × HaveSignals cs ls
 
--- the leaf that takes a step has one more
-one_more : (system : System) (w : World) (x : ℕ) (old : Leaf) → slice_get w.leaves x ≡ Some old → (new : World) (event : Event) → can_run system w x ≡ true
-    → next system w x ≡ Ok (new, event)
-    → (leaf : Leaf) → slice_get new.leaves x ≡ Some leaf → leaf.steps ≡ suc old.steps
-one_more system w x old was new event can stepped leaf there =
-    let all = counts_steps system w x new event can stepped in
-    let now : slice_get (steps_of new) x ≡ Some (suc (slice_index (steps_of w) x)) =
-    ap (λ l. slice_get l x) all ∙ set_here (steps_of w) x (suc (slice_index (steps_of w) x)) old.steps (steps_at w.leaves x old was) in
-    some_same (sym (steps_at new.leaves x leaf there) ∙ now) ∙ ap suc (index_there w.leaves x old was)
+-- a sum over two lists of causes
+sum_both : (causes more : Causes) (f : Cause → ℕ) → sum_of (causes ++ more) f ≡ sum_of causes f + sum_of more f
+sum_both [] more f = omega arith
+sum_both (c ∷ rest) more f = let further = sum_both rest more f in omega (arith, further)
 
--- WHAT A STEP DOES
+module _ (done : Often) where
+  -- the signals of the y-th leaf from the i-th on, each as often as its section was begun
+  abbrev of_signals : ℕ → ℕ → ℕ → Causes
+  of_signals y i zero = []
+  of_signals y i (suc n) = (done y (Reacting i), A_signal y i) ∷ of_signals y (suc i) n
 
-module _ (d : Doing) (sure : IsSure d.system) (named : ProvidesNamed d.system) (takes : TakesLeaf d) (h : IsLinkedWorld d.system d.world)
-    (at : slice_get d.system.components d.x ≡ Some d.component) (own : IsOneOn d takes)
-    (k : IsCounted d.system d.world) (w : World) (linked : IsLinkedWorld d.system w) (stepped : (leaf : Leaf) → slice_get w.leaves d.x ≡ Some leaf
-    → leaf.steps ≡ d.leaf.steps) where
-  outcome_counted : Outcome k.promised (Within d.system k.left) d w → IsCounted d.system w
-  outcome_counted (Idles same) = subst (IsCounted d.system) (sym same) k
-  outcome_counted (Goes_on a inside others leads event is) =
-      goes_counted k.promised k.left d sure takes h k.typed at own w stepped a others leads k.done k.made k.counts
-  outcome_counted (Has_asked a i rest first served new judges goes_on event is awaits) =
-      asked_counted k.promised k.left d sure named takes h k.typed at own w linked stepped a i rest first served new judges goes_on event is awaits k.done
-      k.made k.counts
-  outcome_counted (Has_taken serves r rest first event is) =
-      taken_counted k.promised k.left d sure takes h k.typed at own w serves r rest first event is k.done k.made k.counts
-  outcome_counted (Has_ended a nothing out last meets ends event is) =
-      ended_counted k.promised k.left d sure takes h k.typed at own w a nothing out last meets ends event is k.done k.made k.counts
+  -- those of the leaves from the y-th on
+  abbrev of_leaves : ℕ → List Component → Causes
+  of_leaves y [] = []
+  of_leaves y (c ∷ rest) = of_signals y 0 c.node.signals ++ of_leaves (suc y) rest
 
-same_world : {v w : World} {a b : Event} → ◌≡◌ {A = Stepped} (Ok (v, a)) (Ok (w, b)) → v ≡ w
-same_world e = ap (λ (p : World × Event). p.0) (same_ok e)
-  where
-    same_ok : {p q : World × Event} → ◌≡◌ {A = Stepped} (Ok p) (Ok q) → p ≡ q
-    same_ok e = cc
+  -- EACH SIGNAL'S SECTION IS AMONG THEM
 
--- one turn
-next_counted : (system : System) → IsSure system → ProvidesNamed system → (w : World) → IsWholeWorld system w → IsLinkedWorld system w
-    → AreLeft (IsGood system) system w
-    → IsCounted system w
-    → (x : ℕ) (new : World) (event : Event) → IsLinkedWorld system new → next system w x ≡ Ok (new, event) → IsCounted system new
-next_counted system sure named w whole h left k x new event linked stepped = turn (can_run system w x) refl
-  where
-    idle : next system w x ≡ Ok (w, Idle) → IsCounted system new
-    idle e = subst (IsCounted system) (same_world (sym e ∙ stepped)) k
+  -- 1 for the signal that makes this section run
+  abbrev runs : ℕ → ℕ → Cause → ℕ
+  runs x i cause = if is_signal cause x i then 1 else 0
 
-    by : can_run system w x ≡ true → (o : Option Component) → slice_get system.components x ≡ o → (p : Option Leaf) → slice_get w.leaves x ≡ p
-        → step_of system w x o p ≡ Ok (new, event) → IsCounted system new
-    by can None e p f g = subst (IsCounted system) (same_world g) k
-    by can (Some c) e None f g = subst (IsCounted system) (same_world g) k
-    by can (Some c) e (Some leaf) f g =
-        let d : Doing = record { system = system; world = w; x = x; component = c; leaf = record leaf { steps = suc leaf.steps } } in
-        let taken : TakesLeaf d = record { old = leaf; there = f; slots = refl; phase = refl; current = refl } in
-        let extra = Within system k.left in
-        let o = outcome k.promised extra d sure taken h k.typed e (left x c leaf e f).todo (whole.inputs x c leaf e f)
-        (counted k.promised extra system w x c leaf (suc leaf.steps) leaf.phase (k.typed.leaves x c leaf e f)) in
-        outcome_counted d sure named taken h e refl k new linked (one_more system w x leaf f new event can stepped) (o.ends new event g)
+  its_own : (y i : ℕ) → runs y i (A_signal y i) ≡ 1
+  its_own y i = (λ k. cond (equal_self y k && equal_self i k) 1 0)
 
-    turn : (b : Bool) → can_run system w x ≡ b → IsCounted system new
-    turn false can = idle (stands_still system w x can)
-    turn true can = by can (slice_get system.components x) refl (slice_get w.leaves x) refl stepped
+  -- a leaf that has taken none of these signals
+  cover_signals : (y i n : ℕ) (signals : List Signal) → length signals ≡ n → ((j : ℕ) → done y (Reacting (i + j)) ≤ times_taken signals j) → (j : ℕ)
+      → done y (Reacting (i + j)) ≤ sum_of (of_signals y i n) (runs y (i + j))
+  cover_signals y i zero [] e h j = h j
+  cover_signals y i zero (s ∷ rest) e h j = absurd (omega (arith, e))
+  cover_signals y i (suc n) [] e h j = absurd (omega (arith, e))
+  cover_signals y i (suc n) (s ∷ rest) e h zero =
+      let place : i + 0 ≡ i = sym (add_none i) in
+      let one : runs y (i + 0) (A_signal y i) ≡ 1 = ap (λ k. runs y k (A_signal y i)) place ∙ its_own y i in
+      let same = ap (λ k. done y (Reacting k)) place in
+      let whole : done y (Reacting i) * runs y (i + 0) (A_signal y i) ≡ done y (Reacting i) * 1 = ap (λ m. done y (Reacting i) * m) one in
+      omega (arith, same, whole)
+  cover_signals y i (suc n) (s ∷ rest) e h (suc j) =
+      let place : suc i + j ≡ i + suc j = add_next i j in
+      let further : done y (Reacting (i + suc j)) ≤ sum_of (of_signals y (suc i) n) (runs y (i + suc j)) =
+      subst (λ k. done y (Reacting k) ≤ sum_of (of_signals y (suc i) n) (runs y k)) place
+      (cover_signals y (suc i) n rest (omega (arith, e)) (λ k. subst (λ m. done y (Reacting m) ≤ times_taken rest k) (sym (add_next i k)) (h (suc k))) j) in
+      omega (arith, further)
 
--- THE WORLDS OF A SCENARIO
+  cover_leaves : (y : ℕ) (cs : List Component) (leaves : List Leaf) → HaveSignals cs leaves
+      → ((k i : ℕ) → done (y + k) (Reacting i) ≤ taken_of (slice_get leaves k) i) → (k i : ℕ)
+      → done (y + k) (Reacting i) ≤ sum_of (of_leaves y cs) (runs (y + k) i)
+  cover_leaves y [] [] have h k i = h k i
+  cover_leaves y [] (l ∷ ls) have h k i = absurd have
+  cover_leaves y (c ∷ cs) [] have h k i = absurd have
+  cover_leaves y (c ∷ cs) (l ∷ ls) have h zero i =
+      let place : y + 0 ≡ y = sym (add_none y) in
+      let same = ap (λ k. done k (Reacting i)) place in
+      let here : done y (Reacting i) ≤ sum_of (of_signals y 0 c.node.signals) (runs y i) =
+      subst (λ k. done y (Reacting k) ≤ sum_of (of_signals y 0 c.node.signals) (runs y k)) {x = 0 + i} (omega arith)
+      (cover_signals y 0 c.node.signals l.signals have.0 (λ j. subst (λ k. done y (Reacting k) ≤ times_taken l.signals j) {x = j} (omega arith)
+      (subst (λ m. done m (Reacting j) ≤ times_taken l.signals j) place (h 0 j))) i) in
+      let both : sum_of (of_leaves y (c ∷ cs)) (runs (y + 0) i) ≡ sum_of (of_signals y 0 c.node.signals) (runs y i) + sum_of (of_leaves (suc y) cs) (runs y i) =
+      ap (λ k. sum_of (of_leaves y (c ∷ cs)) (runs k i)) place ∙ sum_both (of_signals y 0 c.node.signals) (of_leaves (suc y) cs) (runs y i) in
+      omega (arith, same, here, both)
+  cover_leaves y (c ∷ cs) (l ∷ ls) have h (suc k) i =
+      let place : suc y + k ≡ y + suc k = add_next y k in
+      let further : done (y + suc k) (Reacting i) ≤ sum_of (of_leaves (suc y) cs) (runs (y + suc k) i) =
+      subst (λ m. done m (Reacting i) ≤ sum_of (of_leaves (suc y) cs) (runs m i)) place
+      (cover_leaves (suc y) cs ls have.1 (λ n j. subst (λ m. done m (Reacting j) ≤ taken_of (slice_get ls n) j) (sym (add_next y n)) (h (suc n) j)) k i) in
+      let both = sum_both (of_signals y 0 c.node.signals) (of_leaves (suc y) cs) (runs (y + suc k) i) in
+      omega (arith, further, both)
 
-provides_name : (provides : Option (List ℕ)) (service : List ℕ) → is_service provides service ≡ true → provides ≡ Some service
-provides_name None service e = absurd cc
-provides_name (Some own) service e = ap Some (text_is own service e)
+  -- THEY COST NO MORE THAN WHAT WAS TAKEN
 
-module _ (s : Scenario) (sound : IsSound s) where
-  sure : IsSure (system s)
-  sure = sure_of s sound
+  module _ (system : System) (x : ℕ) (c : Component) where
+    abbrev cost_of : Cause → ℕ
+    cost_of cause = steps_for cause system x c
 
-  named : ProvidesNamed (system s)
-  named x y c d service there routed at = provides_name d.node.provides service (server_provides s sound.formed.differ x y c d service there routed at)
+    pay_signals : (y i n : ℕ) (old new : List Signal) → length old ≡ n → length new ≡ n
+        → ((j : ℕ) → done y (Reacting (i + j)) + times_taken old j ≤ times_taken new j)
+        → sum_of (of_signals y i n) cost_of + taken_steps old (steps_for_signals system x c y i n) ≤ taken_steps new (steps_for_signals system x c y i n)
+    pay_signals y i zero [] [] e f h = omega arith
+    pay_signals y i zero [] (t ∷ new) e f h = absurd (omega (arith, f))
+    pay_signals y i zero (s ∷ old) new e f h = absurd (omega (arith, e))
+    pay_signals y i (suc n) [] new e f h = absurd (omega (arith, e))
+    pay_signals y i (suc n) (s ∷ old) [] e f h = absurd (omega (arith, f))
+    pay_signals y i (suc n) (s ∷ old) (t ∷ new) e f h =
+        let further = pay_signals y (suc i) n old new (omega (arith, e)) (omega (arith, f))
+        (λ j. subst (λ m. done y (Reacting m) + times_taken old j ≤ times_taken new j) (sym (add_next i j)) (h (suc j))) in
+        let first : done y (Reacting i) + s.taken ≤ t.taken =
+        subst (λ m. done y (Reacting m) + s.taken ≤ t.taken) (sym (add_none i)) (h 0) in
+        let cost = cost_of (A_signal y i) in
+        let here = times_below (done y (Reacting i) + s.taken) t.taken cost first in
+        let both = times_plus (done y (Reacting i)) s.taken cost in
+        omega (arith, further, here, both)
 
-  pub counted_on : (w : World) → IsWholeWorld (system s) w → IsLinkedWorld (system s) w → AreLeft (IsGood (system s)) (system s) w → IsCounted (system s) w
-      → (x : ℕ) (new : World) (event : Event) → next (system s) w x ≡ Ok (new, event) → IsCounted (system s) new
-  counted_on w whole linked left count x new event e =
-      next_counted (system s) sure named w whole linked left count x new event (kept_linked (system s) w x new event linked e) e
+    pay_leaves : (y : ℕ) (cs : List Component) (old new : List Leaf) → HaveSignals cs old → HaveSignals cs new
+        → ((k i : ℕ) → done (y + k) (Reacting i) + taken_of (slice_get old k) i ≤ taken_of (slice_get new k) i)
+        → sum_of (of_leaves y cs) cost_of + reaction_steps old (steps_for_leaves system x c y cs) ≤ reaction_steps new (steps_for_leaves system x c y cs)
+    pay_leaves y [] [] [] e f h = omega arith
+    pay_leaves y [] [] (m ∷ new) e f h = absurd f
+    pay_leaves y [] (l ∷ old) new e f h = absurd e
+    pay_leaves y (d ∷ cs) [] new e f h = absurd e
+    pay_leaves y (d ∷ cs) (l ∷ old) [] e f h = absurd f
+    pay_leaves y (d ∷ cs) (l ∷ old) (m ∷ new) e f h =
+        let further = pay_leaves (suc y) cs old new e.1 f.1
+        (λ k i. subst (λ n. done n (Reacting i) + taken_of (slice_get old k) i ≤ taken_of (slice_get new k) i) (sym (add_next y k)) (h (suc k) i)) in
+        let here = pay_signals y 0 d.node.signals l.signals m.signals e.0 f.0
+        (λ j. subst (λ k. done y (Reacting k) + times_taken l.signals j ≤ times_taken m.signals j) {x = j} (omega arith)
+        (subst (λ n. done n (Reacting j) + times_taken l.signals j ≤ times_taken m.signals j) (sym (add_none y)) (h 0 j))) in
+        let both = sum_both (of_signals y 0 d.node.signals) (of_leaves (suc y) cs) cost_of in
+        omega (arith, further, here, both)
 
-  pub counted_first : IsCounted (system s) (start (system s))
-  counted_first = start_counted (system s) sure
+-- WORLDS
 
--- REQUESTS ARE THOSE OF SECTIONS THAT WERE ASKED FOR
+have_signals : (cs : List Component) (leaves : List Leaf) → length leaves ≡ length cs
+    → ((k : ℕ) (c : Component) (l : Leaf) → slice_get cs k ≡ Some c → slice_get leaves k ≡ Some l → length l.signals ≡ c.node.signals) → HaveSignals cs leaves
+have_signals [] [] e h = tt
+have_signals [] (l ∷ ls) e h = absurd (omega (arith, e))
+have_signals (c ∷ cs) [] e h = absurd (omega (arith, e))
+have_signals (c ∷ cs) (l ∷ ls) e h = (h 0 c l refl refl, have_signals cs ls (omega (arith, e)) (λ k d m p q. h (suc k) d m p q))
 
-made_below : (system : System) (x : ℕ) (service : List ℕ) (section : Section) (done : Often) (made : Requests) (n : ℕ) (cs : List Component)
-    → ((k : ℕ) (c : Component) → slice_get cs k ≡ Some c
-    → made (n + k) service section ≤ from_sections (done (n + k)) (subject system c) service section c.node.program.sections)
-    → made_from made system x service section n cs ≤ from_leaves done system x service section n cs
-made_below system x service section done made n [] h = omega arith
-made_below system x service section done made n (c ∷ rest) h =
-    let further = made_below system x service section done made (suc n) rest
-    (λ k b e. subst (λ m. made m service section ≤ from_sections (done m) (subject system b) service section b.node.program.sections) (sym (add_next n k))
-    (h (suc k) b e)) in
-    let first = subst (λ m. made m service section ≤ from_sections (done m) (subject system c) service section c.node.program.sections) (sym (add_none n))
-    (h zero c refl) in
-    by (is_there x (server_of system c service)) first further
-  where
-    by : (b : Bool) → made n service section ≤ from_sections (done n) (subject system c) service section c.node.program.sections
-        → made_from made system x service section (suc n) rest ≤ from_leaves done system x service section (suc n) rest
-        → cond b (made n service section) 0 + made_from made system x service section (suc n) rest
-        ≤ cond b (from_sections (done n) (subject system c) service section c.node.program.sections) 0 + from_leaves done system x service section
-        (suc n) rest
-    by true first further = omega (arith, first, further)
-    by false first further = omega (arith, further)
+of_whole : (system : System) (w : World) → IsWholeWorld system w → HaveSignals system.components w.leaves
+of_whole system w h = have_signals system.components w.leaves h.count h.signals
 
-module _ (system : System) (w : World) (k : IsCounted system w) where
-  asked_below : (x : ℕ) (section : Section) (provides : Option (List ℕ)) → made_for k.made system x section provides ≤ asked_of k.done system x section provides
-  asked_below x section None = omega arith
-  asked_below x section (Some service) = made_below system x service section k.done k.made 0 system.components each
-    where
-      each : (y : ℕ) (c : Component) → slice_get system.components y ≡ Some c
-          → k.made (0 + y) service section ≤ from_sections (k.done (0 + y)) (subject system c) service section c.node.program.sections
-      each y c there =
-          let most = k.counts.requests y c there service section in
-          let same : y ≡ 0 + y = omega arith in
-          subst (λ m. k.made m service section ≤ from_sections (k.done m) (subject system c) service section c.node.program.sections) same (omega (arith, most))
+-- no leaf has taken more steps since then than for the starts of `main` and for the signals that were taken
+module _ (system : System) (resolved : cycle_fault system 0 system.components ≡ None) (since : Since) (before : IsWholeWorld system since.world) (w : World)
+    (whole : IsWholeWorld system w) (k : IsCounted since system w) where
+  abbrev n : ℕ
+  n = length system.components
 
-  -- a section other than `main` is asked for no more often than sections that were asked for ask for it
-  pub done_below : (x : ℕ) (section : Section) → is_own_section section ≡ false
-      → k.done x section ≤ asked_of k.done system x section (provided_by (slice_get system.components x))
-  done_below x section other =
-      let a = k.counts.asked x section other in
-      let b = asked_below x section (provided_by (slice_get system.components x)) in
-      omega (arith, a, b)
+  abbrev causes : Causes
+  causes = (since.starts, The_start) ∷ of_leaves k.done 0 system.components
 
--- BUDGETS
+  own_main : (x : ℕ) → k.done x Main ≤ sum_of causes (λ c. times 0 c system x Main)
+  own_main x = let most = k.counts.once x in let one : since.starts * 1 ≡ since.starts = omega arith in omega (arith, most, one)
 
--- no leaf takes more steps than its budget
-pub steps_within : (s : Scenario)
-    → (counts_bounded : (done : ℕ → Section → ℕ) → ((x : ℕ) → done x Main ≤ 1) → ((x i : ℕ) → done x (Reacting i) ≡ 0)
-    → ((x : ℕ) (section : Section) → is_own_section section ≡ false
-    → done x section ≤ asked_of done (system s) x section (provided_by (slice_get (components s) x)))
-    → (x : ℕ) (section : Section) → done x section ≤ times (length (components s)) (system s) x section)
-    → (w : World) → IsCounted (system s) w → (x : ℕ) (c : Component) (leaf : Leaf) → slice_get (components s) x ≡ Some c → slice_get w.leaves x ≡ Some leaf
-    → leaf.steps ≤ step_budget (system s) x c
-steps_within s counts_bounded w k x c leaf there at =
-    let taken = k.counts.taken x c leaf there at in
-    let bounded = counts_bounded k.done k.counts.once k.counts.never (done_below (system s) w k) x in
-    let most = steps_below (k.done x) (times (length (components s)) (system s) x) bounded c.node.program.sections in
-    omega (arith, taken, most)
+  own_signal : (x i : ℕ) → k.done x (Reacting i) ≤ sum_of causes (λ c. times 0 c system x (Reacting i))
+  own_signal x i =
+      let most : (y j : ℕ) → k.done (0 + y) (Reacting j) ≤ taken_in w y j =
+      λ y j. subst (λ z. k.done z (Reacting j) ≤ taken_in w y j) {x = y} (omega arith) (let all = k.counts.reacted y j in omega (arith, all)) in
+      let covered : k.done x (Reacting i) ≤ sum_of (of_leaves k.done 0 system.components) (runs k.done x i) =
+      subst (λ z. k.done z (Reacting i) ≤ sum_of (of_leaves k.done 0 system.components) (runs k.done z i)) {x = 0 + x} (omega arith)
+      (cover_leaves k.done 0 system.components w.leaves (of_whole system w whole) most x i) in
+      omega (arith, covered)
+
+  pub steps_since : (x : ℕ) (c : Component) (leaf : Leaf) → slice_get system.components x ≡ Some c → slice_get w.leaves x ≡ Some leaf
+      → leaf.steps + reaction_steps since.world.leaves (step_budget system x c).for_signals
+      ≤ steps_taken since.world x + since.starts * (step_budget system x c).from_start + reaction_steps w.leaves (step_budget system x c).for_signals
+  steps_since x c leaf there at =
+      let taken = k.counts.taken x c leaf there at in
+      let sections = c.node.program.sections in
+      let bounded = steps_below (k.done x) (times_by k.done n system x)
+      (counts_bounded system resolved k.done (done_below since system w k) x) sections in
+      let all = steps_below (times_by k.done n system x) (λ q. sum_of causes (λ d. times n d system x q))
+      (times_all system causes k.done own_main own_signal n x) sections in
+      let each = steps_all (λ d. times n d system x) causes sections in
+      let pays = pay_leaves k.done system x c 0 system.components since.world.leaves w.leaves (of_whole system since.world before) (of_whole system w whole)
+      (λ y i. subst (λ z. k.done z (Reacting i) + taken_in since.world y i ≤ taken_in w y i) {x = y} (omega arith) (k.counts.reacted y i)) in
+      omega (arith, taken, bounded, all, each, pays)

@@ -144,9 +144,11 @@ module _ (d : Doing) (P : World → Type 0) (written : (w : World) (slot_id : Sl
   reply_by k (Reacting i) s = fails _
 
   -- the end of a section, where the end of `main` is known
-  pub section_by : Ends P (main_ended d d.component.node.provides) → (current : Option Current) → Ends P (section_ended d current)
-  section_by main None = main
-  section_by main (Some current) = need_ends P (session_at d.world current.session) WrongKind _ (reply_by current.session current.section)
+  pub section_by : Ends P (main_ended d d.component.node.provides d.component.node.signals) → (current : Option Current) (reacting : Option ℕ)
+      → Ends P (section_ended d current reacting)
+  section_by main None None = main
+  section_by main None (Some i) = gives _ Quiet serves
+  section_by main (Some current) reacting = need_ends P (session_at d.world current.session) WrongKind _ (reply_by current.session current.section)
 
 -- REQUESTS THAT ARE ACCEPTED
 

@@ -2,7 +2,7 @@
 use Rattle.std.proofs.Common.{◌≡◌, ℕ, List, [], ◌∷◌, ◌++◌, None}
 use Rattle.std.specs.Prelude.{slice_set}
 use Rattle.gq_model.specs.declared.section.Section.{Section}
-use Rattle.gq_model.specs.declared.phase.Phase.TheVariants.{Running, Blocked, Handling}
+use Rattle.gq_model.specs.declared.phase.Phase.TheVariants.{Running, Blocked, Handling, Serving}
 use Rattle.gq_model.specs.machine.Program.{section_in, body_of}
 use Rattle.gq_model.specs.machine.World.{Empty, Waiting, SlotId, Session, Ask, Request, Leaf, World, with_leaf, with_session, with_slot}
 use Rattle.gq_model.specs.machine.Doing.{Doing, standing}
@@ -42,3 +42,6 @@ running_blocked e = cc
 
 pub handling_blocked : Handling ≡ Blocked → ⊥
 handling_blocked e = cc
+
+pub serving_blocked : Serving ≡ Blocked → ⊥
+serving_blocked e = cc

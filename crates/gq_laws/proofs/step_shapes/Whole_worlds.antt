@@ -3,23 +3,24 @@ use Rattle.std.proofs.Common.{◌≡◌, ℕ, zero, suc, ◌<◌, inl, inr, Bool
 use Rattle.std.proofs.Common.{refl, ap, sym, ◌∙◌, subst, arith}
 use Rattle.std.specs.Prelude.{slice_get, slice_index, slice_set, replicate}
 use Rattle.gq_tariff.specs.Prices.{classes}
-use Rattle.gq_model.specs.machine.Program.{Statements, Done, Do, If, Loop}
+use Rattle.gq_model.specs.machine.Program.{Statements, Done, Do, If, Loop, section_in}
 use Rattle.gq_model.specs.declared.program.OperandSlot.{OperandSlot}
 use Rattle.gq_model.specs.declared.program.Instruction.{Instruction}
 use Rattle.gq_model.specs.declared.phase.Phase.{Phase}
 use Rattle.gq_model.specs.declared.phase.Phase.TheVariants.{Pending, Running, Blocked, Serving, Handling, Exited}
-use Rattle.gq_model.specs.declared.fault.Wrong.TheVariants.{WrongKind}
+use Rattle.gq_model.specs.declared.fault.Wrong.TheVariants.{WrongKind, MissingSection}
 use Rattle.gq_model.specs.machine.Amounts.{amount}
 use Rattle.gq_model.specs.machine.Scenario.{System, Component, interface_in, open_caps}
 use Rattle.gq_model.specs.machine.Routes.{server_of}
 use Rattle.gq_model.specs.machine.World.{Slot, Waiting, SlotId, In_leaf, In_session, In_object, Session, Ask, Ask_open, Ask_upgrade, Ask_close, Ask_call}
+use Rattle.gq_model.specs.machine.World.{Signal}
 use Rattle.gq_model.specs.machine.World.{Request, Current, Round, Leaf, World, start_leaves, start, joined, session_at, slot_at, slot_id_of, with_leaf}
 use Rattle.gq_model.specs.machine.World.{with_session}
 use Rattle.gq_model.specs.machine.World.{with_slot, put_leaf_slot, put_session_slot, put_object}
 use Rattle.gq_model.specs.machine.Sums.{raised}
 use Rattle.gq_model.specs.machine.Doing.{Doing, Event, standing, settled}
 use Rattle.gq_model.specs.machine.Requests.{add_session, free_place, new_session, asked, open_session, upgrade}
-use Rattle.gq_model.specs.machine.Step.{instruct, oldest, accepted_as, accept, serving, active_again}
+use Rattle.gq_model.specs.machine.Step.{instruct, oldest, accepted_as, accept, serving, active_again, serve, first_signal}
 use Rattle.gq_model.specs.machine.Step.{unblocked, all_released, exited, exit_of, main_ended, section_ended, body_ended, perform}
 use Rattle.gq_model.specs.machine.Step.{accept_oldest, step_in, step_of, next}
 use Rattle.gq_laws.specs.Shapes.{Each, IsWholeLeaf, AreInputs, IsWholeSession, IsWholeWorld}
@@ -31,6 +32,9 @@ use Rattle.gq_laws.proofs.remaining_work.Remaining_program_statements.{set_get}
 use Rattle.std.proofs.lemmas.Option.{slice_get_within}
 use Rattle.gq_model.proofs.Component_laws.{server_below}
 use Rattle.gq_laws.proofs.step_shapes.Step_change_shapes.{instruct_by, section_by, accept_by}
+use Rattle.gq_model.specs.declared.section.Section.TheVariants.{Reacting}
+use Rattle.gq_laws.proofs.step_shapes.Signal_lists.{takes_first}
+use Rattle.std.proofs.lemmas.List.{length-replicate}
 
 -- LISTS
 
@@ -55,12 +59,13 @@ zeros_index (suc n) (suc i) = zeros_index n i
 zero_inputs : (greatest : List ℕ) → AreInputs greatest (replicate 8 0)
 zero_inputs greatest i n e = let zero = zeros_index 8 i in omega (arith, zero)
 
--- a leaf that is there after others are released was there before, with the same inputs
+-- a leaf that is there after others are released was there before, with the same inputs and signals
 released_inputs : (name : List ℕ) (cs : List Component) (leaves : List Leaf) (y : ℕ) (leaf : Leaf) → slice_get (all_released name cs leaves) y ≡ Some leaf
-    → (old : Leaf) × (slice_get leaves y ≡ Some old) × (old.inputs ≡ leaf.inputs)
-released_inputs name [] leaves y leaf e = (leaf, e, refl)
+    → (old : Leaf) × (slice_get leaves y ≡ Some old) × (old.inputs ≡ leaf.inputs) × (old.signals ≡ leaf.signals)
+released_inputs name [] leaves y leaf e = (leaf, e, refl, refl)
 released_inputs name (c ∷ cs) [] y leaf e = absurd (none_some e)
-released_inputs name (c ∷ cs) (l ∷ leaves) zero leaf e = (l, refl, ap (λ (l : Leaf). l.inputs) (some_same e))
+released_inputs name (c ∷ cs) (l ∷ leaves) zero leaf e =
+    (l, refl, ap (λ (l : Leaf). l.inputs) (some_same e), ap (λ (l : Leaf). l.signals) (some_same e))
 released_inputs name (c ∷ cs) (l ∷ leaves) (suc y) leaf e = released_inputs name cs leaves y leaf e
 
 -- WORLDS
@@ -72,35 +77,38 @@ module _ (system : System) where
   abbrev Whole : World → Type 0
   Whole w = IsWholeWorld system w
 
-  -- the x-th leaf may have these inputs
-  abbrev May : ℕ → List ℕ → Type 0
-  May x inputs = (c : Component) → slice_get system.components x ≡ Some c → AreInputs c.node.inputs inputs
+  -- the x-th leaf may have these inputs and signals
+  abbrev May : ℕ → Leaf → Type 0
+  May x leaf = (c : Component) → slice_get system.components x ≡ Some c → AreInputs c.node.inputs leaf.inputs × (length leaf.signals ≡ c.node.signals)
 
-  whole_leaf : (w : World) (x : ℕ) (leaf : Leaf) → Whole w → IsWholeLeaf leaf → May x leaf.inputs → Whole (with_leaf w x leaf)
+  whole_leaf : (w : World) (x : ℕ) (leaf : Leaf) → Whole w → IsWholeLeaf leaf → May x leaf → Whole (with_leaf w x leaf)
   whole_leaf w x leaf h fits may = record {
     count = length-set w.leaves x leaf ∙ h.count;
     leaves = each_set IsWholeLeaf w.leaves x leaf h.leaves fits;
-    inputs = each;
+    inputs = λ y c new placed e. (each y c new placed e).0;
+    signals = λ y c new placed e. (each y c new placed e).1;
     sessions = h.sessions;
   }
     where
       each : (y : ℕ) (c : Component) (new : Leaf) → slice_get system.components y ≡ Some c → slice_get (slice_set w.leaves x leaf) y ≡ Some new
-          → AreInputs c.node.inputs new.inputs
+          → AreInputs c.node.inputs new.inputs × (length new.signals ≡ c.node.signals)
       each y c new placed e =
           elim (set_get w.leaves x y leaf new e) [
-            | inl f ↦ subst (λ (l : Leaf). AreInputs c.node.inputs l.inputs) f.1 (may c (ap (slice_get system.components) (sym f.0) ∙ placed))
-            | inr f ↦ h.inputs y c new placed f
+            | inl f ↦ subst (λ (l : Leaf). AreInputs c.node.inputs l.inputs × (length l.signals ≡ c.node.signals)) f.1
+                (may c (ap (slice_get system.components) (sym f.0) ∙ placed))
+            | inr f ↦ (h.inputs y c new placed f, h.signals y c new placed f)
           ]
 
   -- what a leaf that is there has
-  may_still : (w : World) (x : ℕ) (leaf : Leaf) → Whole w → slice_get w.leaves x ≡ Some leaf → May x leaf.inputs
-  may_still w x leaf h there c placed = h.inputs x c leaf placed there
+  may_still : (w : World) (x : ℕ) (leaf : Leaf) → Whole w → slice_get w.leaves x ≡ Some leaf → May x leaf
+  may_still w x leaf h there c placed = (h.inputs x c leaf placed there, h.signals x c leaf placed there)
 
   whole_session : (w : World) (k : ℕ) (s : Session) → Whole w → IsWholeSession n (Some s) → Whole (with_session w k s)
   whole_session w k s h fits = record {
     count = h.count;
     leaves = h.leaves;
     inputs = h.inputs;
+    signals = h.signals;
     sessions =
         each_set (IsWholeSession n) w.sessions k (Some s) h.sessions fits;
   }
@@ -178,19 +186,25 @@ accepted_whole system Ask_upgrade m s h = h
 accepted_whole system Ask_close m s h = h
 accepted_whole system (Ask_call value) m s h = h
 
-asked_whole : (d : Doing) (w : World) (slot_id : SlotId) (k : ℕ) (ask : Ask) → IsWholeWorld d.system w → IsWholeLeaf d.leaf → May d.system d.x d.leaf.inputs
+asked_whole : (d : Doing) (w : World) (slot_id : SlotId) (k : ℕ) (ask : Ask) → IsWholeWorld d.system w → IsWholeLeaf d.leaf → May d.system d.x d.leaf
     → Ends (IsWholeWorld d.system) (asked d w slot_id k ask)
 asked_whole d w slot_id k ask hw fits may =
     let v = whole_slot d.system _ slot_id (Waiting k) (whole_leaf d.system w d.x _ hw fits may) in
-    when_ends (IsWholeWorld d.system) _ _ _ (gives _ _ (record { count = v.count; leaves = v.leaves; inputs = v.inputs; sessions = v.sessions }))
+    when_ends (IsWholeWorld d.system) _ _ _ (gives _ _ (record {
+      count = v.count;
+      leaves = v.leaves;
+      inputs = v.inputs;
+      signals = v.signals;
+      sessions = v.sessions;
+    }))
 
 -- a step of a whole leaf in a whole world
-module _ (d : Doing) (h : IsWholeWorld d.system d.world) (fits : IsWholeLeaf d.leaf) (may : May d.system d.x d.leaf.inputs)
+module _ (d : Doing) (h : IsWholeWorld d.system d.world) (fits : IsWholeLeaf d.leaf) (may : May d.system d.x d.leaf)
     (below : d.x < length d.system.components) where
   abbrev P : World → Type 0
   P w = IsWholeWorld d.system w
 
-  stands : (leaf : Leaf) → IsWholeLeaf leaf → May d.system d.x leaf.inputs → P (standing d leaf)
+  stands : (leaf : Leaf) → IsWholeLeaf leaf → May d.system d.x leaf → P (standing d leaf)
   stands leaf whole now = whole_leaf d.system d.world d.x leaf h whole now
 
   asked_ends : (w : World) (slot_id : SlotId) (k : ℕ) (ask : Ask) → P w → Ends P (asked d w slot_id k ask)
@@ -208,6 +222,7 @@ module _ (d : Doing) (h : IsWholeWorld d.system d.world) (fits : IsWholeLeaf d.l
         count = hw.count;
         leaves = hw.leaves;
         inputs = hw.inputs;
+        signals = hw.signals;
         sessions =
             each_added d.system session w.sessions hw.sessions (refl, below, there);
       }))))
@@ -222,12 +237,13 @@ module _ (d : Doing) (h : IsWholeWorld d.system d.world) (fits : IsWholeLeaf d.l
   instruct_ends i = instruct_by d P P h (whole_slot d.system) (whole_slot d.system)
       (λ w operands locals same hw. whole_leaf d.system w d.x _ hw (fits.0, same ∙ fits.1, fits.2, fits.3) may)
       (λ w operands hw. whole_leaf d.system w d.x _ hw fits may)
-      (λ w requests hw. record { count = hw.count; leaves = hw.leaves; inputs = hw.inputs; sessions = hw.sessions }) (whole_settled d.system d.x) i
+      (λ w requests hw. record { count = hw.count; leaves = hw.leaves; inputs = hw.inputs; signals = hw.signals; sessions = hw.sessions })
+      (whole_settled d.system d.x) i
       (λ place service m e. open_ends place service m) (λ place m e. upgrade_ends place m)
 
   exit_ends : P (exit_of d)
   exit_ends =
-      let w = stands (exited d.leaf) (refl, refl, refl, refl) (λ c placed. zero_inputs c.node.inputs) in
+      let w = stands (exited d.leaf) (refl, refl, refl, refl) (λ c placed. (zero_inputs c.node.inputs, (may c placed).1)) in
       let name = d.component.node.name in
       record {
         count = length-released name d.system.components (standing d (exited d.leaf)).leaves ∙ w.count;
@@ -235,25 +251,30 @@ module _ (d : Doing) (h : IsWholeWorld d.system d.world) (fits : IsWholeLeaf d.l
         inputs = λ x c leaf placed there.
             let r = released_inputs name d.system.components (standing d (exited d.leaf)).leaves x leaf there in
             subst (AreInputs c.node.inputs) r.2 (w.inputs x c r.0 placed r.1);
+        signals = λ x c leaf placed there.
+            let r = released_inputs name d.system.components (standing d (exited d.leaf)).leaves x leaf there in
+            subst (λ (l : List Signal). length l ≡ c.node.signals) r.3 (w.signals x c r.0 placed r.1);
         sessions = w.sessions;
       }
 
-  main_ends : (provides : Option (List ℕ)) → Ends P (main_ended d provides)
-  main_ends (Some service) = gives _ _ (stands (serving d.leaf) fits may)
-  main_ends None = when_ends P _ _ _ (gives _ _ exit_ends)
+  main_ends : (provides : Option (List ℕ)) (signals : ℕ) → Ends P (main_ended d provides signals)
+  main_ends (Some service) signals = gives _ _ (stands (serving d.leaf) fits may)
+  main_ends None (suc n) = gives _ _ (stands (serving d.leaf) fits may)
+  main_ends None zero = when_ends P _ _ _ (gives _ _ exit_ends)
 
-  section_ends : (current : Option Current) → Ends P (section_ended d current)
-  section_ends current = section_by d P (whole_slot d.system) (stands (serving d.leaf) fits may) (whole_active d.system)
+  section_ends : (current : Option Current) (reacting : Option ℕ) → Ends P (section_ended d current reacting)
+  section_ends current reacting = section_by d P (whole_slot d.system) (stands (serving d.leaf) fits may) (whole_active d.system)
       (λ w k hw. record {
         count = hw.count;
         leaves = hw.leaves;
         inputs = hw.inputs;
+        signals = hw.signals;
         sessions = each_set (IsWholeSession (length d.system.components)) w.sessions k None hw.sessions tt;
       })
-      (main_ends d.component.node.provides) current
+      (main_ends d.component.node.provides d.component.node.signals) current reacting
 
   body_ends : (loops : List Round) → Ends P (body_ended d loops)
-  body_ends [] = section_ends d.leaf.current
+  body_ends [] = section_ends d.leaf.current d.leaf.reacting
   body_ends (r ∷ loops) = gives _ _ (stands _ (by_round (nat_lt (suc r.round) r.count)) (still (nat_lt (suc r.round) r.count)))
     where
       by_round : (b : Bool) → IsWholeLeaf (cond b (record d.leaf { todo = r.body; loops = record r { round = suc r.round } ∷ loops })
@@ -262,7 +283,7 @@ module _ (d : Doing) (h : IsWholeWorld d.system d.world) (fits : IsWholeLeaf d.l
       by_round false = fits
 
       still : (b : Bool) → May d.system d.x (cond b (record d.leaf { todo = r.body; loops = record r { round = suc r.round } ∷ loops })
-          (record d.leaf { todo = r.rest; loops = loops })).inputs
+          (record d.leaf { todo = r.rest; loops = loops }))
       still true = may
       still false = may
 
@@ -270,10 +291,10 @@ module _ (d : Doing) (h : IsWholeWorld d.system d.world) (fits : IsWholeLeaf d.l
   accept_ends r rest = accept_by P d r rest (λ old there. (
       let w = stands (begun d r old) (fits.0, refl, fits.2, fits.3) may in
       whole_session d.system (record (standing d (begun d r old)) { requests = rest }) r.session (accepted_as d.system r.ask old)
-      (record { count = w.count; leaves = w.leaves; inputs = w.inputs; sessions = w.sessions })
+      (record { count = w.count; leaves = w.leaves; inputs = w.inputs; signals = w.signals; sessions = w.sessions })
       (accepted_whole d.system r.ask (length d.system.components) old (session_of d.system d.world r.session old h there))))
 
-perform_ends : (d : Doing) → IsWholeWorld d.system d.world → IsWholeLeaf d.leaf → May d.system d.x d.leaf.inputs → d.x < length d.system.components
+perform_ends : (d : Doing) → IsWholeWorld d.system d.world → IsWholeLeaf d.leaf → May d.system d.x d.leaf → d.x < length d.system.components
     → (todo : Statements) → Ends (IsWholeWorld d.system) (perform d todo)
 perform_ends d h fits may below Done = body_ends d h fits may below d.leaf.loops
 perform_ends d h fits may below (Do i rest) = instruct_ends (record d { leaf = record d.leaf { todo = rest } }) h fits may below i
@@ -281,17 +302,24 @@ perform_ends d h fits may below (If arm other rest) =
     pop_ends (IsWholeWorld d.system) _ _ (λ a rest. gives _ _ (stands d h fits may below _ fits may))
 perform_ends d h fits may below (Loop count body rest) = gives _ _ (stands d h fits may below _ fits may)
 
-oldest_ends : (d : Doing) → IsWholeWorld d.system d.world → IsWholeLeaf d.leaf → May d.system d.x d.leaf.inputs → d.x < length d.system.components
+oldest_ends : (d : Doing) → IsWholeWorld d.system d.world → IsWholeLeaf d.leaf → May d.system d.x d.leaf → d.x < length d.system.components
     → (found : Option (Request × List Request)) → Ends (IsWholeWorld d.system) (accept_oldest d found)
 oldest_ends d h fits may below None = gives _ _ h
 oldest_ends d h fits may below (Some p) = accept_ends d h fits may below p.0 p.1
 
-step_ends : (d : Doing) → IsWholeWorld d.system d.world → IsWholeLeaf d.leaf → May d.system d.x d.leaf.inputs → d.x < length d.system.components
+serve_ends : (d : Doing) → IsWholeWorld d.system d.world → IsWholeLeaf d.leaf → May d.system d.x d.leaf → d.x < length d.system.components
+    → (found : Option (ℕ × List Signal)) → first_signal d.leaf.signals ≡ found → Ends (IsWholeWorld d.system) (serve d found)
+serve_ends d h fits may below None e = oldest_ends d h fits may below (oldest d.world d.x d.world.requests)
+serve_ends d h fits may below (Some p) e = need_ends (IsWholeWorld d.system) (section_in (Reacting p.0) d.component.node.program.sections) MissingSection _
+    (λ body. gives _ _ (stands d h fits may below _ (fits.0, refl, fits.2, fits.3)
+    (λ c placed. ((may c placed).0, (takes_first d.leaf.signals p e).long ∙ (may c placed).1))))
+
+step_ends : (d : Doing) → IsWholeWorld d.system d.world → IsWholeLeaf d.leaf → May d.system d.x d.leaf → d.x < length d.system.components
     → (phase : Phase) → Ends (IsWholeWorld d.system) (step_in d phase)
 step_ends d h fits may below Pending = gives _ _ h
 step_ends d h fits may below Running = perform_ends d h fits may below d.leaf.todo
 step_ends d h fits may below Blocked = gives _ _ h
-step_ends d h fits may below Serving = oldest_ends d h fits may below (oldest d.world d.x d.world.requests)
+step_ends d h fits may below Serving = serve_ends d h fits may below (first_signal d.leaf.signals) refl
 step_ends d h fits may below Handling = perform_ends d h fits may below d.leaf.todo
 step_ends d h fits may below Exited = gives _ _ h
 
@@ -310,7 +338,14 @@ pub whole_set : (system : System) (w : World) (x : ℕ) (leaf : Leaf) (inputs : 
     → IsWholeWorld system w → IsWholeWorld system (with_leaf w x (record leaf { inputs = inputs }))
 whole_set system w x leaf inputs there count may h =
     let fits = each_get IsWholeLeaf w.leaves x leaf h.leaves there in
-    whole_leaf system w x _ h (fits.0, fits.1, fits.2, count fits.3) (λ c placed. may c placed (may_still system w x leaf h there c placed))
+    whole_leaf system w x _ h (fits.0, fits.1, fits.2, count fits.3) (λ c placed. let m = may_still system w x leaf h there c placed in (may c placed m.0, m.1))
+
+-- and so does one with as many signals
+pub whole_signals : (system : System) (w : World) (x : ℕ) (leaf : Leaf) (signals : List Signal) → slice_get w.leaves x ≡ Some leaf
+    → length signals ≡ length leaf.signals → IsWholeWorld system w → IsWholeWorld system (with_leaf w x (record leaf { signals = signals }))
+whole_signals system w x leaf signals there same h =
+    let fits = each_get IsWholeLeaf w.leaves x leaf h.leaves there in
+    whole_leaf system w x _ h fits (λ c placed. let m = may_still system w x leaf h there c placed in (m.0, same ∙ m.1))
 
 -- each step keeps a world whole
 pub kept_whole : (system : System) (w : World) (x : ℕ) (new : World) (event : Event) → IsWholeWorld system w → next system w x ≡ Ok (new, event)
@@ -332,11 +367,20 @@ start_inputs [] x greatest leaf e = absurd (none_some e)
 start_inputs (c ∷ rest) zero greatest leaf e = subst (λ (l : Leaf). AreInputs greatest l.inputs) (some_same e) (zero_inputs greatest)
 start_inputs (c ∷ rest) (suc x) greatest leaf e = start_inputs rest x greatest leaf e
 
+start_signals : (cs : List Component) (x : ℕ) (c : Component) (leaf : Leaf) → slice_get cs x ≡ Some c → slice_get (start_leaves cs) x ≡ Some leaf
+    → length leaf.signals ≡ c.node.signals
+start_signals [] x c leaf placed e = absurd (none_some e)
+start_signals (d ∷ rest) zero c leaf placed e =
+    (λ i. length ((some_same (sym e) i).signals)) ∙ length-replicate d.node.signals (record { submitted = false; taken = 0 })
+    ∙ ap (λ (c : Component). c.node.signals) (some_same placed)
+start_signals (d ∷ rest) (suc x) c leaf placed e = start_signals rest x c leaf placed e
+
 pub start_whole : (system : System) → IsWholeWorld system (start system)
 start_whole system =
     record {
       count = length-start system.components;
       leaves = leaves_whole system.components;
       inputs = λ x c leaf placed there. start_inputs system.components x c.node.inputs leaf there;
+      signals = λ x c leaf placed there. start_signals system.components x c leaf placed there;
       sessions = tt;
     }

@@ -63,7 +63,7 @@ accepted_section system (Ask_call value) old = refl
 
 -- an upgrade is to a level that the interface has
 accepted_level : (system : System) (i : Interface) (ask : Ask) (old : Session) → old.level ≤ length i.upgrades
-    → is_wanted (Some i) (asked_section ask old) ≡ true → (accepted_as system ask old).level ≤ length i.upgrades
+    → is_wanted (Some i) 0 (asked_section ask old) ≡ true → (accepted_as system ask old).level ≤ length i.upgrades
 accepted_level system i Ask_open old fits wanted = fits
 accepted_level system i Ask_upgrade old fits wanted = leb-true (suc old.level) (length i.upgrades) wanted
 accepted_level system i Ask_close old fits wanted = fits
@@ -109,7 +109,7 @@ module _ (promised : ℕ → Option Kind) (before after : Extra) (d : Doing) (ca
     (h : IsLinkedWorld d.system d.world) (t : IsTypedBy promised before d.system d.world) (at : slice_get d.system.components d.x ≡ Some d.component)
     (serves : d.leaf.phase ≡ Serving)
     (sections_there : (v : Subject) (i : Interface) (section : Section) → program_fault v ≡ None → v.provided ≡ Some i → length i.upgrades ≤ 3
-    → is_wanted (Some i) section ≡ true → ((l : ℕ) → section ≡ Upgrading l → 0 < l)
+    → is_wanted (Some i) 0 section ≡ true → ((l : ℕ) → section ≡ Upgrading l → 0 < l)
     → (list : Statements) × (section_in section v.program.sections ≡ Some list))
     (flows : (v : Subject) (section : Section) (list : Statements) → program_fault v ≡ None → section_in section v.program.sections ≡ Some list
     → (end : AbstractState) × (last : AbstractState) × (flow (context v section) (start_of v section) (body v section) ≡ Ok end) ×
@@ -137,11 +137,27 @@ module _ (promised : ℕ → Option Kind) (before after : Extra) (d : Doing) (ca
   found = oldest_found (FitsRequest d.system d.world) d.world d.x d.world.requests (r, rest) e
 
   accepted : old.accepted ≡ not (is_open r.ask)
-  accepted = asked_as d (record { old = takes.old; there = takes.there; slots = takes.slots; phase = takes.phase; current = takes.current }) h serves r rest
+  accepted =
+      asked_as d (record {
+        old = takes.old;
+        there = takes.there;
+        slots = takes.slots;
+        phase = takes.phase;
+        current = takes.current;
+        reacting = takes.reacting;
+      }) h serves r rest
       linked_found old there
 
   server : old.server ≡ d.x
-  server = server_is d (record { old = takes.old; there = takes.there; slots = takes.slots; phase = takes.phase; current = takes.current }) h serves r rest
+  server =
+      server_is d (record {
+        old = takes.old;
+        there = takes.there;
+        slots = takes.slots;
+        phase = takes.phase;
+        current = takes.current;
+        reacting = takes.reacting;
+      }) h serves r rest
       linked_found old there
 
   free : takes.old.current ≡ None
@@ -191,8 +207,8 @@ module _ (promised : ℕ → Option Kind) (before after : Extra) (d : Doing) (ca
   faultless : program_fault v ≡ None
   faultless = sure.faultless d.x d.component at
 
-  wanted : is_wanted (Some its) section ≡ true
-  wanted = subst (λ o. is_wanted o section ≡ true) known (found.first t.requests old there).1
+  wanted : is_wanted (Some its) 0 section ≡ true
+  wanted = subst (λ o. is_wanted o 0 section ≡ true) known (found.first t.requests old there).1
 
   pub listed : (list : Statements) × (section_in section v.program.sections ≡ Some list)
   listed = sections_there v its section faultless (sym provided ∙ known) (sure.upgrades old.service its known) wanted (upgrades_above r.ask old)
@@ -238,7 +254,7 @@ module _ (promised : ℕ → Option Kind) (before after : Extra) (d : Doing) (ca
         kind = parts.kind;
         level = λ i is. accepted_level d.system i r.ask old
             (subst (λ (i : Interface). old.level ≤ length i.upgrades) (some_same (sym known ∙ is)) (t.sessions k old there).level)
-            (subst (λ o. is_wanted o section ≡ true) is (found.first t.requests old there).1);
+            (subst (λ o. is_wanted o 0 section ≡ true) is (found.first t.requests old there).1);
       }
 
   typed_then : Begins promised v section d r world_then → IsTypedBy promised after d.system world_then
@@ -265,7 +281,7 @@ pub accept_typed : (promised : ℕ → Option Kind) (before after : Extra) (d : 
     → IsLinkedWorld d.system d.world → IsTypedBy promised before d.system d.world
     → slice_get d.system.components d.x ≡ Some d.component → d.leaf.phase ≡ Serving
     → (sections_there : (v : Subject) (i : Interface) (section : Section) → program_fault v ≡ None → v.provided ≡ Some i → length i.upgrades ≤ 3
-    → is_wanted (Some i) section ≡ true → ((l : ℕ) → section ≡ Upgrading l → 0 < l)
+    → is_wanted (Some i) 0 section ≡ true → ((l : ℕ) → section ≡ Upgrading l → 0 < l)
     → (list : Statements) × (section_in section v.program.sections ≡ Some list))
     → (flows : (v : Subject) (section : Section) (list : Statements) → program_fault v ≡ None → section_in section v.program.sections ≡ Some list
     → (end : AbstractState) × (last : AbstractState) × (flow (context v section) (start_of v section) (body v section) ≡ Ok end) ×

@@ -29,14 +29,15 @@ use Rattle.gq_laws.proofs.verified_programs.Sure_system_facts.{IsSure}
 use Rattle.gq_laws.proofs.verified_programs.Sound_systems.{sure_of, good_of}
 use Rattle.gq_laws.proofs.typed_worlds.Start_typed.{nothing, start_typed}
 use Rattle.gq_laws.proofs.input_settings.Setting_keeps_invariants.{set_whole, set_linked, set_left, set_typed}
+use Rattle.gq_laws.proofs.input_settings.Setting_keeps_invariants.{submit_whole, submit_linked, submit_left, submit_typed}
 use Rattle.gq_laws.proofs.typed_worlds.Typed_world_step.{outcome, outcome_typed}
 use Rattle.gq_model.proofs.Rules_laws.{section_flows}
-use Rattle.gq_model.specs.machine.Run.{set_input}
+use Rattle.gq_model.specs.machine.Run.{set_input, submit}
 
 -- a leaf whose step is counted stands where it stood
 in_section_counted : (promised : ℕ → Option Kind) (extra : Extra) (system : System) (w : World) (x : ℕ) (c : Component) (leaf : Leaf) (n : ℕ) (phase : Phase)
-    → IsInSection promised extra system w x c leaf phase (section_of leaf.current)
-    → IsInSection promised extra system w x c (record leaf { steps = n }) phase (section_of leaf.current)
+    → IsInSection promised extra system w x c leaf phase (section_of leaf.current leaf.reacting)
+    → IsInSection promised extra system w x c (record leaf { steps = n }) phase (section_of leaf.current leaf.reacting)
 in_section_counted promised extra system w x c leaf n phase s =
     record {
       state = s.state;
@@ -77,8 +78,8 @@ next_typed system sure w whole h left t x = by (slice_get system.components x) r
     by (Some c) e None f = safe_gives w Idle t
     by (Some c) e (Some leaf) f =
         let d : Doing = record { system = system; world = w; x = x; component = c; leaf = record leaf { steps = suc leaf.steps } } in
-        let taken : TakesLeaf d = record { old = leaf; there = f; slots = refl; phase = refl; current = refl } in
-        let o = outcome t.0 no_extra d sure taken h t.1 e (left x c leaf e f).todo (whole.inputs x c leaf e f)
+        let taken : TakesLeaf d = record { old = leaf; there = f; slots = refl; phase = refl; current = refl; reacting = refl } in
+        let o = outcome t.0 no_extra d sure taken h t.1 e (left x c leaf e f).todo (whole.inputs x c leaf e f) (whole.signals x c leaf e f)
         (counted t.0 no_extra system w x c leaf (suc leaf.steps) leaf.phase (t.1.leaves x c leaf e f)) in
         record { ends = λ new event g. outcome_typed t.0 no_extra d sure taken h t.1 e new (o.ends new event g); short = o.short }
 
@@ -123,6 +124,15 @@ module _ (s : Scenario) (sound : IsSound s) where
         typed = (h.typed.0, set_typed h.typed.0 no_extra (system s) (system s) w x i n h.typed.1);
       }
 
+  stands_submit : (w : World) (x i : ℕ) → Stands w → Stands (submit w x i)
+  stands_submit w x i h =
+      record {
+        whole = submit_whole (system s) w x i h.whole;
+        linked = submit_linked (system s) w x i h.linked;
+        left = submit_left (IsGood (system s)) (system s) w x i h.left;
+        typed = (h.typed.0, submit_typed h.typed.0 no_extra (system s) w x i h.typed.1);
+      }
+
   stands_first : Stands (start (system s))
   stands_first =
       record {
@@ -133,7 +143,7 @@ module _ (s : Scenario) (sound : IsSound s) where
       }
 
   reached_stands : (w : World) → IsReached s w → Stands w
-  reached_stands = in_reached s Stands stands_on stands_set stands_first
+  reached_stands = in_reached s Stands stands_on stands_set stands_submit stands_first
 
   -- each world is typed
   pub reached_typed : (w : World) → IsReached s w → IsTyped (system s) w

@@ -142,16 +142,16 @@ module _ (promised : ℕ → Option Kind) (kind : Kind) (d : Doing) (t : TakesLe
   -- REQUESTS
 
   abbrev Wanted : Ask → Type 0
-  Wanted ask = is_wanted (interface_in s.service d.system.interfaces) (section_for ask (level_then ask s.level)) ≡ true
+  Wanted ask = is_wanted (interface_in s.service d.system.interfaces) 0 (section_for ask (level_then ask s.level)) ≡ true
 
   is_wanted_of : (i : Instruction) (ask : Ask) → IsAsk i ask → (anew : ℕ → Option Kind) → KnowsService d.system i s → FitsService anew d.system w k s
       → Wanted ask
-  is_wanted_of (Open place service n) ask is anew knows f = subst Wanted (sym is) (ap (λ o. is_wanted o Opening) knows.known)
+  is_wanted_of (Open place service n) ask is anew knows f = subst Wanted (sym is) (ap (λ o. is_wanted o 0 Opening) knows.known)
   is_wanted_of (Upgrade place n) ask is anew knows f =
-      subst Wanted (sym is) (ap (λ o. is_wanted o (Upgrading (suc s.level))) knows.known ∙ le-leb (suc s.level) (length knows.interface.upgrades) knows.next)
-  is_wanted_of (Call place) ask is anew knows f = subst Wanted (sym is.1) (ap (λ o. is_wanted o (Calling s.level)) f.known
+      subst Wanted (sym is) (ap (λ o. is_wanted o 0 (Upgrading (suc s.level))) knows.known ∙ le-leb (suc s.level) (length knows.interface.upgrades) knows.next)
+  is_wanted_of (Call place) ask is anew knows f = subst Wanted (sym is.1) (ap (λ o. is_wanted o 0 (Calling s.level)) f.known
       ∙ le-leb s.level (length f.interface.upgrades) f.level)
-  is_wanted_of (Close place) ask is anew knows f = subst Wanted (sym is) (ap (λ o. is_wanted o (Closing s.level)) f.known
+  is_wanted_of (Close place) ask is anew knows f = subst Wanted (sym is) (ap (λ o. is_wanted o 0 (Closing s.level)) f.known
       ∙ le-leb s.level (length f.interface.upgrades) f.level)
   is_wanted_of _ ask is anew knows f = absurd is
 
@@ -163,12 +163,12 @@ module _ (promised : ℕ → Option Kind) (kind : Kind) (d : Doing) (t : TakesLe
       (each_map (λ r. FitsRequest d.system d.world r × (r.session ≢ k)) (FitsRequest d.system w) else d.world.requests
       (none_of (FitsRequest d.system d.world) k d.world.requests a.free.no_request old))
       (λ u there. subst (λ (u : Session). IsWithin d.system u.service a.ask
-      × (is_wanted (interface_in u.service d.system.interfaces) (section_for a.ask (level_then a.ask u.level)) ≡ true)) (some_same (sym a.found ∙ there))
+      × (is_wanted (interface_in u.service d.system.interfaces) 0 (section_for a.ask (level_then a.ask u.level)) ≡ true)) (some_same (sym a.found ∙ there))
       (within, is_wanted_of i a.ask a.is (promised_anew promised k kind) knows fits)))
     where
       else : (r : Request) → FitsRequest d.system d.world r × (r.session ≢ k) → FitsRequest d.system w r
       else r f u there =
           let was = session_was d t i k s w a r.session u f.1 there in
           subst (λ (u : Session). IsWithin d.system u.service r.ask
-          × (is_wanted (interface_in u.service d.system.interfaces) (section_for r.ask (level_then r.ask u.level)) ≡ true)) (sym was.is)
+          × (is_wanted (interface_in u.service d.system.interfaces) 0 (section_for r.ask (level_then r.ask u.level)) ≡ true)) (sym was.is)
           (f.0 was.old was.there)

@@ -127,14 +127,16 @@ module _ (promised : ℕ → Option Kind) (kind : Kind) (d : Doing) (t : TakesLe
 module _ (promised : ℕ → Option Kind) (before after : Extra) (d : Doing) (carries : Carries d.x before after) (t : TakesLeaf d)
     (h : IsLinkedWorld d.system d.world)
     (i : Instruction) (new end : AbstractState) (w : World)
-    (b : Awaits promised (within (context (subject d.system d.component) (section_of d.leaf.current)) d.leaf.loops) new i d w) (a : Asked d i b.k b.session w)
-    (goes_on : Continues (context (subject d.system d.component) (section_of d.leaf.current)) new d.leaf.todo d.leaf.loops end)
-    (whole : flow (context (subject d.system d.component) (section_of d.leaf.current)) (start_of (subject d.system d.component) (section_of d.leaf.current))
-    (body (subject d.system d.component) (section_of d.leaf.current)) ≡ Ok end)
-    (listed : (list : Statements) × (section_in (section_of d.leaf.current) d.component.node.program.sections ≡ Some list))
+    (b : Awaits promised (within (context (subject d.system d.component) (section_of d.leaf.current d.leaf.reacting)) d.leaf.loops) new i d w)
+    (a : Asked d i b.k b.session w)
+    (goes_on : Continues (context (subject d.system d.component) (section_of d.leaf.current d.leaf.reacting)) new d.leaf.todo d.leaf.loops end)
+    (whole : flow (context (subject d.system d.component) (section_of d.leaf.current d.leaf.reacting))
+    (start_of (subject d.system d.component) (section_of d.leaf.current d.leaf.reacting))
+    (body (subject d.system d.component) (section_of d.leaf.current d.leaf.reacting)) ≡ Ok end)
+    (listed : (list : Statements) × (section_in (section_of d.leaf.current d.leaf.reacting) d.component.node.program.sections ≡ Some list))
     (resumes : new ≡ once_replied (number_of (interface_in b.session.service d.system.interfaces) (λ i. i.reply))
     (section_for a.ask (level_then a.ask b.session.level)) (while_waiting i new))
-    (also : after d.x (section_of d.leaf.current) new d.leaf.todo d.leaf.loops) where
+    (also : after d.x (section_of d.leaf.current d.leaf.reacting) new d.leaf.todo d.leaf.loops) where
   abbrev v : Subject
   v = subject d.system d.component
 
@@ -153,25 +155,26 @@ module _ (promised : ℕ → Option Kind) (before after : Extra) (d : Doing) (ca
         is = resumes;
       }
 
-  in_section : IsInSection p after d.system w d.x d.component b.leaf Blocked (section_of b.leaf.current)
+  in_section : IsInSection p after d.system w d.x d.component b.leaf Blocked (section_of b.leaf.current b.leaf.reacting)
   in_section =
-      let current = sym b.current in
+      let here : section_of d.leaf.current d.leaf.reacting ≡ section_of b.leaf.current b.leaf.reacting =
+      (λ n. section_of (sym b.current n) (sym b.reacting n)) in
       let todo = sym b.todo in
       let loops = sym b.loops in
       record {
         state = while_waiting i new;
         next = new;
         end = end;
-        meets = subst (λ c. Meets p c (while_waiting i new) w b.leaf) (λ n. within (context v (section_of (current n))) (loops n)) b.meets;
+        meets = subst (λ c. Meets p c (while_waiting i new) w b.leaf) (λ n. within (context v (here n)) (loops n)) b.meets;
         from = awaits;
-        goes_on = subst (λ o. Continues (context v (section_of o)) new b.leaf.todo b.leaf.loops end) current
-            (subst (λ o. Continues (context v (section_of d.leaf.current)) new o b.leaf.loops end) todo
-            (subst (λ o. Continues (context v (section_of d.leaf.current)) new d.leaf.todo o end) loops goes_on));
-        whole = subst (λ o. flow (context v (section_of o)) (start_of v (section_of o)) (body v (section_of o)) ≡ Ok end) current whole;
-        listed = subst (λ o. (list : Statements) × (section_in (section_of o) d.component.node.program.sections ≡ Some list)) current listed;
-        also = subst (λ o. after d.x (section_of o) new b.leaf.todo b.leaf.loops) current
-            (subst (λ o. after d.x (section_of d.leaf.current) new o b.leaf.loops) todo
-            (subst (λ o. after d.x (section_of d.leaf.current) new d.leaf.todo o) loops also));
+        goes_on = subst (λ s. Continues (context v s) new b.leaf.todo b.leaf.loops end) here
+            (subst (λ o. Continues (context v (section_of d.leaf.current d.leaf.reacting)) new o b.leaf.loops end) todo
+            (subst (λ o. Continues (context v (section_of d.leaf.current d.leaf.reacting)) new d.leaf.todo o end) loops goes_on));
+        whole = subst (λ s. flow (context v s) (start_of v s) (body v s) ≡ Ok end) here whole;
+        listed = subst (λ s. (list : Statements) × (section_in s d.component.node.program.sections ≡ Some list)) here listed;
+        also = subst (λ s. after d.x s new b.leaf.todo b.leaf.loops) here
+            (subst (λ o. after d.x (section_of d.leaf.current d.leaf.reacting) new o b.leaf.loops) todo
+            (subst (λ o. after d.x (section_of d.leaf.current d.leaf.reacting) new d.leaf.todo o) loops also));
       }
 
   module _ (component : slice_get d.system.components d.x ≡ Some d.component) (stand : StandAll promised before d.system d.world) where

@@ -27,16 +27,17 @@ use Rattle.gq_laws.proofs.typed_worlds.Asked_rests.{asked_fits, asked_requests}
 module _ (promised : ℕ → Option Kind) (before after : Extra) (d : Doing) (carries : Carries d.x before after) (i : Instruction) (state new end : AbstractState)
     (t : TakesLeaf d) (h : IsLinkedWorld d.system d.world) (active : d.leaf.phase ≢ Blocked) (component : slice_get d.system.components d.x ≡ Some d.component)
     (typed : IsTypedBy promised before d.system d.world) (links : ReportsLinks promised d.world)
-    (g : Grants promised (within (context (subject d.system d.component) (section_of d.leaf.current)) d.leaf.loops) d) (served : IsServed d i)
-    (m : Meets promised (within (context (subject d.system d.component) (section_of d.leaf.current)) d.leaf.loops) state d.world d.leaf)
-    (judge : judged (within (context (subject d.system d.component) (section_of d.leaf.current)) d.leaf.loops) state i ≡ Ok new)
-    (goes_on : Continues (context (subject d.system d.component) (section_of d.leaf.current)) new d.leaf.todo d.leaf.loops end)
-    (whole : flow (context (subject d.system d.component) (section_of d.leaf.current)) (start_of (subject d.system d.component) (section_of d.leaf.current))
-    (body (subject d.system d.component) (section_of d.leaf.current)) ≡ Ok end)
-    (listed : (list : Statements) × (section_in (section_of d.leaf.current) d.component.node.program.sections ≡ Some list))
-    (also : after d.x (section_of d.leaf.current) new d.leaf.todo d.leaf.loops) where
+    (g : Grants promised (within (context (subject d.system d.component) (section_of d.leaf.current d.leaf.reacting)) d.leaf.loops) d) (served : IsServed d i)
+    (m : Meets promised (within (context (subject d.system d.component) (section_of d.leaf.current d.leaf.reacting)) d.leaf.loops) state d.world d.leaf)
+    (judge : judged (within (context (subject d.system d.component) (section_of d.leaf.current d.leaf.reacting)) d.leaf.loops) state i ≡ Ok new)
+    (goes_on : Continues (context (subject d.system d.component) (section_of d.leaf.current d.leaf.reacting)) new d.leaf.todo d.leaf.loops end)
+    (whole : flow (context (subject d.system d.component) (section_of d.leaf.current d.leaf.reacting))
+    (start_of (subject d.system d.component) (section_of d.leaf.current d.leaf.reacting))
+    (body (subject d.system d.component) (section_of d.leaf.current d.leaf.reacting)) ≡ Ok end)
+    (listed : (list : Statements) × (section_in (section_of d.leaf.current d.leaf.reacting) d.component.node.program.sections ≡ Some list))
+    (also : after d.x (section_of d.leaf.current d.leaf.reacting) new d.leaf.todo d.leaf.loops) where
   abbrev c : Context
-  c = within (context (subject d.system d.component) (section_of d.leaf.current)) d.leaf.loops
+  c = within (context (subject d.system d.component) (section_of d.leaf.current d.leaf.reacting)) d.leaf.loops
 
   pub after_typed : (w : World) (event : Event) → instruct d i ≡ Ok (w, event) → (b : Awaits promised c new i d w)
       → IsTypedBy (promised_anew promised b.k b.kind) after d.system w

@@ -3,13 +3,14 @@ use Rattle.std.proofs.Common.{◌≡◌, ◌≤◌, ℕ, false, List, [], Option
 use Rattle.std.specs.Prelude.{slice_get}
 use Rattle.gq_model.specs.declared.program.Instruction.{Instruction}
 use Rattle.gq_model.specs.declared.section.Section.{Section}
+use Rattle.gq_model.specs.declared.section.Section.TheVariants.{Reacting}
 use Rattle.gq_model.specs.declared.phase.Phase.TheVariants.{Serving}
 use Rattle.gq_model.specs.machine.Lists.{greatest}
 use Rattle.gq_model.specs.machine.Program.{Statements, Do, section_in}
 use Rattle.gq_model.specs.machine.Scenario.{System, Component}
-use Rattle.gq_model.specs.machine.World.{Request, Round, World, section_of}
+use Rattle.gq_model.specs.machine.World.{Request, Signal, Round, World, section_of}
 use Rattle.gq_model.specs.machine.Doing.{Doing, Event}
-use Rattle.gq_model.specs.machine.Step.{oldest, accept, section_ended, section_for, instruct, level_then}
+use Rattle.gq_model.specs.machine.Step.{oldest, accept, section_ended, section_for, instruct, level_then, take_signal}
 use Rattle.gq_model.specs.rules.Kinds.{Kind, AbstractState, Context, Subject}
 use Rattle.gq_model.specs.machine.Sections.{is_own_section, level_of}
 use Rattle.gq_model.specs.rules.Rules.{judged}
@@ -33,7 +34,7 @@ use Rattle.gq_laws.proofs.verified_programs.Accepted_program_facts.{section_ther
 use Rattle.gq_laws.proofs.verified_programs.Session_costs.{judged_covers, start_covers}
 use Rattle.gq_laws.proofs.verified_programs.Sure_system_facts.{IsSure}
 use Rattle.gq_laws.proofs.typed_worlds.Accepted_request_typed.{listed}
-use Rattle.gq_laws.proofs.typed_worlds.Typed_world_step.{Acts, with_rest, goes_typed, asked_typed, taken_typed, ended_typed}
+use Rattle.gq_laws.proofs.typed_worlds.Typed_world_step.{Acts, with_rest, goes_typed, asked_typed, taken_typed, reacted_typed, ended_typed}
 use Rattle.gq_model.proofs.Rules_laws.{section_flows}
 
 -- a move keeps a covered session covered
@@ -84,7 +85,7 @@ module _ (promised : ℕ → Option Kind) (d : Doing) (sure : IsSure d.system) (
   v = subject d.system d.component
 
   abbrev c : Context
-  c = context v (section_of d.leaf.current)
+  c = context v (section_of d.leaf.current d.leaf.reacting)
 
   same : Carries d.x (IsBounded d.system) (IsBounded d.system)
   same y section state todo loops ne b = b
@@ -93,7 +94,8 @@ module _ (promised : ℕ → Option Kind) (d : Doing) (sure : IsSure d.system) (
       → IsTypedBy promised (IsBounded d.system) d.system w
   goes_bounded a others leads =
       goes_typed promised (IsBounded d.system) d sure takes h t at (IsBounded d.system) same w a others leads
-      (bounded_moves d.system d.x d.component (section_of d.leaf.current) a.state leads.state a.end d.leaf.todo leads.leaf.todo d.leaf.loops leads.leaf.loops at
+      (bounded_moves d.system d.x d.component (section_of d.leaf.current d.leaf.reacting) a.state leads.state a.end d.leaf.todo leads.leaf.todo d.leaf.loops
+      leads.leaf.loops at
       a.goes_on leads.moves a.also)
 
   pub asked_bounded : (a : Acts promised (IsBounded d.system) d) (i : Instruction) (rest : Statements) → d.leaf.todo ≡ Do i rest → IsServed (with_rest d rest) i
@@ -102,7 +104,8 @@ module _ (promised : ℕ → Option Kind) (d : Doing) (sure : IsSure d.system) (
       → IsTypedBy (promised_anew promised b.k b.kind) (IsBounded d.system) d.system w
   asked_bounded a i rest first served new judges goes_on event is b =
       asked_typed promised (IsBounded d.system) d sure takes h t at (IsBounded d.system) same w a i rest served new judges goes_on event is b
-      (bounded_moves d.system d.x d.component (section_of d.leaf.current) a.state new a.end d.leaf.todo rest d.leaf.loops d.leaf.loops at a.goes_on
+      (bounded_moves d.system d.x d.component (section_of d.leaf.current d.leaf.reacting) a.state new a.end d.leaf.todo rest d.leaf.loops d.leaf.loops at
+      a.goes_on
       (Does i rest first judges refl refl) a.also)
 
   pub taken_bounded : d.leaf.phase ≡ Serving → (r : Request) (rest : List Request) → oldest d.world d.x d.world.requests ≡ Some (r, rest) → (event : Event)
@@ -114,8 +117,15 @@ module _ (promised : ℕ → Option Kind) (d : Doing) (sure : IsSure d.system) (
       (λ y section state todo loops ne b. tt) sure takes h t at serves section_there section_flows r rest first old there tt in
       bounded_start d.system d.x d.component (section_for r.ask (level_then r.ask old.level)) l.0 at (sure.faultless d.x d.component at) l.1)
 
+  pub reacted_bounded : d.leaf.phase ≡ Serving → (i : ℕ) (signals : List Signal) (event : Event) → take_signal d i signals ≡ Ok (w, event)
+      → IsTypedBy promised (IsBounded d.system) d.system w
+  reacted_bounded serves i signals event is =
+      reacted_typed promised (IsBounded d.system) d sure takes h t at (IsBounded d.system) same w serves i signals event is
+      (λ list listed. bounded_start d.system d.x d.component (Reacting i) list at (sure.faultless d.x d.component at) listed)
+
   pub ended_bounded : (a : Acts promised (IsBounded d.system) d) (last : AbstractState) → Meets promised c a.end d.world d.leaf
-      → section_end v (section_of d.leaf.current) a.end ≡ Ok last → (event : Event) → section_ended d d.leaf.current ≡ Ok (w, event)
+      → section_end v (section_of d.leaf.current d.leaf.reacting) a.end ≡ Ok last → (event : Event)
+      → section_ended d d.leaf.current d.leaf.reacting ≡ Ok (w, event)
       → IsTypedBy promised (IsBounded d.system) d.system w
   ended_bounded a last meets ends event is = ended_typed promised (IsBounded d.system) d sure takes h t at
       (IsBounded d.system) same w d.leaf.current refl a last meets ends event is

@@ -42,12 +42,12 @@ active_awake phase (inr e) f = handling_blocked (sym e ∙ f)
 -- it stands where a section current at it, or `main`, has come to
 pub stands_active : (promised : ℕ → Option Kind) (extra : Extra) (system : System) (x : ℕ) (c : Component) (w : World) (leaf : Leaf) (phase : Phase)
     → IsActive phase → (state end : AbstractState)
-    → Meets promised (within (context (subject system c) (section_of leaf.current)) leaf.loops) state w leaf
-    → Continues (context (subject system c) (section_of leaf.current)) state leaf.todo leaf.loops end
-    → flow (context (subject system c) (section_of leaf.current)) (start_of (subject system c) (section_of leaf.current))
-    (body (subject system c) (section_of leaf.current)) ≡ Ok end
-    → (list : Statements) × (section_in (section_of leaf.current) c.node.program.sections ≡ Some list)
-    → extra x (section_of leaf.current) state leaf.todo leaf.loops
+    → Meets promised (within (context (subject system c) (section_of leaf.current leaf.reacting)) leaf.loops) state w leaf
+    → Continues (context (subject system c) (section_of leaf.current leaf.reacting)) state leaf.todo leaf.loops end
+    → flow (context (subject system c) (section_of leaf.current leaf.reacting)) (start_of (subject system c) (section_of leaf.current leaf.reacting))
+    (body (subject system c) (section_of leaf.current leaf.reacting)) ≡ Ok end
+    → (list : Statements) × (section_in (section_of leaf.current leaf.reacting) c.node.program.sections ≡ Some list)
+    → extra x (section_of leaf.current leaf.reacting) state leaf.todo leaf.loops
     → StandsBy promised extra system w x c leaf phase
 stands_active promised extra system x c w leaf phase (inl e) state end meets goes_on whole listed also =
     subst (StandsBy promised extra system w x c leaf) (sym e)
@@ -81,11 +81,12 @@ module _ (promised : ℕ → Option Kind) (before after : Extra) (d : Doing) (ca
     (h : IsLinkedWorld d.system d.world) (t : IsTypedBy promised before d.system d.world) (at : slice_get d.system.components d.x ≡ Some d.component)
     (active : IsActive d.leaf.phase)
     (w : World) (others : LeavesOthers d w) (old end : AbstractState)
-    (leads : LeadsOn promised (context (subject d.system d.component) (section_of d.leaf.current)) old end d w)
-    (whole : flow (context (subject d.system d.component) (section_of d.leaf.current)) (start_of (subject d.system d.component) (section_of d.leaf.current))
-    (body (subject d.system d.component) (section_of d.leaf.current)) ≡ Ok end)
-    (listed : (list : Statements) × (section_in (section_of d.leaf.current) d.component.node.program.sections ≡ Some list))
-    (also : after d.x (section_of d.leaf.current) leads.state leads.leaf.todo leads.leaf.loops) where
+    (leads : LeadsOn promised (context (subject d.system d.component) (section_of d.leaf.current d.leaf.reacting)) old end d w)
+    (whole : flow (context (subject d.system d.component) (section_of d.leaf.current d.leaf.reacting))
+    (start_of (subject d.system d.component) (section_of d.leaf.current d.leaf.reacting))
+    (body (subject d.system d.component) (section_of d.leaf.current d.leaf.reacting)) ≡ Ok end)
+    (listed : (list : Statements) × (section_in (section_of d.leaf.current d.leaf.reacting) d.component.node.program.sections ≡ Some list))
+    (also : after d.x (section_of d.leaf.current d.leaf.reacting) leads.state leads.leaf.todo leads.leaf.loops) where
   current_same : (k y : ℕ) → current_section k (slice_get w.leaves y) ≡ current_section k (slice_get d.world.leaves y)
   current_same k y =
       elim (eqb_tells y d.x) [
@@ -126,12 +127,14 @@ module _ (promised : ℕ → Option Kind) (before after : Extra) (d : Doing) (ca
       its : StandsBy promised after d.system w d.x d.component leads.leaf leads.leaf.phase
       its =
           let v = subject d.system d.component in
+          let same : section_of leads.leaf.current leads.leaf.reacting ≡ section_of d.leaf.current d.leaf.reacting =
+          (λ i. section_of (leads.current i) (leads.reacting i)) in
           stands_active promised after d.system d.x d.component w leads.leaf leads.leaf.phase (subst IsActive (sym leads.phase) active) leads.state end
-          (subst (λ o. Meets promised (within (context v (section_of o)) leads.leaf.loops) leads.state w leads.leaf) (sym leads.current) leads.meets)
-          (subst (λ o. Continues (context v (section_of o)) leads.state leads.leaf.todo leads.leaf.loops end) (sym leads.current) leads.goes_on)
-          (subst (λ o. flow (context v (section_of o)) (start_of v (section_of o)) (body v (section_of o)) ≡ Ok end) (sym leads.current) whole)
-          (subst (λ o. (list : Statements) × (section_in (section_of o) d.component.node.program.sections ≡ Some list)) (sym leads.current) listed)
-          (subst (λ o. after d.x (section_of o) leads.state leads.leaf.todo leads.leaf.loops) (sym leads.current) also)
+          (subst (λ s. Meets promised (within (context v s) leads.leaf.loops) leads.state w leads.leaf) (sym same) leads.meets)
+          (subst (λ s. Continues (context v s) leads.state leads.leaf.todo leads.leaf.loops end) (sym same) leads.goes_on)
+          (subst (λ s. flow (context v s) (start_of v s) (body v s) ≡ Ok end) (sym same) whole)
+          (subst (λ s. (list : Statements) × (section_in s d.component.node.program.sections ≡ Some list)) (sym same) listed)
+          (subst (λ s. after d.x s leads.state leads.leaf.todo leads.leaf.loops) (sym same) also)
 
       here : y ≡ d.x → StandsBy promised after d.system w y c leaf leaf.phase
       here e =
@@ -188,7 +191,7 @@ module _ (promised : ℕ → Option Kind) (before after : Extra) (d : Doing) (ca
   request_fits : (r : Request) → FitsRequest d.system d.world r → FitsRequest d.system w r
   request_fits r f s there =
       let b = session_back d w others r.session s there in
-      subst (λ u. IsWithin d.system u.service r.ask × (is_wanted (interface_in u.service d.system.interfaces) (section_for r.ask (level_then r.ask u.level))
+      subst (λ u. IsWithin d.system u.service r.ask × (is_wanted (interface_in u.service d.system.interfaces) 0 (section_for r.ask (level_then r.ask u.level))
       ≡ true)) (sym b.2.rest) (f b.0 b.1)
 
   pub typed_inside : IsTypedBy promised after d.system w

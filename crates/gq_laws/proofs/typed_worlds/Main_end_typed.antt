@@ -121,7 +121,7 @@ module _ (promised : ℕ → Option Kind) (extra : Extra) (system : System) (w :
   meets_new : (e : Context) (state : AbstractState) → Meets promised e state w old → Meets promised e state w new
   meets_new e state m = record { own = m.own; current = m.current; bank = m.bank; operands = m.operands; locals = m.locals; loops = m.loops }
 
-  pending_new : (b : Bool) → IsInSection promised extra system w y c old Pending (section_of old.current)
+  pending_new : (b : Bool) → IsInSection promised extra system w y c old Pending (section_of old.current old.reacting)
       → StandsBy promised extra system w y c new (cond b Running Pending)
   pending_new true h = record {
     state = h.state;
@@ -194,7 +194,7 @@ module _ (promised : ℕ → Option Kind) (before after : Extra) (d : Doing) (ca
   v = subject d.system d.component
 
   -- the current requests are the same, where the leaf's is
-  standing_current : (leaf : Leaf) → leaf.current ≡ None → (k y : ℕ)
+  pub standing_current : (leaf : Leaf) → leaf.current ≡ None → (k y : ℕ)
       → current_section k (slice_get (standing d leaf).leaves y) ≡ current_section k (slice_get d.world.leaves y)
   standing_current leaf none k y =
       elim (eqb_tells y d.x) [
@@ -204,9 +204,6 @@ module _ (promised : ℕ → Option Kind) (before after : Extra) (d : Doing) (ca
             ∙ (sym (ap (current_section k) takes.there) ∙ ap (λ y. current_section k (slice_get d.world.leaves y)) (sym f.1)))))
         | inr f ↦ ap (current_section k) (set_else d.world.leaves d.x y leaf f.1)
       ]
-
-  serving_same : SameCurrent d.world (standing d (serving d.leaf))
-  serving_same = record { sessions = λ k. refl; requests = refl; all_current = standing_current (serving d.leaf) refl }
 
   exit_same : SameCurrent d.world (exit_of d)
   exit_same = record {
@@ -218,23 +215,30 @@ module _ (promised : ℕ → Option Kind) (before after : Extra) (d : Doing) (ca
 
   -- a fact of each leaf that is there then, where one leaf is anew
   module _ (leaf : Leaf) where
-    leaf_then : (y : ℕ) (found : Leaf) → slice_get (standing d leaf).leaves y ≡ Some found → y ≡ d.x → found ≡ leaf
+    pub leaf_then : (y : ℕ) (found : Leaf) → slice_get (standing d leaf).leaves y ≡ Some found → y ≡ d.x → found ≡ leaf
     leaf_then y found there e = some_same (sym there ∙ (ap (slice_get (standing d leaf).leaves) e ∙ set_here d.world.leaves d.x leaf takes.old takes.there))
 
-    leaf_before : (y : ℕ) (found : Leaf) → slice_get (standing d leaf).leaves y ≡ Some found → y ≢ d.x → slice_get d.world.leaves y ≡ Some found
+    pub leaf_before : (y : ℕ) (found : Leaf) → slice_get (standing d leaf).leaves y ≡ Some found → y ≢ d.x → slice_get d.world.leaves y ≡ Some found
     leaf_before y found there ne = sym (set_else d.world.leaves d.x y leaf ne) ∙ there
 
-  component_is : (y : ℕ) (c : Component) → slice_get d.system.components y ≡ Some c → y ≡ d.x → d.component ≡ c
+  pub component_is : (y : ℕ) (c : Component) → slice_get d.system.components y ≡ Some c → y ≡ d.x → d.component ≡ c
   component_is y c placed e = some_same (sym at ∙ (ap (slice_get d.system.components) (sym e) ∙ placed))
 
-  serving_stands : AreKinds promised d.leaf.slots (own_after v) → StandAll promised after d.system (standing d (serving d.leaf))
-  serving_stands own y c leaf placed there =
+  -- one leaf is anew, with no current request
+  pub standing_typed : (new : Leaf) → new.current ≡ None → StandsBy promised after d.system (standing d new) d.x d.component new new.phase
+      → IsTypedBy promised after d.system (standing d new)
+  standing_typed new none stands =
+      same_typed promised d.system d.world (standing d new) same before after t (λ y c leaf placed there.
       elim (eqb_tells y d.x) [
-        | inl f ↦ subst (λ l. StandsBy promised after d.system (standing d (serving d.leaf)) y c l l.phase) (sym (leaf_then (serving d.leaf) y leaf there f.1))
-            (subst (λ c. AreKinds promised d.leaf.slots (own_after (subject d.system c))) (component_is y c placed f.1) own)
-        | inr f ↦ stands_same promised d.system d.world (standing d (serving d.leaf)) serving_same y c leaf leaf.phase before after
-            (λ section state todo loops. carries y section state todo loops f.1) (t.leaves y c leaf placed (leaf_before (serving d.leaf) y leaf there f.1))
-      ]
+        | inl f ↦ subst (λ l. StandsBy promised after d.system (standing d new) y c l l.phase) (sym (leaf_then new y leaf there f.1))
+            (subst (λ c. StandsBy promised after d.system (standing d new) y c new new.phase) (component_is y c placed f.1)
+            (subst (λ y. StandsBy promised after d.system (standing d new) y d.component new new.phase) (sym f.1) stands))
+        | inr f ↦ stands_same promised d.system d.world (standing d new) same y c leaf leaf.phase before after
+            (λ section state todo loops. carries y section state todo loops f.1) (t.leaves y c leaf placed (leaf_before new y leaf there f.1))
+      ])
+    where
+      same : SameCurrent d.world (standing d new)
+      same = record { sessions = λ k. refl; requests = refl; all_current = standing_current new none }
 
   exit_stands : StandAll promised after d.system (exit_of d)
   exit_stands y c leaf placed there =
@@ -249,17 +253,23 @@ module _ (promised : ℕ → Option Kind) (before after : Extra) (d : Doing) (ca
             (λ section state todo loops. carries y section state todo loops f.1) (t.leaves y c o.0 placed (leaf_before (exited d.leaf) y o.0 o.1 f.1)))
       ])
 
-  main_ends : AreKinds promised d.leaf.slots (own_after v) → (provides : Option (List ℕ)) → Ends (IsTypedBy promised after d.system) (main_ended d provides)
-  main_ends own (Some service) = gives _ Quiet (same_typed promised d.system d.world (standing d (serving d.leaf)) serving_same before after t
-      (serving_stands own))
-  main_ends own None = when_ends (IsTypedBy promised after d.system) _ _ _
+  pub serving_typed : AreKinds promised d.leaf.slots (own_after v) → IsTypedBy promised after d.system (standing d (serving d.leaf))
+  serving_typed own = standing_typed (serving d.leaf) refl own
+
+  main_ends : AreKinds promised d.leaf.slots (own_after v) → (provides : Option (List ℕ)) (signals : ℕ)
+      → Ends (IsTypedBy promised after d.system) (main_ended d provides signals)
+  main_ends own (Some service) signals = gives _ Quiet (serving_typed own)
+  main_ends own None (suc n) = gives _ Quiet (serving_typed own)
+  main_ends own None zero = when_ends (IsTypedBy promised after d.system) _ _ _
       (gives (exit_of d) Finished (same_typed promised d.system d.world (exit_of d) exit_same before after t exit_stands))
 
 pub main_typed : (promised : ℕ → Option Kind) (before after : Extra) (d : Doing) → Carries d.x before after → TakesLeaf d
     → IsTypedBy promised before d.system d.world → slice_get d.system.components d.x ≡ Some d.component → d.leaf.current ≡ None
     → (end : AbstractState) → Meets promised (context (subject d.system d.component) Main) end d.world d.leaf
     → flow (context (subject d.system d.component) Main) (start_of (subject d.system d.component) Main) (body (subject d.system d.component) Main) ≡ Ok end
-    → (w : World) (event : Event) → main_ended d d.component.node.provides ≡ Ok (w, event) → IsTypedBy promised after d.system w
+    → (w : World) (event : Event) → main_ended d d.component.node.provides d.component.node.signals ≡ Ok (w, event)
+    → IsTypedBy promised after d.system w
 main_typed promised before after d carries takes t at free end m whole w event e =
     (main_ends promised before after d carries takes t at free
-    (subst (AreKinds promised d.leaf.slots) (own_main (subject d.system d.component) end whole) m.own) d.component.node.provides).holds w event e
+    (subst (AreKinds promised d.leaf.slots) (own_main (subject d.system d.component) end whole) m.own) d.component.node.provides
+    d.component.node.signals).holds w event e

@@ -112,9 +112,9 @@ module _ (p q : ℕ → Option Kind) (before after : Extra) (system : System) (v
 
   -- a leaf stands in another world where it stood, if its slots and the session current at it do
   pub stands_else : (phase : Phase) → StandsBy p before system v x c leaf phase → StandsBy q after system w x c leaf phase
-  stands_else Pending h = in_section_else Pending (section_of leaf.current) h
-  stands_else Running h = in_section_else Running (section_of leaf.current) h
-  stands_else Blocked h = in_section_else Blocked (section_of leaf.current) h
+  stands_else Pending h = in_section_else Pending (section_of leaf.current leaf.reacting) h
+  stands_else Running h = in_section_else Running (section_of leaf.current leaf.reacting) h
+  stands_else Blocked h = in_section_else Blocked (section_of leaf.current leaf.reacting) h
   stands_else Serving h = kinds (own_after (subject system c)) h
-  stands_else Handling h = in_section_else Handling (section_of leaf.current) h
+  stands_else Handling h = in_section_else Handling (section_of leaf.current leaf.reacting) h
   stands_else Exited h = h

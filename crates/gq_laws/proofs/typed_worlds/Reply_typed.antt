@@ -64,9 +64,10 @@ then_there (In_session k i) slot j old = by (j == k)
     by true = (record old { slots = slice_set old.slots i slot }, refl)
     by false = (old, refl)
 
-resumed_active : (o : Option Current) → IsActive (resumed o)
-resumed_active None = inl refl
-resumed_active (Some g) = inr refl
+resumed_active : (o : Option Current) (reacting : Option ℕ) → IsActive (resumed o reacting)
+resumed_active None None = inl refl
+resumed_active None (Some i) = inr refl
+resumed_active (Some g) reacting = inr refl
 
 module _ (promised : ℕ → Option Kind) (before : Extra) (d : Doing) (sure : IsSure d.system) (takes : TakesLeaf d) (h : IsLinkedWorld d.system d.world)
     (t : IsTypedBy promised before d.system d.world) (at : slice_get d.system.components d.x ≡ Some d.component) (handling : d.leaf.phase ≡ Handling)
@@ -127,7 +128,7 @@ module _ (promised : ℕ → Option Kind) (before : Extra) (d : Doing) (sure : I
 
   module _ (after : Extra) (carries : Carries d.x before after) (end last : AbstractState) (meets : Meets promised (context v g.section) end d.world d.leaf)
       (own : end.own ≡ own_after v) (bank : LeavesBank v g.section end s.level) (provided : v.provided ≡ interface_in s.service d.system.interfaces)
-      (ends : section_end v g.section end ≡ Ok last) (w : World) (event : Event) (is : section_ended d d.leaf.current ≡ Ok (w, event)) where
+      (ends : section_end v g.section end ≡ Ok last) (w : World) (event : Event) (is : section_ended d d.leaf.current d.leaf.reacting ≡ Ok (w, event)) where
     ended : HasEnded promised (context v g.section) end d g s w
     ended = record { meets = meets; last = last; ends = ends; at_current = mine; there = found; event = event; ended = is }
 
@@ -240,19 +241,19 @@ module _ (promised : ℕ → Option Kind) (before : Extra) (d : Doing) (sure : I
     client_stands : (c : Component) → slice_get d.system.components s.client ≡ Some c → (leaf : Leaf) → slice_get w.leaves s.client ≡ Some leaf
         → StandsBy promised after d.system w s.client c leaf leaf.phase
     client_stands c placed leaf there =
-        let i : IsInSection promised before d.system d.world s.client c r.client Blocked (section_of r.client.current) =
+        let i : IsInSection promised before d.system d.world s.client c r.client Blocked (section_of r.client.current r.client.reacting) =
         subst (StandsBy promised before d.system d.world s.client c r.client) r.blocked (t.leaves s.client c r.client placed r.was) in
         let new : Leaf = resuming r.client r.operands (own_then s.slot_id slot r.client.slots) in
-        let e : Context = within (context (subject d.system c) (section_of r.client.current)) r.client.loops in
+        let e : Context = within (context (subject d.system c) (section_of r.client.current r.client.reacting)) r.client.loops in
         let m = z.client e i.state r.client r.was i.meets in
         let is_new : m.0 ≡ new = some_same (sym m.1 ∙ r.goes_on) in
         let replied : once_replied (number_of v.provided (λ i. i.reply)) g.section i.state ≡ i.next =
         ap (λ o. once_replied (number_of o (λ i. i.reply)) g.section i.state) provided ∙ sym (waits_for i.state i.next i.from) in
         let meets_new : Meets promised e i.next w new = subst (λ l. Meets promised e i.next w l) is_new (subst (λ st. Meets promised e st w m.0) replied m.2) in
         subst (λ l. StandsBy promised after d.system w s.client c l l.phase) (some_same (sym r.goes_on ∙ there))
-        (stands_active promised after d.system s.client c w new (resumed r.client.current)
-        (resumed_active r.client.current) i.next i.end meets_new i.goes_on i.whole i.listed
-        (carries s.client (section_of r.client.current) i.next r.client.todo r.client.loops r.other i.also))
+        (stands_active promised after d.system s.client c w new (resumed r.client.current r.client.reacting)
+        (resumed_active r.client.current r.client.reacting) i.next i.end meets_new i.goes_on i.whole i.listed
+        (carries s.client (section_of r.client.current r.client.reacting) i.next r.client.todo r.client.loops r.other i.also))
 
     leaf_stands : (y : ℕ) (c : Component) (leaf : Leaf) → slice_get d.system.components y ≡ Some c → slice_get w.leaves y ≡ Some leaf
         → StandsBy promised after d.system w y c leaf leaf.phase
@@ -329,14 +330,14 @@ module _ (promised : ℕ → Option Kind) (before : Extra) (d : Doing) (sure : I
     request_fits q f u there = elim (eqb_tells q.session k) [ inl e ↦ here e.1 | inr e ↦ else e.1 ]
       where
         here : q.session ≡ k → IsWithin d.system u.service q.ask
-            × (is_wanted (interface_in u.service d.system.interfaces) (section_for q.ask (level_then q.ask u.level)) ≡ true)
+            × (is_wanted (interface_in u.service d.system.interfaces) 0 (section_for q.ask (level_then q.ask u.level)) ≡ true)
         here e = f u (ap (session_at d.world) e ∙ (found ∙ ap Some (sym (stays u (sym (ap (session_at w) e) ∙ there)).0)))
 
         else : q.session ≢ k → IsWithin d.system u.service q.ask
-            × (is_wanted (interface_in u.service d.system.interfaces) (section_for q.ask (level_then q.ask u.level)) ≡ true)
+            × (is_wanted (interface_in u.service d.system.interfaces) 0 (section_for q.ask (level_then q.ask u.level)) ≡ true)
         else ne =
             let b = back q.session u ne there in
-            subst (λ u. IsWithin d.system u.service q.ask × (is_wanted (interface_in u.service d.system.interfaces)
+            subst (λ u. IsWithin d.system u.service q.ask × (is_wanted (interface_in u.service d.system.interfaces) 0
             (section_for q.ask (level_then q.ask u.level)) ≡ true)) (sym b.2) (f b.0 b.1)
 
     pub replied_typed : IsTypedBy promised after d.system w

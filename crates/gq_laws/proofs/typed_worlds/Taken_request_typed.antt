@@ -192,7 +192,7 @@ module _ (promised : ℕ → Option Kind) (before : Extra) (d : Doing) (takes : 
     its : StandsBy promised after d.system w d.x d.component a.begins.leaf a.begins.leaf.phase
     its =
         let leaf = a.begins.leaf in
-        let same : section ≡ section_of leaf.current = ap section_of (sym a.begins.current) in
+        let same : section ≡ section_of leaf.current leaf.reacting = ap (λ o. section_of o leaf.reacting) (sym a.begins.current) in
         stands_active promised after d.system d.x d.component w leaf leaf.phase (inr a.begins.phase) (start_of v section) end
         (subst (λ s. Meets promised (within (context v s) leaf.loops) (start_of v section) w leaf) same
         (subst (λ l. Meets promised (within (context v section) l) (start_of v section) w leaf) (sym a.begins.loops) a.begins.meets))

@@ -18,13 +18,15 @@ use Rattle.gq_laws.proofs.quota_payment.Closed_sessions.{closes_whole, ends_sess
 use Rattle.gq_laws.specs.internal.Init_quanta.{Fit}
 use Rattle.gq_laws.proofs.quota_payment.Quanta_kept.{start_fits, kept_fits}
 use Rattle.gq_laws.proofs.quota_payment.Quota_total.{sums_to_total}
-use Rattle.gq_laws.proofs.input_settings.Setting_keeps_invariants.{set_whole, set_linked, set_paid, set_fit}
+use Rattle.gq_laws.proofs.input_settings.Setting_keeps_invariants.{set_whole, set_linked, set_paid, set_fit, submit_whole, submit_linked, submit_paid}
+use Rattle.gq_laws.proofs.input_settings.Setting_keeps_invariants.{submit_fit}
 
 pub reached_whole : (s : Scenario) (w : World) → IsReached s w → IsWholeWorld (system s) w
-reached_whole s = in_reached s (IsWholeWorld (system s)) (kept_whole (system s)) (set_whole (system s)) (start_whole (system s))
+reached_whole s = in_reached s (IsWholeWorld (system s)) (kept_whole (system s)) (set_whole (system s)) (submit_whole (system s)) (start_whole (system s))
 
 pub reached_linked : (s : Scenario) (w : World) → IsReached s w → IsLinkedWorld (system s) w
-reached_linked s = in_reached s (IsLinkedWorld (system s)) (kept_linked (system s)) (set_linked (system s)) (start_linked (system s))
+reached_linked s = in_reached s (IsLinkedWorld (system s)) (kept_linked (system s)) (set_linked (system s)) (submit_linked (system s))
+    (start_linked (system s))
 
 -- worlds that are linked and paid
 both : (s : Scenario) → NamesDiffer s → (w : World) → IsReached s w → IsLinkedWorld (system s) w × (paid (system s) w ≡ true)
@@ -32,6 +34,7 @@ both s differ w reached =
     in_reached s (λ w. IsLinkedWorld (system s) w × (paid (system s) w ≡ true))
     (λ w x new event h stepped. (kept_linked (system s) w x new event h.0 stepped, kept_paid s differ w x new event h.0 h.1 stepped))
     (λ w x i n h. (set_linked (system s) w x i n h.0, set_paid (system s) w x i n h.1))
+    (λ w x i h. (submit_linked (system s) w x i h.0, submit_paid (system s) w x i h.1))
     (start_linked (system s), start_paid (system s)) w reached
 
 pub reached_paid : (s : Scenario) (w : World) → NamesDiffer s → IsReached s w → paid (system s) w ≡ true
@@ -53,6 +56,7 @@ fit s resolved w reached =
       λ r. kept_fits r s resolved w x new event h.1 (h.2 r) stepped,
     ))
     (λ w x i n h. (set_whole (system s) w x i n h.0, set_linked (system s) w x i n h.1, λ r. set_fit r s w x i n (h.2 r)))
+    (λ w x i h. (submit_whole (system s) w x i h.0, submit_linked (system s) w x i h.1, λ r. submit_fit r s w x i (h.2 r)))
     (start_whole (system s), start_linked (system s), λ r. start_fits r s resolved) w reached
 
 pub reached_sums : (s : Scenario) (w : World) → IsResolved s → IsReached s w → EachOf (system s).counted (SumsToTotal s w)

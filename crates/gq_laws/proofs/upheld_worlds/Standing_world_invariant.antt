@@ -1,9 +1,9 @@
 -- What stands in each world of a sound scenario: the start has it, each step keeps it, and all that is promised of a world follows.
-use Rattle.std.proofs.Common.{◌≡◌, ◌≤◌, ℕ, true, Some, Ok, arith}
+use Rattle.std.proofs.Common.{◌≡◌, ◌≤◌, ◌*◌, ℕ, zero, suc, true, List, [], ◌∷◌, Some, Ok, refl, arith}
 use Rattle.std.specs.Prelude.{slice_get}
 use Rattle.gq_model.specs.machine.Amounts.{Resource, part}
 use Rattle.gq_model.specs.machine.Scenario.{Scenario, System, Component, components, system}
-use Rattle.gq_model.specs.machine.World.{Leaf, World, start}
+use Rattle.gq_model.specs.machine.World.{Leaf, World, start_leaves, start}
 use Rattle.gq_model.specs.machine.Sums.{paid}
 use Rattle.gq_model.specs.machine.Doing.{Event}
 use Rattle.gq_model.specs.machine.Step.{next}
@@ -17,7 +17,7 @@ use Rattle.gq_laws.specs.Session_links.{IsLinkedWorld}
 use Rattle.gq_laws.specs.internal.Uncounted.{uncounted}
 use Rattle.gq_laws.specs.internal.Remaining_instructions.{IsGood}
 use Rattle.gq_laws.specs.internal.Verified_holdings.{IsBounded}
-use Rattle.gq_laws.specs.internal.Section_counts.{IsCounted}
+use Rattle.gq_laws.specs.internal.Section_counts.{since_start, steps_if, steps_taken}
 use Rattle.gq_model.proofs.Small_facts.{get_within}
 use Rattle.gq_laws.proofs.step_shapes.Whole_worlds.{kept_whole, start_whole}
 use Rattle.gq_laws.proofs.session_links.Linked_worlds.{kept_linked, start_linked}
@@ -28,14 +28,17 @@ use Rattle.gq_laws.proofs.quota_payment.Quota_total.{sums_to_total}
 use Rattle.gq_laws.proofs.verified_programs.Sound_systems.{is_resolved, good_of}
 use Rattle.gq_laws.proofs.verified_programs.Own_costs.{reported_is, steps_limited, own_pays, own_is}
 use Rattle.gq_laws.proofs.verified_programs.Use_chains.{resolved_acyclic}
-use Rattle.gq_laws.proofs.verified_programs.Times_bound.{counts_bounded}
 use Rattle.gq_laws.proofs.held_resources.Uncounted_resource_step.{step_same}
 use Rattle.gq_laws.proofs.held_resources.Held_within_paid.{IsAmong, of_each, each_by, within_own}
 use Rattle.gq_laws.proofs.input_settings.Setting_keeps_invariants.{set_whole, set_linked, set_left, set_fit, set_typed, set_held, set_counted}
+use Rattle.gq_laws.proofs.input_settings.Setting_keeps_invariants.{submit_whole, submit_linked, submit_left, submit_fit, submit_typed, submit_held}
+use Rattle.gq_laws.proofs.input_settings.Setting_keeps_invariants.{submit_counted}
 use Rattle.gq_laws.proofs.held_resources.Accepted_run_faultless.{Stands as HoldsAll, stands_on, stands_first as holds_first, interfaces, stands_paid, goes_on}
-use Rattle.gq_laws.proofs.step_counts.Steps_within_budget.{steps_within, counted_on, counted_first}
+use Rattle.gq_laws.proofs.step_counts.Counted_worlds.{counted_on, counted_first}
+use Rattle.gq_laws.proofs.step_counts.Steps_within_budget.{steps_since}
 use Rattle.std.proofs.lemmas.Option.{slice_get_within}
-use Rattle.gq_model.specs.machine.Run.{set_input}
+use Rattle.gq_model.specs.machine.Run.{set_input, submit}
+use Rattle.gq_model.specs.machine.Step_budgets.{steps_in}
 
 resolved : (s : Scenario) → IsSound s → IsResolved s
 resolved s sound = record { differ = sound.formed.differ; fits = is_resolved s sound.accepted }
@@ -62,7 +65,7 @@ linked_same system w h =
 holds : (s : Scenario) (w : World) (h : Stands s w) → HoldsAll s h.sound w
 holds s w h =
     record {
-      whole = record { count = h.whole.count; leaves = h.whole.leaves; inputs = h.whole.inputs; sessions = h.whole.sessions };
+      whole = record { count = h.whole.count; leaves = h.whole.leaves; inputs = h.whole.inputs; signals = h.whole.signals; sessions = h.whole.sessions };
       linked = linked_same (system s) w h.linked;
       left = h.left;
       promised = h.promised;
@@ -96,7 +99,7 @@ stands_next s w x new event h e =
       promised = then.promised;
       typed = then.typed;
       held = then.held;
-      counted = counted_on s h.sound w h.whole h.linked h.left h.counted x new event e;
+      counted = counted_on s h.sound w h.whole h.linked h.left (since_start (system s)) h.counted x new event e;
       fits = λ r. kept_fits r s (resolved s h.sound) w x new event h.linked (h.fits r) e;
     }
 
@@ -110,16 +113,40 @@ stands_set s w x i n h =
       promised = h.promised;
       typed = set_typed h.promised (IsBounded (uncounted (system s))) (system s) (uncounted (system s)) w x i n h.typed;
       held = set_held (system s) (uncounted (system s)) w x i n h.held;
-      counted = set_counted (system s) w x i n h.counted;
+      counted = set_counted (since_start (system s)) (system s) w x i n h.counted;
       fits = λ r. set_fit r s w x i n (h.fits r);
+    }
+
+pub stands_submit : (s : Scenario) (w : World) (x i : ℕ) → Stands s w → Stands s (submit w x i)
+stands_submit s w x i h =
+    record {
+      sound = h.sound;
+      whole = submit_whole (system s) w x i h.whole;
+      linked = submit_linked (system s) w x i h.linked;
+      left = submit_left (IsGood (system s)) (system s) w x i h.left;
+      promised = h.promised;
+      typed = submit_typed h.promised (IsBounded (uncounted (system s))) (uncounted (system s)) w x i h.typed;
+      held = submit_held (uncounted (system s)) w x i h.held;
+      counted = submit_counted (since_start (system s)) (system s) w x i h.counted;
+      fits = λ r. submit_fit r s w x i (h.fits r);
     }
 
 -- WHAT IS PROMISED
 
 -- no leaf takes more steps than its budget
-pub steps_kept : (s : Scenario) → IsSound s → (w : World) → IsCounted (system s) w → (x : ℕ) (c : Component) (leaf : Leaf) → slice_get (components s) x ≡ Some c
-    → slice_get w.leaves x ≡ Some leaf → leaf.steps ≤ step_budget (system s) x c
-steps_kept s sound = steps_within s (counts_bounded (system s) (resolved_acyclic s (is_resolved s sound.accepted)))
+pub steps_kept : (s : Scenario) (w : World) → Stands s w → (x : ℕ) (c : Component) (leaf : Leaf) → slice_get (components s) x ≡ Some c
+    → slice_get w.leaves x ≡ Some leaf → leaf.steps ≤ steps_in w (step_budget (system s) x c)
+steps_kept s w h x c leaf placed there =
+    let most = steps_since (system s) (resolved_acyclic s (is_resolved s h.sound.accepted)) (since_start (system s)) (start_whole (system s)) w h.whole
+    h.counted x c leaf placed there in
+    let none : steps_taken (start (system s)) x ≡ 0 = start_steps (components s) x in
+    let one : 1 * (step_budget (system s) x c).from_start ≡ (step_budget (system s) x c).from_start = omega arith in
+    omega (arith, most, none, one)
+  where
+    start_steps : (cs : List Component) (x : ℕ) → steps_if (slice_get (start_leaves cs) x) ≡ 0
+    start_steps [] x = refl
+    start_steps (c ∷ rest) zero = refl
+    start_steps (c ∷ rest) (suc x) = start_steps rest x
 
 module _ (s : Scenario) (w : World) (h : Stands s w) where
   abbrev real : System
@@ -145,7 +172,7 @@ module _ (s : Scenario) (w : World) (h : Stands s w) where
         leaf = leaf.0;
         there = leaf.1;
         reported = reported_is s x c placed;
-        steps = steps_kept s h.sound w h.counted x c leaf.0 placed leaf.1;
+        steps = steps_kept s w h x c leaf.0 placed leaf.1;
         limited = steps_limited s x c placed h.sound.accepted;
         bytes_and_caps = each_by (StaysWithin s w x c leaf.0) real.counted (stays_within x c leaf.0 placed leaf.1);
       }

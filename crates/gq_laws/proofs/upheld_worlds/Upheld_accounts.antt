@@ -8,16 +8,18 @@ use Rattle.gq_model.specs.machine.Scenario.{Scenario, Component, Nodes, End, Lea
 use Rattle.gq_model.specs.machine.World.{Leaf, World}
 use Rattle.gq_model.specs.machine.Sums.{held, lent, received, handed, quota, is_paid, are_paid}
 use Rattle.gq_model.specs.machine.Accounts.{Account, leaf_count, account_at, node_accounts, leaf_account}
+use Rattle.gq_model.specs.machine.Step_budgets.{steps_in, all_steps_in}
 use Rattle.gq_model.specs.rules.Accept.{Budget, budgets, step_budgets}
 use Rattle.gq_model.specs.Promises.{budget_of, AllKeep, KeepsAccounts, IsUpheld}
 use Rattle.gq_model.proofs.Small_facts.{none_some, some_same}
 use Rattle.gq_laws.proofs.quota_payment.Written_world_prices.{paid_one}
 
 -- the steps of the x-th budget
-steps_at : (bs : List Budget) (x : ℕ) (b : Budget) → slice_get bs x ≡ Some b → slice_index (step_budgets bs) x ≡ b.steps
-steps_at [] x b e = absurd (none_some e)
-steps_at (a ∷ bs) zero b e = ap (λ (b : Budget). b.steps) (some_same e)
-steps_at (a ∷ bs) (suc x) b e = steps_at bs x b e
+steps_at : (w : World) (bs : List Budget) (x : ℕ) (b : Budget) → slice_get bs x ≡ Some b
+    → slice_index (all_steps_in w (step_budgets bs)) x ≡ steps_in w b.steps
+steps_at w [] x b e = absurd (none_some e)
+steps_at w (a ∷ bs) zero b e = ap (λ (b : Budget). steps_in w b.steps) (some_same e)
+steps_at w (a ∷ bs) (suc x) b e = steps_at w bs x b e
 
 keep_both : (first rest : List Account) → AllKeep first → AllKeep rest → AllKeep (first ++ rest)
 keep_both [] rest h k = k
@@ -38,24 +40,24 @@ module _ (s : Scenario) (w : World) (h : IsUpheld s w) where
 
   -- the account of one leaf
   pub leaf_keeps : (x : ℕ) (c : Component) (leaf : Leaf) → slice_get (components s) x ≡ Some c → slice_get w.leaves x ≡ Some leaf
-      → AllKeep (leaf_account s.version w x c leaf (slice_index (step_budgets (budgets s)) x) ∷ [])
+      → AllKeep (leaf_account s.version w x c leaf (slice_index (all_steps_in w (step_budgets (budgets s))) x) ∷ [])
   leaf_keeps x c leaf placed there =
       let k = h.keeps_budgets x c placed in
       let pays = paid_one (counted_in s.version) w 0 (components s) w.leaves h.is_paid x c leaf placed there x (omega arith) in
       let both = both_within x c leaf (counts_caps s.version) pays in
-      let reported = steps_at (budgets s) x (budget_of s x c) k.reported in
+      let reported = steps_at w (budgets s) x (budget_of s x c) k.reported in
       let same : k.leaf.steps ≡ leaf.steps = ap (λ (l : Leaf). l.steps) (some_same (sym k.there ∙ there)) in
       let few = k.steps in
       (record { bytes = both.0; caps = both.1; steps = omega (arith, few, reported, same) }, tt)
 
   account_keeps : (x : ℕ) (o : Option Component) (p : Option Leaf) → slice_get (components s) x ≡ o → slice_get w.leaves x ≡ p
-      → AllKeep (account_at s.version w x o p (slice_index (step_budgets (budgets s)) x))
+      → AllKeep (account_at s.version w x o p (slice_index (all_steps_in w (step_budgets (budgets s))) x))
   account_keeps x (Some c) (Some leaf) e f = leaf_keeps x c leaf e f
   account_keeps x (Some c) None e f = tt
   account_keeps x None p e f = tt
 
   nodes_keep : (x : ℕ) (label : List ℕ) (nodes : Nodes)
-      → AllKeep (node_accounts s.version (system s) w (step_budgets (budgets s)) x label nodes)
+      → AllKeep (node_accounts s.version (system s) w (all_steps_in w (step_budgets (budgets s))) x label nodes)
   nodes_keep x label End = tt
   nodes_keep x label (Leaf_node node rest) = keep_both _ _ (account_keeps x _ _ refl refl) (nodes_keep (suc x) label rest)
   nodes_keep x label (Init_node node children rest) = (

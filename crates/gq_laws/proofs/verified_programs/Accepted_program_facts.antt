@@ -3,7 +3,7 @@
 use Rattle.std.proofs.Common.{◌≡◌, ℕ, zero, suc, ◌<◌, ◌≤◌, ◌||◌, nat_lt, Bool, true, false, cond, List, [], ◌∷◌, length, replicate, Option, Some, None}
 use Rattle.std.proofs.Common.{Ok, Err, refl, ap, sym, ◌∙◌, subst, arith}
 use Rattle.std.specs.Prelude.{nat_le, is_some, slice_get}
-use Rattle.std.proofs.lemmas.Bool.{eqb-true, leb-true, le-leb, lt-ltb, false≢true}
+use Rattle.std.proofs.lemmas.Bool.{eqb-true, leb-true, le-leb, lt-ltb, ltb-true, false≢true}
 use Rattle.gq_model.specs.declared.program.Form.TheVariants.{Block, Slice, Space}
 use Rattle.gq_model.specs.declared.section.Section.{Section}
 use Rattle.gq_model.specs.declared.section.Section.TheVariants.{Main, Opening, Upgrading, Calling, Closing, Reacting}
@@ -34,23 +34,24 @@ both_same false b e wanted = absurd (false≢true wanted)
 
 -- a section among those that are looked for
 found_there : (v : Subject) (section : Section) (sections : List Section) → first_unwanted v sections ≡ None → any_of (same_section section) sections ≡ true
-    → is_wanted v.provided section ≡ true → (list : Statements) × (section_in section v.program.sections ≡ Some list)
+    → is_wanted v.provided v.signals section ≡ true → (list : Statements) × (section_in section v.program.sections ≡ Some list)
 found_there v section [] e among wanted = absurd (false≢true among)
 found_there v section (s ∷ rest) e among wanted =
-    by (same_truth (is_wanted v.provided s) (is_some (section_in s v.program.sections))) refl e (λ f more. found_there v section rest f more wanted)
+    by (same_truth (is_wanted v.provided v.signals s) (is_some (section_in s v.program.sections))) refl e (λ f more. found_there v section rest f more wanted)
   where
-    there : (same : Bool) → same_section section s ≡ same → same_truth (is_wanted v.provided s) (is_some (section_in s v.program.sections)) ≡ true
+    there : (same : Bool) → same_section section s ≡ same → same_truth (is_wanted v.provided v.signals s) (is_some (section_in s v.program.sections)) ≡ true
         → (same || any_of (same_section section) rest) ≡ true
         → (any_of (same_section section) rest ≡ true → (list : Statements) × (section_in section v.program.sections ≡ Some list))
         → (list : Statements) × (section_in section v.program.sections ≡ Some list)
     there false same t more further = further more
     there true same t more further =
-        let here = subst (λ q. same_truth (is_wanted v.provided q) (is_some (section_in q v.program.sections)) ≡ true)
+        let here = subst (λ q. same_truth (is_wanted v.provided v.signals q) (is_some (section_in q v.program.sections)) ≡ true)
         (sym (same_section_is section s same)) t in
-        is_there (section_in section v.program.sections) (both_same (is_wanted v.provided section)
+        is_there (section_in section v.program.sections) (both_same (is_wanted v.provided v.signals section)
         (is_some (section_in section v.program.sections)) here wanted)
 
-    by : (b : Bool) → same_truth (is_wanted v.provided s) (is_some (section_in s v.program.sections)) ≡ b → cond b (first_unwanted v rest) (Some s) ≡ None
+    by : (b : Bool) → same_truth (is_wanted v.provided v.signals s) (is_some (section_in s v.program.sections)) ≡ b
+        → cond b (first_unwanted v rest) (Some s) ≡ None
         → (first_unwanted v rest ≡ None → any_of (same_section section) rest ≡ true → (list : Statements) × (section_in section v.program.sections ≡ Some list))
         → (list : Statements) × (section_in section v.program.sections ≡ Some list)
     by true t f further = there (same_section section s) refl t among (further f)
@@ -78,30 +79,58 @@ closing_among (suc (suc zero)) few = refl
 closing_among (suc (suc (suc zero))) few = refl
 closing_among (suc (suc (suc (suc l)))) few = absurd (omega (arith, few))
 
+reacting_among : (i signals : ℕ) → signals ≤ 3 → nat_lt i signals ≡ true → any_of (same_section (Reacting i)) all_sections ≡ true
+reacting_among zero n less e = refl
+reacting_among (suc zero) n less e = refl
+reacting_among (suc (suc zero)) n less e = refl
+reacting_among (suc (suc (suc i))) n less e = let below = ltb-true (suc (suc (suc i))) n e in absurd (omega (arith, less, below))
+
 level_few : (i : Interface) (l : ℕ) → length i.upgrades ≤ 3 → nat_le l (length i.upgrades) ≡ true → l ≤ 3
 level_few i l few e = let within = leb-true l (length i.upgrades) e in omega (arith, few, within)
 
-among_all : (i : Interface) (section : Section) → length i.upgrades ≤ 3 → is_wanted (Some i) section ≡ true → ((l : ℕ) → section ≡ Upgrading l → 0 < l)
+among_all : (i : Interface) (signals : ℕ) (section : Section) → length i.upgrades ≤ 3 → signals ≤ 3 → is_wanted (Some i) signals section ≡ true
+    → ((l : ℕ) → section ≡ Upgrading l → 0 < l)
     → any_of (same_section section) all_sections ≡ true
-among_all i Main few wanted positive = refl
-among_all i Opening few wanted positive = refl
-among_all i (Upgrading l) few wanted positive = upgrading_among l (positive l refl) (level_few i l few wanted)
-among_all i (Calling l) few wanted positive = calling_among l (level_few i l few wanted)
-among_all i (Closing l) few wanted positive = closing_among l (level_few i l few wanted)
-among_all i (Reacting j) few wanted positive = absurd (false≢true wanted)
+among_all i n Main few less wanted positive = refl
+among_all i n Opening few less wanted positive = refl
+among_all i n (Upgrading l) few less wanted positive = upgrading_among l (positive l refl) (level_few i l few wanted)
+among_all i n (Calling l) few less wanted positive = calling_among l (level_few i l few wanted)
+among_all i n (Closing l) few less wanted positive = closing_among l (level_few i l few wanted)
+among_all i n (Reacting j) few less wanted positive = reacting_among j n less wanted
+
+-- what is wanted of a leaf without signals is wanted of one with signals
+wanted_more : (i : Interface) (signals : ℕ) (section : Section) → is_wanted (Some i) 0 section ≡ true → is_wanted (Some i) signals section ≡ true
+wanted_more i n Main e = refl
+wanted_more i n Opening e = refl
+wanted_more i n (Upgrading l) e = e
+wanted_more i n (Calling l) e = e
+wanted_more i n (Closing l) e = e
+wanted_more i n (Reacting j) e = let less = ltb-true j 0 e in absurd (omega (arith, less))
 
 -- a section that is wanted is there
 pub section_there : (v : Subject) (i : Interface) (section : Section) → program_fault v ≡ None → v.provided ≡ Some i → length i.upgrades ≤ 3
-    → is_wanted (Some i) section ≡ true → ((l : ℕ) → section ≡ Upgrading l → 0 < l) → (list : Statements) × (section_in section v.program.sections ≡ Some list)
+    → is_wanted (Some i) 0 section ≡ true → ((l : ℕ) → section ≡ Upgrading l → 0 < l)
+    → (list : Statements) × (section_in section v.program.sections ≡ Some list)
 section_there v i section e provided few wanted positive =
-    found_there v section all_sections (accepted v e).0 (among_all i section few wanted positive) (ap (λ o. is_wanted o section) provided ∙ wanted)
+    found_there v section all_sections (accepted v e).0 (among_all i 0 section few (omega arith) wanted positive)
+    (ap (λ o. is_wanted o v.signals section) provided ∙ wanted_more i v.signals section wanted)
 
-main_wanted : (provided : Option Interface) → is_wanted provided Main ≡ true
-main_wanted None = refl
-main_wanted (Some i) = refl
+-- and so is the one for each signal
+pub reacting_there : (v : Subject) (i : ℕ) → program_fault v ≡ None → v.signals ≤ 3 → i < v.signals
+    → (list : Statements) × (section_in (Reacting i) v.program.sections ≡ Some list)
+reacting_there v i e few less =
+    found_there v (Reacting i) all_sections (accepted v e).0 (reacting_among i v.signals few (lt-ltb i v.signals less)) (by v.provided)
+  where
+    by : (o : Option Interface) → is_wanted o v.signals (Reacting i) ≡ true
+    by None = lt-ltb i v.signals less
+    by (Some p) = lt-ltb i v.signals less
+
+main_wanted : (provided : Option Interface) (signals : ℕ) → is_wanted provided signals Main ≡ true
+main_wanted None n = refl
+main_wanted (Some i) n = refl
 
 pub main_there : (v : Subject) → program_fault v ≡ None → (list : Statements) × (section_in Main v.program.sections ≡ Some list)
-main_there v e = found_there v Main all_sections (accepted v e).0 refl (main_wanted v.provided)
+main_there v e = found_there v Main all_sections (accepted v e).0 refl (main_wanted v.provided v.signals)
 
 -- BANKS AT THE ENDS OF SECTIONS
 
@@ -132,9 +161,9 @@ own_started v (Calling l) outside = refl
 own_started v (Closing l) outside = refl
 own_started v (Reacting i) outside = refl
 
-pub own_section : (v : Subject) (section : Section) (end : AbstractState) → is_start_section section ≡ false
+pub own_left : (v : Subject) (section : Section) (end : AbstractState) → is_start_section section ≡ false
     → flow (context v section) (start_of v section) (body v section) ≡ Ok end → end.own ≡ own_after v
-own_section v section end outside e = own_stays (context v section) (start_of v section) end (body v section) outside e ∙ own_started v section outside
+own_left v section end outside e = own_stays (context v section) (start_of v section) end (body v section) outside e ∙ own_started v section outside
 
 -- a call leaves the bank as it was
 pub bank_called : (v : Subject) (l : ℕ) (end last : AbstractState) → section_end v (Calling l) end ≡ Ok last → end.bank ≡ bank_at v l

@@ -21,12 +21,13 @@ use Rattle.gq_model.specs.rules.Verdict.{program_fault, greatest_cost}
 use Rattle.gq_model.specs.rules.Use.{subject}
 use Rattle.gq_laws.specs.Current_section_facts.{within, After, Continues}
 use Rattle.gq_model.specs.rules.Resolve.{unresolved}
-use Rattle.gq_model.specs.rules.Accept.{Refusal, Over_own, Over_steps, Budget, budget, budgets_from, budgets, program_refusal, not_resolved, own_refusal}
-use Rattle.gq_model.specs.rules.Accept.{steps_refusal, IsAccepted}
+use Rattle.gq_model.specs.rules.Accept.{are_small, Refusal, Over_own, Over_steps, Budget, budget, budgets_from, budgets, program_refusal, not_resolved}
+use Rattle.gq_model.specs.rules.Accept.{own_refusal}
+use Rattle.gq_model.specs.rules.Accept.{are_small, steps_refusal, IsAccepted}
 use Rattle.gq_model.specs.Promises.{EachOf, budget_of}
 use Rattle.gq_model.proofs.Small_facts.{none_some, some_same, or_first_none, add_none, add_next, none_add}
 use Rattle.gq_laws.proofs.verified_programs.Flow_banks.{own_stays}
-use Rattle.gq_laws.proofs.verified_programs.Accepted_program_facts.{main_there, own_main, own_section}
+use Rattle.gq_laws.proofs.verified_programs.Accepted_program_facts.{main_there, own_main, own_left}
 use Rattle.gq_laws.proofs.remaining_work.Section_move_cases.{chosen_is}
 use Rattle.gq_model.proofs.Rules_laws.{then_ok, later_ok, loop_ok, section_flows, if_parts}
 
@@ -38,8 +39,9 @@ after_own c (r ∷ loops) u end outside h =
     let rest = h.3 in sym (own_stays (within c loops) u rest.0 r.rest outside rest.1) ∙ after_own c loops rest.0 end outside rest.2
 
 -- what is left of a section changes no own slot
-pub own_at : (c : Context) (s end : AbstractState) (todo : Statements) (loops : List Round) → is_start_section c.section ≡ false → Continues c s todo loops end
-    → s.own ≡ end.own
+pub own_at : (c : Context) (s end : AbstractState) (todo : Statements) (loops : List Round) → is_start_section c.section ≡ false
+    → Continues c s todo loops end →
+    s.own ≡ end.own
 own_at c s end todo loops outside h = sym (own_stays (within c loops) s h.0 todo outside h.1) ∙ after_own c loops h.0 end outside h.2
 
 -- AT THE END OF MAIN
@@ -99,7 +101,7 @@ pub own_in_section : (v : Subject) (section : Section) (s end : AbstractState) (
     → flow (context v section) (start_of v section) (body v section) ≡ Ok end
     → Continues (context v section) s todo loops end → s.own ≡ own_after v
 own_in_section v section s end todo loops outside whole goes =
-    own_at (context v section) s end todo loops outside goes ∙ own_section v section end outside whole
+    own_at (context v section) s end todo loops outside goes ∙ own_left v section end outside whole
 
 -- BUDGETS
 
@@ -130,16 +132,16 @@ held_within r (d ∷ cs) (a ∷ bs) e x c b there is = by (nat_le (part r a.own)
     by true t f (suc x) there is further = further f x there is
 
 steps_within : (cs : List Component) (bs : List Budget) → steps_refusal cs bs ≡ None → (x : ℕ) (c : Component) (b : Budget) → slice_get cs x ≡ Some c
-    → slice_get bs x ≡ Some b → b.steps ≤ greatest_cost
+    → slice_get bs x ≡ Some b → are_small b.steps ≡ true
 steps_within [] bs e x c b there is = absurd (none_some there)
 steps_within (d ∷ cs) [] e x c b there is = absurd (none_some is)
-steps_within (d ∷ cs) (a ∷ bs) e x c b there is = by (nat_le a.steps greatest_cost) refl e x there is (λ f y. steps_within cs bs f y c b)
+steps_within (d ∷ cs) (a ∷ bs) e x c b there is = by (are_small a.steps) refl e x there is (λ f y. steps_within cs bs f y c b)
   where
-    by : (t : Bool) → nat_le a.steps greatest_cost ≡ t → cond t (steps_refusal cs bs) (Some (Over_steps d.node.name)) ≡ None → (x : ℕ)
+    by : (t : Bool) → are_small a.steps ≡ t → cond t (steps_refusal cs bs) (Some (Over_steps d.node.name)) ≡ None → (x : ℕ)
         → slice_get (d ∷ cs) x ≡ Some c → slice_get (a ∷ bs) x ≡ Some b
-        → (steps_refusal cs bs ≡ None → (y : ℕ) → slice_get cs y ≡ Some c → slice_get bs y ≡ Some b → b.steps ≤ greatest_cost) → b.steps ≤ greatest_cost
+        → (steps_refusal cs bs ≡ None → (y : ℕ) → slice_get cs y ≡ Some c → slice_get bs y ≡ Some b → are_small b.steps ≡ true) → are_small b.steps ≡ true
     by false t f x there is further = absurd (none_some (sym f))
-    by true t f zero there is further = subst (λ (b : Budget). b.steps ≤ greatest_cost) (some_same is) (leb-true a.steps greatest_cost t)
+    by true t f zero there is further = subst (λ (b : Budget). are_small b.steps ≡ true) (some_same is) t
     by true t f (suc x) there is further = further f x there is
 
 module _ (s : Scenario) (x : ℕ) (c : Component) (there : slice_get (components s) x ≡ Some c) where
@@ -167,7 +169,7 @@ module _ (s : Scenario) (x : ℕ) (c : Component) (there : slice_get (components
     own_pays Caps = held_within Caps (components s) (budgets s) parts.2 x c (budget_of s x c) there reported_is
 
     -- and its steps are limited
-    pub steps_limited : (budget_of s x c).steps ≤ greatest_cost
+    pub steps_limited : are_small (budget_of s x c).steps ≡ true
     steps_limited = steps_within (components s) (budgets s) parts.1 x c (budget_of s x c) there reported_is
 
 -- of each resource that is counted it is what the verifier finds

@@ -117,6 +117,7 @@ sure_of s sound =
       sections = λ x c section list there listed. section_fits 0 c.node.program.sections section list
           (program_parts c.node.program (sound.formed.programs x c there)).1 listed;
       upgrades = sound.formed.upgrades;
+      signals = sound.formed.signals;
     }
 
 pub good_of : (s : Scenario) → IsSound s → ArePrograms (IsGood (system s)) (system s)

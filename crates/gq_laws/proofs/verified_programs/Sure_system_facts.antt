@@ -23,3 +23,4 @@ pub record IsSure (system : System) : Type 0 where
   pub sections : (x : ℕ) (c : Component) (section : Section) (list : Statements) → slice_get system.components x ≡ Some c
       → section_in section c.node.program.sections ≡ Some list → is_section section ≡ true
   pub upgrades : (service : List ℕ) (i : Interface) → interface_in service system.interfaces ≡ Some i → length i.upgrades ≤ 3
+  pub signals : (x : ℕ) (c : Component) → slice_get system.components x ≡ Some c → c.node.signals ≤ 3

@@ -30,9 +30,12 @@ opens_uses system c x service (s ∷ rest) there e = by (text_eq service s) refl
     by true same f go = or_left (is_there x (server_of system c s)) _ (ap (λ t. is_there x (server_of system c t)) (sym (text_is service s same)) ∙ there)
     by false other f go = or_right (is_there x (server_of system c s)) _ (go f)
 
-times_main : (d : ℕ) (system : System) (x : ℕ) → times d system x Main ≡ 1
-times_main zero system x = refl
-times_main (suc d) system x = refl
+-- how often a section of the x-th leaf runs, by chains of at most `depth` uses, where sections of leaves' own run so often
+abbrev pub times_by : (ℕ → Section → ℕ) → ℕ → System → ℕ → Section → ℕ
+times_by own depth system x Main = own x Main
+times_by own depth system x (Reacting i) = own x (Reacting i)
+times_by own zero system x section = 0
+times_by own (suc depth) system x section = asked_of (times_by own depth system) system x section (provided_by (slice_get system.components x))
 
 module _ (system : System) where
   -- requests for a service that is not opened
@@ -76,48 +79,48 @@ module _ (system : System) where
       by true there = opening (any_of (text_eq service) (services c)) refl there
       by false there = omega arith
 
-  module _ (resolved : cycle_fault system 0 system.components ≡ None) (done : ℕ → Section → ℕ) (main_once : (x : ℕ) → done x Main ≤ 1)
-      (never : (x i : ℕ) → done x (Reacting i) ≡ 0) (asked : (x : ℕ) (section : Section) → is_own_section section ≡ false
+  module _ (resolved : cycle_fault system 0 system.components ≡ None) (done : ℕ → Section → ℕ)
+      (asked : (x : ℕ) (section : Section) → is_own_section section ≡ false
       → done x section ≤ asked_of done system x section (provided_by (slice_get system.components x))) where
-    by_users : (d x : ℕ) (section : Section) (provided : Option (List ℕ)) → ((y : ℕ) → Uses system y x → (p : Section) → done y p ≤ times d system y p)
-        → asked_of done system x section provided ≤ asked_of (times d system) system x section provided
+    by_users : (d x : ℕ) (section : Section) (provided : Option (List ℕ)) → ((y : ℕ) → Uses system y x → (p : Section) → done y p ≤ times_by done d system y p)
+        → asked_of done system x section provided ≤ asked_of (times_by done d system) system x section provided
     by_users d x section None users = omega arith
     by_users d x section (Some service) users =
-        leaves_less done (times d system) x service section 0 system.components
-        (λ k c e there opens p. subst (λ n. done n p ≤ times d system n p) (omega arith)
+        leaves_less done (times_by done d system) x service section 0 system.components
+        (λ k c e there opens p. subst (λ n. done n p ≤ times_by done d system n p) (omega arith)
         (users k (c, e, opens_uses system c x service (services c) there opens) p))
 
-    step : (d x : ℕ) (section : Section) → is_own_section section ≡ false → ((y : ℕ) → Uses system y x → (p : Section) → done y p ≤ times d system y p)
-        → done x section ≤ asked_of (times d system) system x section (provided_by (slice_get system.components x))
+    step : (d x : ℕ) (section : Section) → is_own_section section ≡ false → ((y : ℕ) → Uses system y x → (p : Section) → done y p ≤ times_by done d system y p)
+        → done x section ≤ asked_of (times_by done d system) system x section (provided_by (slice_get system.components x))
     step d x section outside users =
         let least = asked x section outside in
         let more = by_users d x section (provided_by (slice_get system.components x)) users in omega (arith, least, more)
 
     -- the uses after a leaf and the depth that is left are as many as there are leaves
     by_depth : (d x : ℕ) (rest : List ℕ) → Chain system x rest → length rest + d ≡ length system.components → (section : Section)
-        → done x section ≤ times d system x section
+        → done x section ≤ times_by done d system x section
     by_depth zero x rest chain long section = let short = chain_short system resolved x rest chain in absurd (omega arith)
-    by_depth (suc d) x rest chain long Main = main_once x
+    by_depth (suc d) x rest chain long Main = omega arith
     by_depth (suc d) x rest chain long Opening = step d x Opening refl (λ y used p. by_depth d y (x ∷ rest) (used, chain) (omega arith) p)
     by_depth (suc d) x rest chain long (Upgrading l) = step d x (Upgrading l) refl (λ y used p. by_depth d y (x ∷ rest) (used, chain) (omega arith) p)
     by_depth (suc d) x rest chain long (Calling l) = step d x (Calling l) refl (λ y used p. by_depth d y (x ∷ rest) (used, chain) (omega arith) p)
     by_depth (suc d) x rest chain long (Closing l) = step d x (Closing l) refl (λ y used p. by_depth d y (x ∷ rest) (used, chain) (omega arith) p)
-    by_depth (suc d) x rest chain long (Reacting i) = let none = never x i in omega (arith, none)
+    by_depth (suc d) x rest chain long (Reacting i) = omega arith
 
-    nowhere : (d x : ℕ) (section : Section) → done x section ≤ asked_of done system x section None → done x section ≤ times d system x section
+    nowhere : (d x : ℕ) (section : Section) → done x section ≤ asked_of done system x section None → done x section ≤ times_by done d system x section
     nowhere d x section least = omega (arith, least)
 
-    -- no section runs more often than `times` says
-    pub counts_bounded : (x : ℕ) (section : Section) → done x section ≤ times (length system.components) system x section
+    -- no section runs more often than its leaf's own sections account for
+    pub counts_bounded : (x : ℕ) (section : Section) → done x section ≤ times_by done (length system.components) system x section
     counts_bounded x section = by (slice_get system.components x) refl section (asked x section)
       where
         by : (o : Option Component) → slice_get system.components x ≡ o → (section : Section)
             → (is_own_section section ≡ false → done x section ≤ asked_of done system x section (provided_by o))
-            → done x section ≤ times (length system.components) system x section
+            → done x section ≤ times_by done (length system.components) system x section
         by (Some c) e section least = by_depth (length system.components) x [] (slice_get_within system.components x c e) (omega arith) section
-        by None e Main least = subst (λ n. done x Main ≤ n) (sym (times_main (length system.components) system x)) (main_once x)
+        by None e Main least = omega arith
         by None e Opening least = nowhere (length system.components) x Opening (least refl)
         by None e (Upgrading l) least = nowhere (length system.components) x (Upgrading l) (least refl)
         by None e (Calling l) least = nowhere (length system.components) x (Calling l) (least refl)
         by None e (Closing l) least = nowhere (length system.components) x (Closing l) (least refl)
-        by None e (Reacting i) least = let none = never x i in omega (arith, none)
+        by None e (Reacting i) least = omega arith

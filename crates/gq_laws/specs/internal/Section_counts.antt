@@ -7,7 +7,7 @@ use Rattle.gq_model.specs.declared.phase.Phase.TheVariants.{Pending, Running, Bl
 use Rattle.gq_model.specs.machine.Sections.{same_section, is_own_section}
 use Rattle.gq_model.specs.machine.Scenario.{System, Component}
 use Rattle.gq_model.specs.machine.Routes.{server_of}
-use Rattle.gq_model.specs.machine.World.{Session, Ask, Request, Round, Leaf, World, session_at}
+use Rattle.gq_model.specs.machine.World.{Session, Ask, Request, Signal, Round, Leaf, World, session_at, start}
 use Rattle.gq_model.specs.machine.Step.{section_for, level_then}
 use Rattle.gq_model.specs.rules.Kinds.{Kind}
 use Rattle.gq_model.specs.rules.Flow.{context}
@@ -83,13 +83,51 @@ Within system left y from state todo loops =
 
 -- WORLDS
 
--- what sections have cost so far, and what they have asked for, is paid by how often they were asked for
-pub record Counts (done : Often) (made left : Requests) (system : System) (w : World) : Type 0 where
-  -- `main` once, and what is done for a signal never
-  pub once : (x : ℕ) → done x Main ≤ 1
-  pub never : (x i : ℕ) → done x (Reacting i) ≡ 0
+-- from which world on is counted, and how often each `main` may run from then on
+pub record Since : Type 0 where
+  pub world : World
+  pub starts : ℕ
+
+-- from the start on each runs once
+abbrev pub since_start : System → Since
+since_start system = record { world = start system; starts = 1 }
+
+-- from a world on in which each has ended, none does
+abbrev pub since_rest : World → Since
+since_rest w = record { world = w; starts = 0 }
+
+abbrev pub steps_if : Option Leaf → ℕ
+steps_if None = 0
+steps_if (Some leaf) = leaf.steps
+
+-- the steps that the x-th leaf has taken
+abbrev pub steps_taken : World → ℕ → ℕ
+steps_taken w x = steps_if (slice_get w.leaves x)
+
+-- how often a signal was taken
+abbrev pub times_of : Option Signal → ℕ
+times_of None = 0
+times_of (Some s) = s.taken
+
+abbrev pub times_taken : List Signal → ℕ → ℕ
+times_taken signals i = times_of (slice_get signals i)
+
+abbrev pub taken_of : Option Leaf → ℕ → ℕ
+taken_of None i = 0
+taken_of (Some leaf) i = times_taken leaf.signals i
+
+-- how often the i-th signal of the x-th leaf was taken
+abbrev pub taken_in : World → ℕ → ℕ → ℕ
+taken_in w x i = taken_of (slice_get w.leaves x) i
+
+-- what sections have cost since then, and what they have asked for, is paid by how often they were asked for
+pub record Counts (since : Since) (done : Often) (made left : Requests) (system : System) (w : World) : Type 0 where
+  pub once : (x : ℕ) → done x Main ≤ since.starts
+  -- what is done for a signal no more often than it was taken
+  pub reacted : (x i : ℕ) → done x (Reacting i) + taken_in since.world x i ≤ taken_in w x i
   pub taken : (x : ℕ) (c : Component) (leaf : Leaf) → slice_get system.components x ≡ Some c → slice_get w.leaves x ≡ Some leaf
-      → leaf.steps + ahead leaf leaf.phase + steps_of (waiting w x) c.node.program.sections ≤ steps_of (done x) c.node.program.sections
+      → leaf.steps + ahead leaf leaf.phase + steps_of (waiting w x) c.node.program.sections
+      ≤ steps_taken since.world x + steps_of (done x) c.node.program.sections
   -- any other section no more often than leaves have made requests for it
   pub asked : (x : ℕ) (section : Section) → is_own_section section ≡ false
       → done x section ≤ made_for made system x section (provided_by (slice_get system.components x))
@@ -98,10 +136,10 @@ pub record Counts (done : Often) (made left : Requests) (system : System) (w : W
       ≤ from_sections (done y) (subject system c) service section c.node.program.sections
 
 -- the world is typed, no leaf has more requests left than are counted, and all is paid
-pub record IsCounted (system : System) (w : World) : Type 0 where
+pub record IsCounted (since : Since) (system : System) (w : World) : Type 0 where
   pub promised : ℕ → Option Kind
   pub done : Often
   pub made : Requests
   pub left : Requests
   pub typed : IsTypedBy promised (Within system left) system w
-  pub counts : Counts done made left system w
+  pub counts : Counts since done made left system w

@@ -13,7 +13,7 @@ programs_of = map (λ c. c.node.program)
 
 -- what a leaf's program is judged by
 abbrev pub judged_by : Interfaces → Component → Subject
-judged_by interfaces c = subject_of c.node.program c.node.provides interfaces c.node.inputs
+judged_by interfaces c = subject_of c.node.program c.node.provides interfaces c.node.inputs c.node.signals
 
 -- the refusal of a leaf whose program breaks a rule
 abbrev pub leaf_refusal : Interfaces → Component → Option Refusal

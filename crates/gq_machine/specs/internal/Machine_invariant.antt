@@ -1,11 +1,11 @@
 -- What holds of a machine between two steps.
-use Rattle.std.specs.Prelude.{◌≡◌, ℕ, ◌+◌, ◌<◌, ◌^◌, List, length, slice_get, Option, Some, None, Result, OnErr, OnOk}
+use Rattle.std.specs.Prelude.{◌≡◌, ℕ, ◌+◌, ◌<◌, ◌^◌, true, List, length, option_map, slice_get, Option, Some, None, Result, OnErr, OnOk}
 use Rattle.gq_model.specs.declared.program.Instruction.{Instruction}
 use Rattle.gq_model.specs.declared.fault.Wrong.{Wrong}
 use Rattle.gq_model.specs.declared.phase.Phase.TheVariants.{Serving}
 use Rattle.gq_model.specs.machine.Doing.{Stepped}
 use Rattle.gq_model.specs.machine.Scenario.{Scenario, Component, components, system}
-use Rattle.gq_model.specs.machine.Step.{next}
+use Rattle.gq_model.specs.machine.Step.{first_signal, next}
 use Rattle.gq_model.specs.machine.World as world
 use Rattle.gq_bytecode.specs.Nexts.{Active}
 use Rattle.gq_bytecode.specs.Programs.{IsCodeOfProgram}
@@ -13,7 +13,7 @@ use Rattle.gq_bytecode.specs.declared.operation.Operation.{Operation}
 use Rattle.gq_bytecode.specs.declared.operation.Operation.TheVariants.{End}
 use Rattle.gq_laws.specs.Session_links.{IsLinkedWorld}
 use Rattle.gq_laws.specs.Room.{IsRoomy}
-use Rattle.gq_laws.specs.Leaf_phases.{AreReady}
+use Rattle.gq_laws.specs.Leaf_phases.{AreReady, serves}
 use Rattle.gq_statements.specs.Systems.{IsOf}
 use Rattle.gq_statements.specs.Serving.{AreSections}
 use Rattle.gq_statements.specs.declared.actor.Current.{Current}
@@ -86,10 +86,18 @@ pub record CanGoOn (f : Fixed) (m : MachineState) (x turns : ℕ) : Type 0 where
   pub active : OfLeaf (λ l. Active l.state.phase) (slice_get m.leaves.items x)
   pub countable : OfLeaf (λ l. l.state.steps + turns < 2 ^ 64) (slice_get m.leaves.items x)
 
--- a leaf that waits for a request
+-- a leaf that waits for a signal or a request
 pub record CanServe (f : Fixed) (m : MachineState) (x : ℕ) : Type 0 where
   pub can : CanStep f m x
   pub serves : OfLeaf (λ l. l.state.phase ≡ Serving) (slice_get m.leaves.items x)
+
+-- none of the leaf's signals is submitted
+abbrev pub HasNoSignal : MachineState → ℕ → Type 0
+HasNoSignal m x = OfLeaf (λ l. first_signal l.state.signals ≡ None) (slice_get m.leaves.items x)
+
+-- this is the number of the first of the leaf's signals that is submitted
+abbrev pub HasSignal : MachineState → ℕ → ℕ → Type 0
+HasSignal m x i = OfLeaf (λ l. option_map (λ p. p.0) (first_signal l.state.signals) ≡ Some i) (slice_get m.leaves.items x)
 
 -- a leaf at the end of a section for its current request
 pub record EndsSection (f : Fixed) (m : MachineState) (x : ℕ) (current : Current) : Type 0 where
@@ -124,20 +132,33 @@ Goes f x old new shown =
 abbrev pub IsLong : MachineState → ℕ → ℕ → Instruction → Type 0
 IsLong m x statement i = OfLeaf (λ l. slice_get l.code.longs statement ≡ Some i) (slice_get m.leaves.items x)
 
-abbrev pub ProvidesOne : Option Component → Type 0
-ProvidesOne None = ⊥
-ProvidesOne (Some c) = (service : List ℕ) × (c.node.provides ≡ Some service)
+-- the leaf is in `main`: it handles neither a request nor a signal
+pub record IsInMain (m : MachineState) (x : ℕ) : Type 0 where
+  pub no_request : OfLeaf (λ l. l.state.current ≡ None) (slice_get m.leaves.items x)
+  pub no_signal : OfLeaf (λ l. l.state.reacting ≡ None) (slice_get m.leaves.items x)
 
--- the leaf is in `main`, and provides a service
+abbrev pub ServesOn : Option Component → Type 0
+ServesOn None = ⊥
+ServesOn (Some c) = serves c.node.provides c.node.signals ≡ true
+
+-- the leaf is in `main`, and provides a service or has signals
 pub record Provides (f : Fixed) (m : MachineState) (x : ℕ) : Type 0 where
-  pub main : OfLeaf (λ l. l.state.current ≡ None) (slice_get m.leaves.items x)
-  pub provides : ProvidesOne (slice_get (components f.table) x)
+  pub main : IsInMain m x
+  pub provides : ServesOn (slice_get (components f.table) x)
 
-abbrev pub ProvidesNone : Option Component → Type 0
-ProvidesNone None = ⊥
-ProvidesNone (Some c) = c.node.provides ≡ None
+abbrev pub HasNone : Option Component → Type 0
+HasNone None = ⊥
+HasNone (Some c) = (c.node.provides ≡ None) × (c.node.signals ≡ 0)
 
--- the leaf is in `main`, and provides nothing
+-- the leaf is in `main`, provides nothing and has no signals
 pub record EndsMain (f : Fixed) (m : MachineState) (x : ℕ) : Type 0 where
-  pub main : OfLeaf (λ l. l.state.current ≡ None) (slice_get m.leaves.items x)
-  pub provides : ProvidesNone (slice_get (components f.table) x)
+  pub main : IsInMain m x
+  pub provides : HasNone (slice_get (components f.table) x)
+
+-- a leaf at the end of the section for a signal
+pub record EndsReaction (f : Fixed) (m : MachineState) (x : ℕ) : Type 0 where
+  pub can : CanStep f m x
+  pub next : IsNext m x End
+  pub no_request : OfLeaf (λ l. l.state.current ≡ None) (slice_get m.leaves.items x)
+  pub i : ℕ
+  pub signal : OfLeaf (λ l. l.state.reacting ≡ Some i) (slice_get m.leaves.items x)

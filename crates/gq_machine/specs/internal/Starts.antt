@@ -21,7 +21,7 @@ machine_seen m = record { scenario = m.fixed.table; world = world_of m.fixed.tab
 
 -- the leaf is at the start of its program
 pub record IsFirstOf (c : Component) (l : Coded) : Type 0 where
-  pub state : l.state ≡ first_state (first_phase c.node.after)
+  pub state : l.state ≡ first_state (first_phase c.node.after) c.node.signals
   pub code : IsCodeOfProgram l.code c.node.program.sections
 
 -- these are the first leaves of the components

@@ -24,6 +24,7 @@ reads inputs body =
       provided = None;
       interfaces = (codes "echo", echo) ∷ (codes "log", log_interface) ∷ [];
       inputs = inputs;
+      signals = 0;
     }))
 
 -- one without inputs
@@ -38,6 +39,7 @@ serves i sections =
       provided = Some i;
       interfaces = (codes "echo", echo) ∷ [];
       inputs = [];
+      signals = 0;
     }))
 
 -- an echo with these sections

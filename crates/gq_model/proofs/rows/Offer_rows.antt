@@ -8,7 +8,7 @@ use Rattle.gq_model.specs.machine.Scenario.{Scenario, InitNode, Nodes, End, Init
 use Rattle.gq_model.specs.machine.Routes.{To, No_route, Ambiguous, Provides_differs, child_named, providers, only}
 use Rattle.gq_model.specs.rules.Accept.{refusal}
 use Rattle.gq_model.specs.texts.Fault_texts.{said_of}
-use Rattle.gq_model.proofs.Sample_scenarios.{leaves, init_node, served, echo, echo_server, echo_client, echo_turns, hello_leaf}
+use Rattle.gq_model.proofs.Sample_scenarios.{leaves, init_node, served, echo, echo_server, echo_client, echo_turns, hello_leaf, started}
 
 -- an init with so many bytes that offers the echo of a child
 abbrev offering : List ℕ → ℕ → List ℕ → InitNode
@@ -75,13 +75,13 @@ unfolding digits
 outer_before_inner = refl
 
 -- the donation goes down to the server through both inits, which keep nothing, and returns whole
-offered_opened : whole echo_offered (9 ∷ 6 ∷ []) ((0, Turns 1) ∷ (1, Turns 1) ∷ [])
+offered_opened : whole echo_offered (started (9 ∷ 6 ∷ [])) ((0, Turns 1) ∷ (1, Turns 1) ∷ [])
     ≡ (codes "account init quota 32768\naccount init -> drivers quota 8192\naccount init -> drivers -> inner quota 4096\n"
     ++ codes "account init -> drivers -> inner -> srv quota 12288 used 0 steps 1/9 serving\naccount init -> cli quota 8192 used 0 steps 1/6 blocked\n")
 unfolding digits
 offered_opened = refl
 
-offered_run : whole echo_offered (9 ∷ 6 ∷ []) echo_turns
+offered_run : whole echo_offered (started (9 ∷ 6 ∷ [])) echo_turns
     ≡ (codes "[init -> cli] 42\naccount init quota 49152\naccount init -> drivers quota 8192\naccount init -> drivers -> inner quota 4096\n"
     ++ codes "account init -> drivers -> inner -> srv quota 4096 used 0 steps 9/9 serving\naccount init -> cli quota 0 used 0 steps 6/6 exited\n")
 unfolding digits

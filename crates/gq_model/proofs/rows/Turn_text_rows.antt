@@ -4,14 +4,15 @@ use Rattle.std.specs.Prelude.{codes, Ok, Err, ◌^◌}
 use Rattle.gq_tariff.specs.declared.quantity.QuantityFault.TheVariants.{Empty, BadCharacter, TooLarge}
 use Rattle.gq_tariff.specs.Quantities.{quantity_of}
 use Rattle.gq_model.specs.texts.Turns.{BadLine, NoSuchComponent, TooMany, NoInput, InputTooLarge, turned}
-use Rattle.gq_model.proofs.Sample_scenarios.{scenario, leaf, leaves, main_of, hello, echo_of, echo_turns}
+use Rattle.gq_model.proofs.Sample_scenarios.{scenario, leaf, leaves, main_of, hello, echo_of, echo_turns, started}
 use Rattle.std.specs.Fmt.{digits}
-use Rattle.std.proofs.Common.{ℕ}
-use Rattle.gq_model.specs.machine.Scenario.{Scenario}
+use Rattle.std.proofs.Common.{ℕ, List}
+use Rattle.gq_model.specs.machine.Scenario.{LeafNode, Scenario}
 use Rattle.gq_model.specs.machine.Program.{Out}
 use Rattle.gq_model.specs.machine.Accounts.{whole}
 use Rattle.gq_model.proofs.Statement_word_rows.{input}
 use Rattle.gq_model.specs.machine.Run.{Turns, Sets}
+use Rattle.gq_model.specs.machine.Rest.{to_rest}
 
 hello_turns : turned hello (codes "hello 2\n") ≡ Ok ((0, Turns 2) ∷ [])
 hello_turns = refl
@@ -80,10 +81,34 @@ settings_count_nothing : turned (heated 3) (codes "heat 1000000\nheat.0 = 1\nhea
 settings_count_nothing = refl
 
 -- a leaf reads what was set last, and 0 before
-heated_run : whole (heated 3) (3 ∷ []) ((0, Sets 0 7) ∷ (0, Sets 0 42) ∷ (0, Turns 1) ∷ (0, Sets 0 1) ∷ (0, Turns 2) ∷ []) ≡ codes
+heated_run : whole (heated 3) (started (3 ∷ [])) ((0, Sets 0 7) ∷ (0, Sets 0 42) ∷ (0, Turns 1) ∷ (0, Sets 0 1) ∷ (0, Turns 2) ∷ []) ≡ codes
     "[init -> heat] 42\naccount init quota 65536 caps 0\naccount init -> heat quota 0 used 0 caps 0 taken 0 steps 3/3 exited\n"
 unfolding digits
 heated_run = refl
+
+-- LINES THAT BRING ALL TO REST
+
+abbrev heater : List ℕ → LeafNode
+heater name = record (leaf name 4096 (main_of (input 0 ∷ Out ∷ []))) { inputs = 100 ∷ [] }
+
+-- two leaves, each of which takes three steps
+abbrev pair : ℕ → Scenario
+pair version = record (scenario 65536 (leaves (heater (codes "a") ∷ heater (codes "b") ∷ []))) { version = version }
+
+rest_in_its_place : turned (pair 4) (codes "a 1\nrest\na.0 = 5\nrest\nb 1\n") ≡ Ok (
+    (0, Turns 1) ∷ (0, Turns 2) ∷ (1, Turns 3) ∷ (0, Sets 0 5) ∷ (1, Turns 1) ∷ [])
+unfolding to_rest
+rest_in_its_place = refl
+
+no_rest : turned (pair 3) (codes "rest") ≡ Err (BadLine, 1)
+no_rest = refl
+
+leaf_of_that_name : turned (pair 4) (codes "rest 1") ≡ Err (NoSuchComponent, 1)
+leaf_of_that_name = refl
+
+-- they count for nothing
+rests_count_nothing : turned (pair 4) (codes "a 1000000\nrest\na 1") ≡ Err (TooMany, 3)
+rests_count_nothing = refl
 
 eight_k : quantity_of (codes "8K") ≡ Ok 8192
 eight_k = refl

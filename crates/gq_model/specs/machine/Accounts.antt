@@ -1,11 +1,12 @@
 -- The accounts of all nodes, their lines, and the text of a run.
-use Rattle.std.specs.Prelude.{ℕ, suc, ◌+◌, ◌-◌, if◌then◌else◌, List, [], ◌∷◌, ◌++◌, Option, Some, None, slice_get, slice_index, decimal, codes}
+use Rattle.std.specs.Prelude.{ℕ, suc, ◌+◌, ◌-◌, ◌^◌, nat_lt, if◌then◌else◌, List, [], ◌∷◌, ◌++◌, Option, Some, None, slice_get, slice_index, decimal, codes}
 use Rattle.gq_model.specs.machine.Amounts.{Resource, Ram, Caps, Amount, amount, part, counts_caps}
 use Rattle.gq_model.specs.machine.Scenario.{Scenario, Component, Nodes, End, Leaf_node, Init_node, System, system, below}
 use Rattle.gq_model.specs.machine.World.{Phase, Pending, Running, Blocked, Serving, Handling, Exited, Leaf, World}
 use Rattle.gq_model.specs.machine.Sums.{handed, held, quota}
 use Rattle.gq_model.specs.machine.Doing.{Wrong}
 use Rattle.gq_model.specs.machine.Run.{Ran, Acts, run}
+use Rattle.gq_model.specs.machine.Step_budgets.{StepBudget, all_steps_in}
 
 abbrev pub phase_word : Phase → List ℕ
 phase_word Pending = codes "pending"
@@ -95,6 +96,10 @@ accounts s w budgets =
 
 -- LINES
 
+-- steps are stored in 64 bits, and stay at the greatest number once there
+abbrev pub shown : ℕ → ℕ
+shown n = if nat_lt n (2 ^ 64) then n else 2 ^ 64 - 1
+
 -- a word and a number
 abbrev pub entry : List ℕ → ℕ → List ℕ
 entry word n = codes " " ++ word ++ codes " " ++ decimal n
@@ -106,7 +111,7 @@ reported version text = if counts_caps version then text else []
 abbrev pub leaf_entries : Option LeafAccount → List ℕ
 leaf_entries None = []
 leaf_entries (Some a) =
-    entry (codes "steps") a.steps ++ codes "/" ++ decimal a.budget ++ codes " " ++ phase_word a.phase
+    entry (codes "steps") (shown a.steps) ++ codes "/" ++ decimal (shown a.budget) ++ codes " " ++ phase_word a.phase
 
 -- what a leaf has used of each
 abbrev pub used_entry : List ℕ → (Amount → ℕ) → Option LeafAccount → List ℕ
@@ -124,9 +129,9 @@ account_lines version [] = []
 account_lines version (a ∷ rest) = account_line version a ++ account_lines version rest
 
 -- the lines of a run, and the accounts at its end where no step was wrong
-abbrev pub text_of : Scenario → List ℕ → Ran → Option (ℕ × Wrong) → List ℕ
-text_of s budgets ran None = ran.text ++ account_lines s.version (accounts s ran.world budgets)
+abbrev pub text_of : Scenario → List StepBudget → Ran → Option (ℕ × Wrong) → List ℕ
+text_of s budgets ran None = ran.text ++ account_lines s.version (accounts s ran.world (all_steps_in ran.world budgets))
 text_of s budgets ran (Some p) = ran.text
 
-abbrev pub whole : Scenario → List ℕ → Acts → List ℕ
+abbrev pub whole : Scenario → List StepBudget → Acts → List ℕ
 whole s budgets acts = let ran = run (system s) acts in text_of s budgets ran ran.wrong

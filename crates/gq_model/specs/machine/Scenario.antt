@@ -30,7 +30,8 @@ pub record Route : Type 0 where
 pub data Source : Type 0 where
   As_text As_code : (bytes : List ℕ) → Source
 
--- a component with a program and the greatest values of its inputs: perhaps it provides a service, perhaps it starts after another leaf
+-- a component with a program, the greatest values of its inputs and the number of its signals: perhaps it provides a service, perhaps it starts after
+-- another leaf
 pub record LeafNode : Type 0 where
   pub name : List ℕ
   pub quantum : Amount
@@ -39,6 +40,7 @@ pub record LeafNode : Type 0 where
   pub provides : Option (List ℕ)
   pub after : Option (List ℕ)
   pub inputs : List ℕ
+  pub signals : ℕ
   pub routes : Option (List Route)
 
 -- services, each with the name of the child that serves it

@@ -1,8 +1,8 @@
 -- What stands between two steps.
-use Rattle.std.specs.Prelude.{ℕ, Bool, List, [], ◌∷◌, Option, Some, None, replicate, slice_get, slice_set}
+use Rattle.std.specs.Prelude.{ℕ, Bool, false, List, [], ◌∷◌, Option, Some, None, replicate, slice_get, slice_set}
 use Rattle.gq_model.specs.machine.Amounts.{Amount}
 use Rattle.gq_model.specs.machine.Program.{Form, OperandSlot, Own, Shared, Object, Statements, section_in, body_of}
-use Rattle.gq_model.specs.machine.Sections.{Section, Main}
+use Rattle.gq_model.specs.machine.Sections.{Section, Main, Reacting}
 use Rattle.gq_model.specs.machine.Scenario.{System, Component}
 pub use Rattle.gq_model.specs.declared.phase.Phase.{Phase}
 pub use Rattle.gq_model.specs.declared.phase.Phase.TheVariants.{Pending, Running, Blocked, Serving, Handling, Exited}
@@ -46,6 +46,11 @@ pub record Current : Type 0 where
   pub session : ℕ
   pub section : Section
 
+-- a signal of a leaf: whether it was submitted and is not taken yet, and how often it was taken
+pub record Signal : Type 0 where
+  pub submitted : Bool
+  pub taken : ℕ
+
 -- a loop that was entered: its round, and the statements after it
 pub record Round : Type 0 where
   pub round : ℕ
@@ -53,9 +58,11 @@ pub record Round : Type 0 where
   pub body : Statements
   pub rest : Statements
 
+-- `reacting` is the signal whose section a leaf is in
 pub record Leaf : Type 0 where
   pub phase : Phase
   pub current : Option Current
+  pub reacting : Option ℕ
   pub todo : Statements
   pub loops : List Round
   pub operands : List ℕ
@@ -64,6 +71,7 @@ pub record Leaf : Type 0 where
   pub peaks : List ℕ
   pub steps : ℕ
   pub inputs : List ℕ
+  pub signals : List Signal
 
 -- a session's number is its place; a place without a session is free
 pub record World : Type 0 where
@@ -82,6 +90,7 @@ start_leaf c =
     record {
       phase = first_phase c.node.after;
       current = None;
+      reacting = None;
       todo = body_of (section_in Main c.node.program.sections);
       loops = [];
       operands = [];
@@ -90,6 +99,7 @@ start_leaf c =
       peaks = replicate 8 0;
       steps = 0;
       inputs = replicate 8 0;
+      signals = replicate c.node.signals (record { submitted = false; taken = 0 });
     }
 
 abbrev pub start_leaves : List Component → List Leaf
@@ -99,10 +109,15 @@ start_leaves (c ∷ rest) = start_leaf c ∷ start_leaves rest
 abbrev pub start : System → World
 start system = record { leaves = start_leaves system.components; sessions = []; requests = [] }
 
--- the section that a leaf is in: `main` where it has no current request
-abbrev pub section_of : Option Current → Section
-section_of None = Main
-section_of (Some current) = current.section
+-- the section that a leaf without a current request is in: that of the signal that it reacts to, else `main`
+abbrev pub own_section : Option ℕ → Section
+own_section None = Main
+own_section (Some i) = Reacting i
+
+-- the section that a leaf is in
+abbrev pub section_of : Option Current → Option ℕ → Section
+section_of None reacting = own_section reacting
+section_of (Some current) reacting = current.section
 
 -- a part of a world, and the world with that part anew
 abbrev pub joined : {A : Type 0} → Option (Option A) → Option A

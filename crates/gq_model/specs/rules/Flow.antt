@@ -135,10 +135,11 @@ abbrev pub bank_is_empty : List Kind → Bool
 bank_is_empty [] = true
 bank_is_empty (k ∷ kinds) = is_empty_kind k && bank_is_empty kinds
 
--- who provides nothing ends without a link
-abbrev pub main_end : Option Interface → AbstractState → Judged
-main_end None s = must (not (has_link s.own)) LinkLeftOpen (Ok s)
-main_end (Some i) s = Ok s
+-- who provides nothing and has no signals ends without a link
+abbrev pub main_end : Option Interface → ℕ → AbstractState → Judged
+main_end None zero s = must (not (has_link s.own)) LinkLeftOpen (Ok s)
+main_end None (suc n) s = Ok s
+main_end (Some i) signals s = Ok s
 
 -- a buffer is a space of just its size in the first slot
 abbrev pub opening_end : ℕ → AbstractState → Judged
@@ -153,7 +154,7 @@ calling_end provided bank s =
 
 -- what holds at a section's end
 abbrev pub section_end : Subject → Section → AbstractState → Judged
-section_end v Main s = and_then (none_left s) (main_end v.provided)
+section_end v Main s = and_then (none_left s) (main_end v.provided v.signals)
 section_end v Opening s = and_then (none_left s) (opening_end (number_of v.provided (λ i. i.buffer)))
 section_end v (Upgrading l) s = none_left s
 section_end v (Calling l) s = calling_end v.provided (bank_at v l) s

@@ -21,12 +21,13 @@ pub record AbstractState : Type 0 where
   pub bank : List Kind
   pub bounds : List ℕ
 
--- what a program is judged by: the interface that it provides, all interfaces, and the greatest values of its inputs
+-- what a program is judged by: the interface that it provides, all interfaces, the greatest values of its inputs, and the number of its signals
 pub record Subject : Type 0 where
   pub program : Program
   pub provided : Option Interface
   pub interfaces : Interfaces
   pub inputs : List ℕ
+  pub signals : ℕ
 
 -- where a statement stands: its section, and the counts of the loops around it, the innermost first
 pub record Context : Type 0 where

@@ -86,10 +86,11 @@ abbrev pub sibling : List ℕ → List Level → Option LeafNode
 sibling name [] = None
 sibling name (l ∷ above) = leaf_child name l.siblings
 
--- one of two leaves provides a service, or the second's quantum is greater
+-- one of two leaves provides a service, the first has signals, so that it never ends, or the second's quantum is greater
 abbrev pub unfit : LeafNode → LeafNode → Bool
 unfit before node =
-    is_some before.provides || is_some node.provides || nat_lt before.quantum.ram node.quantum.ram || nat_lt before.quantum.caps node.quantum.caps
+    is_some before.provides || nat_lt 0 before.signals || is_some node.provides || nat_lt before.quantum.ram node.quantum.ram
+    || nat_lt before.quantum.caps node.quantum.caps
 
 abbrev pub unfit_after : Option LeafNode → LeafNode → Bool
 unfit_after None node = true

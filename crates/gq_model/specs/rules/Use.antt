@@ -1,10 +1,11 @@
 -- Who uses whom, how often, and the budgets of steps.
-use Rattle.std.specs.Prelude.{ℕ, zero, suc, ◌+◌, ◌*◌, ◌==◌, if◌then◌else◌, Bool, false, ◌||◌, List, [], ◌∷◌, ◌++◌, length, Option, Some, None, slice_get}
+use Rattle.std.specs.Prelude.{ℕ, zero, suc, ◌+◌, ◌*◌, ◌==◌, if◌then◌else◌, Bool, false, ◌&&◌, ◌||◌, List, [], ◌∷◌, ◌++◌, length, Option, Some, None, slice_get}
 use Rattle.gq_model.specs.machine.Lists.{any_of}
 use Rattle.gq_model.specs.machine.Program.{Instruction, Open, Statements, Done, Do, If, Loop}
 use Rattle.gq_model.specs.machine.Sections.{Section, Main, Reacting}
 use Rattle.gq_model.specs.machine.Scenario.{System, Component, service_in}
 use Rattle.gq_model.specs.machine.Routes.{server_of}
+use Rattle.gq_model.specs.machine.Step_budgets.{StepBudget}
 use Rattle.gq_model.specs.rules.Kinds.{Subject}
 use Rattle.gq_model.specs.rules.Budgets.{section_cost, section_requests}
 
@@ -16,6 +17,7 @@ subject system c =
       provided = service_in c.node.provides system.interfaces;
       interfaces = system.interfaces;
       inputs = c.node.inputs;
+      signals = c.node.signals;
     }
 
 -- SERVICES
@@ -84,12 +86,26 @@ abbrev pub provided_by : Option Component → Option (List ℕ)
 provided_by None = None
 provided_by (Some c) = c.node.provides
 
--- how often a section of the x-th leaf runs, by chains of at most `depth` uses: `main` once, a signal's never, another as often as it is asked for
-abbrev pub times : ℕ → System → ℕ → Section → ℕ
-times depth system x Main = 1
-times depth system x (Reacting i) = 0
-times zero system x section = 0
-times (suc depth) system x section = asked_of (times depth system) system x section (provided_by (slice_get system.components x))
+-- what makes leaves run: the start, or the i-th signal of a leaf
+pub data Cause : Type 0 where
+  The_start : Cause
+  A_signal : (leaf i : ℕ) → Cause
+
+-- how often the start runs `main`, and a signal each section that is done for one
+abbrev pub starts_main : Cause → ℕ
+starts_main The_start = 1
+starts_main (A_signal y i) = 0
+
+abbrev pub is_signal : Cause → ℕ → ℕ → Bool
+is_signal The_start x i = false
+is_signal (A_signal y j) x i = y == x && j == i
+
+-- how often a section of the x-th leaf runs for one cause, by chains of at most `depth` uses: one of the service as often as it is asked for
+abbrev pub times : ℕ → Cause → System → ℕ → Section → ℕ
+times depth cause system x Main = starts_main cause
+times depth cause system x (Reacting i) = if is_signal cause x i then 1 else 0
+times zero cause system x section = 0
+times (suc depth) cause system x section = asked_of (times depth cause system) system x section (provided_by (slice_get system.components x))
 
 -- BUDGETS
 
@@ -97,6 +113,20 @@ abbrev pub steps_of : (Section → ℕ) → List (Section × Statements) → ℕ
 steps_of often [] = 0
 steps_of often (p ∷ rest) = often p.0 * section_cost p.0 p.1 + steps_of often rest
 
--- the steps of the x-th leaf: what its sections cost, each as often as it runs
-abbrev pub step_budget : System → ℕ → Component → ℕ
-step_budget system x c = steps_of (times (length system.components) system x) c.node.program.sections
+-- the steps of the x-th leaf for one cause: what its sections cost, each as often as it runs
+abbrev pub steps_for : Cause → System → ℕ → Component → ℕ
+steps_for cause system x c = steps_of (times (length system.components) cause system x) c.node.program.sections
+
+-- those for the signals of the y-th leaf, from the i-th on
+abbrev pub steps_for_signals : System → ℕ → Component → ℕ → ℕ → ℕ → List ℕ
+steps_for_signals system x c y i zero = []
+steps_for_signals system x c y i (suc n) = steps_for (A_signal y i) system x c ∷ steps_for_signals system x c y (suc i) n
+
+-- those for the signals of the leaves from the y-th on
+abbrev pub steps_for_leaves : System → ℕ → Component → ℕ → List Component → List (List ℕ)
+steps_for_leaves system x c y [] = []
+steps_for_leaves system x c y (d ∷ rest) = steps_for_signals system x c y 0 d.node.signals ∷ steps_for_leaves system x c (suc y) rest
+
+-- its steps for the start, and for each signal of each leaf
+abbrev pub step_budget : System → ℕ → Component → StepBudget
+step_budget system x c = record { from_start = steps_for The_start system x c; for_signals = steps_for_leaves system x c 0 system.components }

@@ -1,5 +1,6 @@
 -- What the verifier says of a program.
-use Rattle.std.specs.Prelude.{ℕ, suc, ◌^◌, nat_le, if◌then◌else◌, Bool, true, false, List, [], ◌∷◌, length, Option, Some, None, Result, Ok, Err, is_some}
+use Rattle.std.specs.Prelude.{ℕ, suc, ◌^◌, nat_lt, nat_le, if◌then◌else◌, Bool, true, false, List, [], ◌∷◌, length, Option, Some, None, Result, Ok, Err}
+use Rattle.std.specs.Prelude.{is_some}
 use Rattle.gq_model.specs.machine.Amounts.{Ram, Caps, Amount, amount}
 use Rattle.gq_model.specs.machine.Program.{Statements, size, section_in, Program}
 use Rattle.gq_model.specs.machine.Sections.{Section, Main, Opening, Upgrading, Calling, Closing, Reacting, all_sections}
@@ -26,15 +27,15 @@ pub record Verified : Type 0 where
 abbrev pub has_level : ℕ → Interface → Bool
 has_level l i = nat_le l (length i.upgrades)
 
--- a server has the sections of the levels of its interface, another leaf `main` alone
-abbrev pub is_wanted : Option Interface → Section → Bool
-is_wanted provided Main = true
-is_wanted None section = false
-is_wanted (Some i) Opening = true
-is_wanted (Some i) (Upgrading l) = has_level l i
-is_wanted (Some i) (Calling l) = has_level l i
-is_wanted (Some i) (Closing l) = has_level l i
-is_wanted (Some i) (Reacting j) = false
+-- each leaf has `main` and a section for each of its signals, and a server has the sections of the levels of its interface
+abbrev pub is_wanted : Option Interface → ℕ → Section → Bool
+is_wanted provided signals Main = true
+is_wanted provided signals (Reacting i) = nat_lt i signals
+is_wanted None signals section = false
+is_wanted (Some i) signals Opening = true
+is_wanted (Some i) signals (Upgrading l) = has_level l i
+is_wanted (Some i) signals (Calling l) = has_level l i
+is_wanted (Some i) signals (Closing l) = has_level l i
 
 abbrev pub same_truth : Bool → Bool → Bool
 same_truth true b = b
@@ -44,7 +45,8 @@ same_truth false false = true
 -- the first of these sections that is missing or too many
 abbrev pub first_unwanted : Subject → List Section → Option Section
 first_unwanted v [] = None
-first_unwanted v (s ∷ rest) = if same_truth (is_wanted v.provided s) (is_some (section_in s v.program.sections)) then first_unwanted v rest else Some s
+first_unwanted v (s ∷ rest) =
+    if same_truth (is_wanted v.provided v.signals s) (is_some (section_in s v.program.sections)) then first_unwanted v rest else Some s
 
 -- no section takes more than 10 to the 12 steps
 abbrev pub greatest_cost : ℕ
@@ -83,8 +85,8 @@ abbrev pub verdict_of : Subject → Option Fault → Result Verified Fault
 verdict_of v None = Ok (verified v)
 verdict_of v (Some fault) = Err fault
 
--- what the verifier says of a program, with the service that it provides, all interfaces and the greatest values of its inputs
-abbrev pub verdict : Program → Option (List ℕ) → Interfaces → List ℕ → Result Verified Fault
-verdict program provides interfaces inputs =
-    let v : Subject = record { program = program; provided = service_in provides interfaces; interfaces = interfaces; inputs = inputs } in
+-- what the verifier says of a program, with the service that it provides, all interfaces, the greatest values of its inputs and the number of its signals
+abbrev pub verdict : Program → Option (List ℕ) → Interfaces → List ℕ → ℕ → Result Verified Fault
+verdict program provides interfaces inputs signals =
+    let v : Subject = record { program = program; provided = service_in provides interfaces; interfaces = interfaces; inputs = inputs; signals = signals } in
     verdict_of v (program_fault v)

@@ -60,6 +60,7 @@ turn_fault_word turn.NoSuchComponent = codes "U2 NoSuchComponent"
 turn_fault_word turn.TooMany = codes "U3 TooMany"
 turn_fault_word turn.NoInput = codes "U4 NoInput"
 turn_fault_word turn.InputTooLarge = codes "U5 InputTooLarge"
+turn_fault_word turn.NoSignal = codes "U6 NoSignal"
 
 abbrev pub route_word : Routed → List ℕ
 route_word (To name) = []

@@ -1,5 +1,5 @@
 -- Two worlds in which all threads have the same: a step of one thread in both leaves it so.
-use Rattle.std.proofs.Common.{◌≡◌, ◌≢◌, ◌⊎◌, inl, inr, ℕ, suc, ◌==◌, ◌&&◌, Bool, true, false, cond, ◌++◌, List, [], ◌∷◌, map, Option, Some, None, Ok}
+use Rattle.std.proofs.Common.{◌≡◌, ◌≢◌, ◌⊎◌, inl, inr, ℕ, suc, ◌==◌, ◌&&◌, ◌||◌, Bool, true, false, cond, ◌++◌, List, [], ◌∷◌, map, Option, Some, None, Ok}
 use Rattle.std.proofs.Common.{refl, ap, sym, ◌∙◌, subst, arith}
 use Rattle.std.specs.Prelude.{is_some, option_map, slice_get, slice_set, slice_index, sum_by}
 use Rattle.std.proofs.lemmas.Bool.Decides.{eqb_tells}
@@ -11,14 +11,15 @@ use Rattle.gq_model.specs.machine.Doing.{Event, Stepped}
 use Rattle.gq_model.specs.machine.Scenario.{Component, Scenario, System, system}
 use Rattle.gq_model.specs.machine.Step.{is_to, next}
 use Rattle.gq_model.specs.machine.Sums.{slot_places}
-use Rattle.gq_model.specs.machine.World.{Session, Request, Leaf, World, session_at}
+use Rattle.gq_model.specs.machine.World.{Session, Request, Leaf, World, session_at, start}
 use Rattle.gq_model.proofs.Small_facts.{some_same, equal_self, get_within}
 use Rattle.gq_laws.specs.Shapes.{Each, IsWholeLeaf}
 use Rattle.gq_laws.specs.Session_links.{IsAsked, links}
 use Rattle.gq_laws.specs.Sound_scenarios.{IsSound}
 use Rattle.gq_laws.proofs.Outside_step_untouched.{outlined}
 use Rattle.gq_laws.proofs.verified_programs.Use_chains.{Uses}
-use Rattle.gq_laws.specs.Turn_effects.{can_run, runs, runs_as, steps_of}
+use Rattle.gq_model.specs.machine.Rest.{can_run, runs, runs_as}
+use Rattle.gq_laws.specs.Turn_effects.{steps_of}
 use Rattle.gq_laws.specs.Renamed.{renamed_request, renamed_session, renamed_slot}
 use Rattle.gq_laws.specs.internal.Uncounted.{uncounted}
 use Rattle.gq_laws.proofs.step_shapes.Step_counting.{counts_steps}
@@ -38,6 +39,9 @@ use Rattle.gq_outcomes.proofs.complete.Held_steps.{never_hold, never_left, never
 use Rattle.gq_outcomes.proofs.complete.Good_worlds.{Good, c, event, good_next, goes, later, new, pays, placed, quiet, stepped, there_c, uses_new}
 use Rattle.gq_outcomes.proofs.complete.Order_of_requests.{asked_of, roots_in, roots_to}
 use Rattle.gq_outcomes.proofs.complete.Order_steps.{IsOrdered, ordered}
+use Rattle.gq_determined.proofs.thread_steps.Signal_flags.{signals_at, since_none}
+use Rattle.gq_laws.specs.Leaf_phases.{serves}
+use Rattle.gq_outcomes.proofs.complete.Unsubmitted_signals.{goes_on}
 
 module _ (s : Scenario) (sound : IsSound s) (holds : ℕ → Bool) (P : ℕ → Component → Bool → Instruction → Type 0)
     (sections : AreSections P (uncounted (system s))) (quiet_of : (w : World) → Lefts P (uncounted (system s)) w → AreQuiet holds w) where
@@ -59,7 +63,7 @@ module _ (s : Scenario) (sound : IsSound s) (holds : ℕ → Bool) (P : ℕ → 
 
   -- the leaf provides a service
   abbrev pub Serves : ℕ → Type 0
-  Serves y = (d : Component) → slice_get u.components y ≡ Some d → is_some d.node.provides ≡ true
+  Serves y = (d : Component) → slice_get u.components y ≡ Some d → serves d.node.provides d.node.signals ≡ true
 
   pub record AreOne (m n : Held) : Type 0 where
     pub same : (j : ℕ) → m.hold j ≡ j → IsSameThread j (view m) (view n)
@@ -161,12 +165,15 @@ module _ (s : Scenario) (sound : IsSound s) (holds : ℕ → Bool) (P : ℕ → 
     pub runs_who : can_run u m.world x ≡ true
     runs_who = by (who_is (view m) i x is)
       where
-        of : (l : Leaf) → slice_get m.world.leaves x ≡ Some l → runs m.world x l.phase ≡ true → can_run u m.world x ≡ true
+        of : (l : Leaf) → slice_get m.world.leaves x ≡ Some l → runs m.world x l l.phase ≡ true → can_run u m.world x ≡ true
         of l at e = (λ j. runs_as m.world x (there_c s sound holds P sections quiet_of m h i x is j) (at j)) ∙ e
 
         by : IsWorking (view m) i x ⊎ IsServing (view m) i x → can_run u m.world x ≡ true
-        by (inl w) = of w.at.leaf w.at.there (elim w.runs [ inl r ↦ ap (runs m.world x) r | inr r ↦ ap (runs m.world x) r ])
-        by (inr p) = of p.leaf p.there (ap (runs m.world x) p.serves ∙ ap is_some p.found)
+        by (inl w) = of w.at.leaf w.at.there (elim (goes_on (view m) h.held.calm i x w) [
+          | inl r ↦ ap (runs m.world x w.at.leaf) r
+          | inr r ↦ ap (runs m.world x w.at.leaf) r
+        ])
+        by (inr p) = of p.leaf p.there (ap (runs m.world x p.leaf) p.serves ∙ λ j. is_some (p.idle j) || is_some (p.found j))
 
     pub steps_end : steps_of e0.world ≡ slice_set (steps_of m.world) x (suc (slice_index (steps_of m.world) x))
     steps_end =
@@ -223,7 +230,18 @@ module _ (s : Scenario) (sound : IsSound s) (holds : ℕ → Bool) (P : ℕ → 
     q_n = quiet s sound holds P sections quiet_of n g
 
     reads : ReadSame m.world n.world
-    reads = record { same = λ y a b j rest at at_b e. inr (h.unset.each y a at ∙ sym (g.unset.each y b at_b)) }
+    reads = record {
+      same = λ y a b j rest at at_b e. inr (h.unset.each y a at ∙ sym (g.unset.each y b at_b));
+      served = λ y a b at at_b p q. (
+        since_none (signals_at (start u) y) b.signals (g.since.at y b at_b) q.1
+            ∙ sym (since_none (signals_at (start u) y) a.signals (h.since.at y a at) p.1),
+        reacts_not n g y b at_b q.0 ∙ sym (reacts_not m h y a at p.0),
+      );
+    }
+      where
+        reacts_not : (k : Held) (f : IsGood k) (y : ℕ) (l : Leaf) → slice_get k.world.leaves y ≡ Some l → l.phase ≡ Serving → l.reacting ≡ None
+        reacts_not k f y l at serves =
+            let c = placed s sound holds P sections quiet_of k f y l at in ((f.left.at y l at c.0 c.1).2 serves).1
 
     abbrev w_n : World
     w_n =
@@ -369,10 +387,11 @@ module _ (s : Scenario) (sound : IsSound s) (holds : ℕ → Bool) (P : ℕ → 
         tail e = cc
 
         busy : (w : IsWorking (view m) i x) → (l : Leaf) → slice_get m.world.leaves x ≡ Some l → l.phase ≡ Serving → ⊥
-        busy w l at e = working_serving w.at.leaf.phase w.runs (ap (λ (l : Leaf). l.phase) (some_same (sym w.at.there ∙ at)) ∙ e)
+        busy w l at e = working_serving w.at.leaf.phase (goes_on (view m) h.held.calm i x w) (ap (λ (l : Leaf). l.phase) (some_same (sym w.at.there ∙ at)) ∙ e)
 
         busy_n : (w : IsWorking (view n) i x) → (l : Leaf) → slice_get n.world.leaves x ≡ Some l → l.phase ≡ Serving → ⊥
-        busy_n w l at e = working_serving w.at.leaf.phase w.runs (ap (λ (l : Leaf). l.phase) (some_same (sym w.at.there ∙ at)) ∙ e)
+        busy_n w l at e = working_serving w.at.leaf.phase (goes_on (view n) g.held.calm i x w)
+            (ap (λ (l : Leaf). l.phase) (some_same (sym w.at.there ∙ at)) ∙ e)
 
         here : (IsWorking (view m) i x × IsWorking (view n) i x) ⊎ ServesSame u (view m) (view n) h.held.placed g.held.placed i t0 x → holds x ≡ true
             → roots_to (end m h i x is) x ≡ roots_to (end n g i x is_n) x

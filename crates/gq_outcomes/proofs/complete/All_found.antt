@@ -14,7 +14,7 @@ use Rattle.gq_model.specs.machine.Step.{next}
 use Rattle.gq_model.specs.machine.World.{World, start}
 use Rattle.gq_model.proofs.Small_facts.{none_some}
 use Rattle.gq_laws.specs.Sound_scenarios.{IsSound}
-use Rattle.gq_laws.specs.Turn_effects.{can_run}
+use Rattle.gq_model.specs.machine.Rest.{can_run}
 use Rattle.gq_laws.specs.internal.Uncounted.{uncounted}
 use Rattle.gq_laws.proofs.step_shapes.Step_counting.{stands_still}
 use Rattle.gq_determined.specs.internal.Threads.{who}

@@ -1,5 +1,5 @@
 -- A step asks the server that the next statement names, and no other.
-use Rattle.std.proofs.Common.{◌≡◌, ◌⊎◌, inl, inr, ℕ, suc, ◌++◌, List, [], ◌∷◌, Option, Some, None, Ok}
+use Rattle.std.proofs.Common.{◌≡◌, ◌⊎◌, inl, inr, ℕ, zero, suc, ◌++◌, List, [], ◌∷◌, Option, Some, None, Ok}
 use Rattle.std.proofs.Common.{refl, ap, sym, ◌∙◌, subst}
 use Rattle.std.specs.Prelude.{slice_get, slice_set}
 use Rattle.std.proofs.lemmas.Bool.Decides.{eqb_tells}
@@ -197,12 +197,14 @@ module _ (d : Doing) where
       by None = h
       by (Some leaf) = h
 
-  main_still : (o : Option (List ℕ)) → Ends Still (main_ended d o)
-  main_still (Some service) = gives (standing d (serving d.leaf)) Quiet refl
-  main_still None = when_ends Still (no_link d.leaf.slots) WrongKind _ (gives (exit_of d) Finished refl)
+  main_still : (o : Option (List ℕ)) (n : ℕ) → Ends Still (main_ended d o n)
+  main_still (Some service) n = gives (standing d (serving d.leaf)) Quiet refl
+  main_still None (suc n) = gives (standing d (serving d.leaf)) Quiet refl
+  main_still None zero = when_ends Still (no_link d.leaf.slots) WrongKind _ (gives (exit_of d) Finished refl)
 
   body_still : (loops : List Round) → Ends Still (body_ended d loops)
-  body_still [] = section_by d Still still_slot refl unblocked_still (λ w k h. h) (main_still d.component.node.provides) d.leaf.current
+  body_still [] = section_by d Still still_slot refl unblocked_still (λ w k h. h)
+      (main_still d.component.node.provides d.component.node.signals) d.leaf.current d.leaf.reacting
   body_still (r ∷ loops) = gives _ Quiet refl
 
 perform_asks : (d : Doing) (todo : Statements) → Ends (Asks d.world (next_asked d.system d.world d.x d.component d.leaf todo)) (perform d todo)

@@ -11,12 +11,12 @@ use Rattle.gq_model.specs.machine.World.{Current, Leaf, World}
 use Rattle.gq_model.proofs.Small_facts.{equal_self, none_some}
 use Rattle.gq_laws.specs.Session_links.{links, stance, stance_in}
 use Rattle.gq_laws.specs.Sound_scenarios.{IsSound}
-use Rattle.gq_laws.specs.Turn_effects.{can_run}
+use Rattle.gq_model.specs.machine.Rest.{can_run}
 use Rattle.gq_laws.specs.internal.Uncounted.{uncounted}
 use Rattle.gq_laws.proofs.session_links.Asked_request_changes.{same_current}
 use Rattle.gq_laws.proofs.verified_programs.Use_chains.{Uses}
 use Rattle.gq_races.specs.Races.{is_shared}
-use Rattle.gq_determined.specs.internal.Threads.{is_active, thread_by, who, works, works_for}
+use Rattle.gq_determined.specs.internal.Threads.{has_work, thread_by, who, works, works_for}
 use Rattle.gq_determined.proofs.thread_positions.First_request_given.{equal_of}
 use Rattle.gq_determined.proofs.thread_positions.Single_thread_position.{handled, root_waits}
 use Rattle.gq_determined.proofs.thread_positions.Turn_thread_position.{IsServing, IsWorking, who_is}
@@ -36,6 +36,8 @@ use Rattle.gq_outcomes.proofs.complete.Sections_below.{both}
 use Rattle.gq_outcomes.proofs.complete.Common_turns.{Found, done_begun, done_off, done_used, is_done, some_turn}
 use Rattle.gq_outcomes.proofs.complete.Turns_at_points.{IsLike, like_rests, like_turn, lines, said_both, said_more, turn_said, turn_world}
 use Rattle.gq_outcomes.proofs.complete.Settled_sections.{EndsSame, TakesFirst, settles_both}
+use Rattle.gq_model.specs.machine.Step.{first_signal}
+use Rattle.gq_outcomes.proofs.complete.Unsubmitted_signals.{works_as}
 
 module _ (s : Scenario) (sound : IsSound s) (holds : ℕ → Bool) (P : ℕ → Component → Bool → Instruction → Type 0)
     (sections : AreSections P (uncounted (system s))) (quiet_of : (w : World) → Lefts P (uncounted (system s)) w → AreQuiet holds w)
@@ -65,13 +67,13 @@ module _ (s : Scenario) (sound : IsSound s) (holds : ℕ → Bool) (P : ℕ → 
   Like p q = IsLike s sound holds P sections quiet_of opens_of p q
 
   -- a server that is not held and is done with `main` is so where all threads have the same
-  begun_one : (m n : Held) (h : G m) → One m n → (z : ℕ) → holds z ≡ false → Begun m.world z → Begun n.world z
-  begun_one m n h o z off b l at act = by l.current refl
+  begun_one : (m n : Held) (h : G m) (g : G n) → One m n → (z : ℕ) → holds z ≡ false → Begun m.world z → Begun n.world z
+  begun_one m n h g o z off b l at act = by l.current refl
     where
       of : (k : Leaf) → slice_get m.world.leaves z ≡ Some k → works_for (view m).root z z (Some k) ≡ true → ⊥
       of k there f =
-          let parts = both (is_active k.phase) (thread_by (view m).root z k.current == z) f in
-          let q = b k there parts.0 in
+          let parts = both (has_work k.phase (first_signal k.signals)) (thread_by (view m).root z k.current == z) f in
+          let q = b k there (sym (works_as k (h.held.calm.none z k there)) ∙ parts.0) in
           let root : (view m).root q.0.session ≡ z
           = equal_of ((view m).root q.0.session) z (sym (ap (λ o. thread_by (view m).root z o == z) q.1) ∙ parts.1) in
           let stood : (links m.world).stances z ≡ Some (stance k.phase (Some q.0))
@@ -87,7 +89,8 @@ module _ (s : Scenario) (sound : IsSound s) (holds : ℕ → Bool) (P : ℕ → 
       by (Some q) f = (q, f)
       by None f =
           let there : works (view n) z z ≡ true
-          = ap (works_for (view n).root z z) at ∙ ((λ j. act j && (thread_by (view n).root z (f j) == z)) ∙ equal_self z) in
+          = ap (works_for (view n).root z z) at ∙ ((λ j. (works_as l (g.held.calm.none z l at) ∙ act) j && (thread_by (view n).root z (f j) == z))
+          ∙ equal_self z) in
           absurd (in_m (slice_get m.world.leaves z) refl ((o.same z (h.held.free z off)).leaves z ∙ there))
 
   module _ (shared_of : (z : ℕ) → holds z ≡ false → is_shared (uncounted (system s)) z ≡ true)
@@ -243,7 +246,7 @@ module _ (s : Scenario) (sound : IsSound s) (holds : ℕ → Bool) (P : ℕ → 
             m = l.n;
             good = l.good_n;
             opened = l.opened_n;
-            begun = λ z e. begun_one l.m l.n l.good_m l.one z (done_off s sound holds l.m.world z e) (done_begun s sound holds l.m.world z e);
+            begun = λ z e. begun_one l.m l.n l.good_m l.good_n l.one z (done_off s sound holds l.m.world z e) (done_begun s sound holds l.m.world z e);
           }) l.one p q l.at l.at_n l.said z done can n first same r
 
       ends_next : (n : ℕ) → ((k : ℕ) → k < n → First k) → ((k : ℕ) → k < n → Same k) → Same n

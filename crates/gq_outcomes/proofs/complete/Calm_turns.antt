@@ -9,7 +9,7 @@ use Rattle.gq_model.specs.machine.Scenario.{Component, Scenario, System, system}
 use Rattle.gq_model.specs.machine.Step.{is_to}
 use Rattle.gq_model.specs.machine.World.{Request, World, session_at}
 use Rattle.gq_laws.specs.Sound_scenarios.{IsSound}
-use Rattle.gq_laws.specs.Turn_effects.{can_run}
+use Rattle.gq_model.specs.machine.Rest.{can_run}
 use Rattle.gq_laws.specs.internal.Uncounted.{uncounted}
 use Rattle.gq_determined.specs.internal.Threads.{among, who}
 use Rattle.gq_determined.proofs.thread_positions.Turn_thread_position.{IsServing, IsWorking, who_is}
@@ -21,6 +21,7 @@ use Rattle.gq_outcomes.proofs.complete.Order_of_requests.{asked_of, roots_in}
 use Rattle.gq_outcomes.proofs.complete.Order_steps.{asked_new, ordered}
 use Rattle.gq_outcomes.proofs.complete.Alike_held.{IsGood, end}
 use Rattle.gq_outcomes.proofs.complete.Asked_server.{Adds, Asks, next_asks}
+use Rattle.gq_outcomes.proofs.complete.Unsubmitted_signals.{goes_on}
 
 same_tail : {A : Type 0} (l a b : List A) → l ++ a ≡ l ++ b → a ≡ b
 same_tail [] a b e = e
@@ -66,7 +67,8 @@ module _ (s : Scenario) (sound : IsSound s) (holds : ℕ → Bool) (P : ℕ → 
 
           asks : Asks m.world (asks_next u m.world x (Some (c s sound holds P sections quiet_of m h i x is)) (Some w.at.leaf)) e0.world
           asks = next_asks u m.world x (c s sound holds P sections quiet_of m h i x is) w.at.leaf (new s sound holds P sections quiet_of m h i x is)
-              (event s sound holds P sections quiet_of m h i x is) there w.at.there w.runs (stepped s sound holds P sections quiet_of m h i x is)
+              (event s sound holds P sections quiet_of m h i x is) there w.at.there (goes_on (view m) h.held.calm i x w)
+              (stepped s sound holds P sections quiet_of m h i x is)
 
           a : (more : List Request) × (e0.world.requests ≡ m.world.requests ++ more) × (among (view e0).root i e0.world.requests ≡ more)
           a = asked_new s sound holds P sections quiet_of m h i x is w

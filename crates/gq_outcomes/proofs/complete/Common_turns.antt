@@ -2,7 +2,7 @@
 -- is done with `main`, as all are that are not held and that it reaches, can take one.
 use Rattle.std.proofs.Common.{◌≡◌, ◌⊎◌, inl, inr, ℕ, zero, suc, ◌&&◌, ◌||◌, not, Bool, true, false, [], length, Option, Some, None}
 use Rattle.std.proofs.Common.{refl, ap, sym, ◌∙◌, subst, arith}
-use Rattle.std.specs.Prelude.{is_some, slice_get}
+use Rattle.std.specs.Prelude.{is_some, nat_lt, slice_get}
 use Rattle.std.proofs.lemmas.Bool.{true≢false}
 use Rattle.std.proofs.lemmas.Option.{slice_get_within}
 use Rattle.gq_model.specs.declared.phase.Phase.{Phase}
@@ -16,7 +16,7 @@ use Rattle.gq_model.proofs.Small_facts.{get_within, some_same}
 use Rattle.gq_laws.specs.Leaf_phases.{Suits}
 use Rattle.gq_laws.specs.Session_links.{Waits, links, outline, stance, stance_in}
 use Rattle.gq_laws.specs.Sound_scenarios.{IsSound}
-use Rattle.gq_laws.specs.Turn_effects.{can_run, runs, runs_as}
+use Rattle.gq_model.specs.machine.Rest.{can_run, runs, runs_as}
 use Rattle.gq_laws.specs.internal.Uncounted.{uncounted}
 use Rattle.gq_laws.proofs.Outside_step_untouched.{outlined}
 use Rattle.gq_laws.proofs.verified_programs.Use_chains.{Uses, chain_short}
@@ -39,6 +39,7 @@ use Rattle.gq_outcomes.proofs.complete.Opened_sections.{Begun}
 use Rattle.gq_outcomes.proofs.complete.Sections_below.{any_below_more, both, serves_one}
 use Rattle.gq_outcomes.proofs.complete.Used_servers.{IsShort, below_found, below_there, reach_more, reach_one, reach_used, short_reached, short_used}
 use Rattle.gq_outcomes.proofs.complete.Used_servers.{used_below, used_server}
+use Rattle.gq_outcomes.proofs.complete.Unsubmitted_signals.{goes_on}
 
 both_true : (a b : Bool) → a ≡ true → b ≡ true → (a && b) ≡ true
 both_true a b e f = λ i. e i && f i
@@ -190,8 +191,8 @@ module _ (s : Scenario) (sound : IsSound s) (holds : ℕ → Bool) where
       busy_used y z uses asked = record {
         leaf = leaf.0;
         there = leaf.1;
-        started = λ e. true≢false (sym d.2 ∙ ap is_some (subst (Suits d.0.node.provides) e suits));
-        lasts = λ e. true≢false (sym d.2 ∙ ap is_some (subst (Suits d.0.node.provides) e suits));
+        started = λ e. true≢false (sym d.2 ∙ ap is_some (subst (Suits d.0.node.provides d.0.node.signals) e suits));
+        lasts = λ e. true≢false (sym (ap (λ b. b || nat_lt 0 d.0.node.signals) d.2) ∙ subst (Suits d.0.node.provides d.0.node.signals) e suits);
         asked = asked leaf.0 leaf.1;
       }
         where
@@ -204,7 +205,7 @@ module _ (s : Scenario) (sound : IsSound s) (holds : ℕ → Bool) where
               let count = h.lasts.stands.whole.count in
               let l = get_within m.world.leaves z (omega (arith, below, count)) in (l.0, l.1)
 
-          suits : Suits d.0.node.provides leaf.0.phase
+          suits : Suits d.0.node.provides d.0.node.signals leaf.0.phase
           suits = h.lasts.ready.suits z d.0 leaf.0 d.1 leaf.1
 
       -- a leaf that works
@@ -221,7 +222,10 @@ module _ (s : Scenario) (sound : IsSound s) (holds : ℕ → Bool) where
       }
         where
           is : who (view m) z ≡ Some (thread_by (view m).root z l.current)
-          is = ap (who_of (view m) z) there ∙ elim r [ inl e ↦ ap (who_by (view m) z l.current) e | inr e ↦ ap (who_by (view m) z l.current) e ]
+          is = ap (who_of (view m) z) there ∙ elim r [
+            | inl e ↦ ap (who_by (view m) z l.current l.signals) e
+            | inr e ↦ ap (who_by (view m) z l.current l.signals) e
+          ]
 
           serves : IsServing (view m) (thread_by (view m).root z l.current) z → ⊥
           serves p = working_serving l.phase r (ap (λ (l : Leaf). l.phase) (some_same (sym there ∙ p.there)) ∙ p.serves)
@@ -231,7 +235,8 @@ module _ (s : Scenario) (sound : IsSound s) (holds : ℕ → Bool) where
       takes z l there serves can i is = by (who_is (view m) i z is)
         where
           by : IsWorking (view m) i z ⊎ IsServing (view m) i z → IsCommon
-          by (inl w) = absurd (working_serving w.at.leaf.phase w.runs (ap (λ (l : Leaf). l.phase) (some_same (sym w.at.there ∙ there)) ∙ serves))
+          by (inl w) = absurd (working_serving w.at.leaf.phase (goes_on (view m) h.held.calm i z w)
+              (ap (λ (l : Leaf). l.phase) (some_same (sym w.at.there ∙ there)) ∙ serves))
           by (inr p) = record {
             i = i;
             x = z;
@@ -255,7 +260,8 @@ module _ (s : Scenario) (sound : IsSound s) (holds : ℕ → Bool) where
               let below = slice_get_within m.world.leaves z b.leaf b.there in
               let count = h.lasts.stands.whole.count in
               let d = get_within u.components z (omega (arith, below, count)) in
-              (λ j. runs_as m.world z (d.1 j) (b.there j)) ∙ (ap (runs m.world z) e ∙ b.asked e)
+              (λ j. runs_as m.world z (d.1 j) (b.there j)) ∙ (ap (runs m.world z b.leaf) e
+              ∙ (ap (λ s. is_some s || is_some (oldest m.world z m.world.requests)) (h.held.calm.none z b.leaf b.there) ∙ b.asked e))
 
           begun : begun_in m.world z ≡ true
           begun = ap begun_at b.there ∙ ap (λ p. not (is_active p) || is_some b.leaf.current) e

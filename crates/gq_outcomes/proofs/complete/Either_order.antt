@@ -26,6 +26,7 @@ use Rattle.gq_outcomes.proofs.complete.Order_steps.{IsOrdered, ordered}
 use Rattle.gq_outcomes.proofs.complete.Alike_held.{AreOne, IsGood, Serves, asked_same, end, frame_left, frame_right, full, good_end, leaf_before, leaf_end}
 use Rattle.gq_outcomes.proofs.complete.Alike_held.{own_back, own_kept, own_x, raises, shown, shows_same, slots_same, steps_end, thread_end}
 use Rattle.gq_outcomes.proofs.complete.Two_orders.{apart, index_else, not_leaf, set_both}
+use Rattle.gq_outcomes.proofs.complete.Unsubmitted_signals.{Unsubmitted, goes_on}
 
 both_same : {A : Type 0} (l a b : List A) → (a ≡ []) ⊎ (b ≡ []) → (l ++ a) ++ b ≡ (l ++ b) ++ a
 both_same l a b (inl e) = ap (λ a. (l ++ a) ++ b) e ∙ (ap (λ l. l ++ b) (append-nil l) ∙ (sym (append-nil (l ++ b)) ∙ sym (ap (λ a. (l ++ b) ++ a) e)))
@@ -272,8 +273,9 @@ module _ (s : Scenario) (sound : IsSound s) (holds : ℕ → Bool) (P : ℕ → 
         b_same : (z : ℕ) → asked_of mxy j z ≡ asked_of my j z
         b_same z = asked_same s sound holds P sections quiet_of mxy my hxy j z j_then
 
-        busy : (g : Tracked) (k z : ℕ) → (w : IsWorking g k z) → (l : Leaf) → slice_get g.world.leaves z ≡ Some l → l.phase ≡ Serving → ⊥
-        busy g k z w l at e = working_serving w.at.leaf.phase w.runs (ap (λ (l : Leaf). l.phase) (some_same (sym w.at.there ∙ at)) ∙ e)
+        busy : (g : Tracked) → Unsubmitted g.world → (k z : ℕ) → (w : IsWorking g k z) → (l : Leaf) → slice_get g.world.leaves z ≡ Some l
+            → l.phase ≡ Serving → ⊥
+        busy g calm k z w l at e = working_serving w.at.leaf.phase (goes_on g calm k z w) (ap (λ (l : Leaf). l.phase) (some_same (sym w.at.there ∙ at)) ∙ e)
 
         at_x : (IsWorking (view m) i x × IsWorking (view my) i x) ⊎ ServesSame u (view m) (view my) h.held.placed hy.held.placed i (left_y i i_j i_y) x → z ≡ x
             → roots_to mxy x ≡ roots_to myx x
@@ -285,11 +287,11 @@ module _ (s : Scenario) (sound : IsSound s) (holds : ℕ → Bool) (P : ℕ → 
             by : (IsWorking (view m) i x × IsWorking (view my) i x) ⊎ ServesSame u (view m) (view my) h.held.placed hy.held.placed i (left_y i i_j i_y) x
                 → roots_to mxy x ≡ roots_to myx x
             by (inl w) =
-                oxy.else x ne ∙ (ap (λ l. l ++ asked_of mxy j x) (ox.works_on (busy (view m) i x w.0) x)
+                oxy.else x ne ∙ (ap (λ l. l ++ asked_of mxy j x) (ox.works_on (busy (view m) h.held.calm i x w.0) x)
                 ∙ (ap (λ b. (roots_to m x ++ asked_of mx i x) ++ b) (b_same x)
                 ∙ (both_same (roots_to m x) (asked_of mx i x) (asked_of my j x) free_x
                 ∙ (ap (λ a. (roots_to m x ++ asked_of my j x) ++ a) (a_same x)
-                ∙ (ap (λ l. l ++ asked_of myx i x) (sym (oy.else x ne)) ∙ sym (oyx.works_on (busy (view my) i x w.1) x))))))
+                ∙ (ap (λ l. l ++ asked_of myx i x) (sym (oy.else x ne)) ∙ sym (oyx.works_on (busy (view my) hy.held.calm i x w.1) x))))))
             by (inr p) = cons_tail
                 (ap (λ l. i ∷ l) (oxy.else x ne) ∙ (ap (λ l. l ++ asked_of mxy j x) (sym (ox.takes p.first.leaf p.first.there p.first.serves))
                 ∙ (ap (λ b. (roots_to m x ++ asked_of mx i x) ++ b) (b_same x)
@@ -307,11 +309,11 @@ module _ (s : Scenario) (sound : IsSound s) (holds : ℕ → Bool) (P : ℕ → 
             by : (IsWorking (view m) j y × IsWorking (view mx) j y) ⊎ ServesSame u (view m) (view mx) h.held.placed hx.held.placed j (left_x j j_i j_x) y
                 → roots_to mxy y ≡ roots_to myx y
             by (inl w) =
-                oxy.works_on (busy (view mx) j y w.1) y ∙ (ap (λ l. l ++ asked_of mxy j y) (ox.else y y_x)
+                oxy.works_on (busy (view mx) hx.held.calm j y w.1) y ∙ (ap (λ l. l ++ asked_of mxy j y) (ox.else y y_x)
                 ∙ (ap (λ b. (roots_to m y ++ asked_of mx i y) ++ b) (b_same y)
                 ∙ (both_same (roots_to m y) (asked_of mx i y) (asked_of my j y) free_y
                 ∙ (ap (λ a. (roots_to m y ++ asked_of my j y) ++ a) (a_same y)
-                ∙ (ap (λ l. l ++ asked_of myx i y) (sym (oy.works_on (busy (view m) j y w.0) y)) ∙ sym (oyx.else y y_x))))))
+                ∙ (ap (λ l. l ++ asked_of myx i y) (sym (oy.works_on (busy (view m) h.held.calm j y w.0) y)) ∙ sym (oyx.else y y_x))))))
             by (inr p) = cons_tail
                 (sym (oxy.takes p.other.leaf p.other.there p.other.serves) ∙ (ap (λ l. l ++ asked_of mxy j y) (ox.else y y_x)
                 ∙ (ap (λ b. (roots_to m y ++ asked_of mx i y) ++ b) (b_same y)

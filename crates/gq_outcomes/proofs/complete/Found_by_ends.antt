@@ -10,7 +10,7 @@ use Rattle.gq_model.specs.machine.World.{Leaf, World}
 use Rattle.gq_model.proofs.Small_facts.{none_some}
 use Rattle.gq_laws.specs.Progress.{AllRest, rests}
 use Rattle.gq_laws.specs.Shapes.{Each}
-use Rattle.gq_laws.specs.Turn_effects.{can_run, runs, runs_as}
+use Rattle.gq_model.specs.machine.Rest.{can_run, runs, runs_as}
 use Rattle.gq_outcomes.specs.Choices.{asks_racy, can_settle, choices, choices_from, is_at_choice, is_settled, some_settle}
 use Rattle.gq_outcomes.specs.Outcomes.{Explored, Going, Kept, Point, Search, after_turn, and_further, and_on, explored, first_point, is_found, kept, outcome_of}
 use Rattle.gq_outcomes.specs.Outcomes.{round, rounds, search_of, settled, while_settling}
@@ -25,18 +25,18 @@ module _ (u : System) (racy : List Bool) (w : World) where
   pub rests_still : AllRest w → (x : ℕ) → can_run u w x ≡ false
   rests_still rest x = by (slice_get u.components x) (slice_get w.leaves x) refl
     where
-      of : (p : Phase) → rests w x p ≡ true → runs w x p ≡ false
-      of Pending e = refl
-      of Running e = absurd (true≢false (sym e))
-      of Blocked e = refl
-      of Serving e = no_false (runs w x Serving) e
-      of Handling e = absurd (true≢false (sym e))
-      of Exited e = refl
+      of : (leaf : Leaf) (p : Phase) → rests w x leaf p ≡ true → runs w x leaf p ≡ false
+      of leaf Pending e = refl
+      of leaf Running e = absurd (true≢false (sym e))
+      of leaf Blocked e = refl
+      of leaf Serving e = no_false (runs w x leaf Serving) e
+      of leaf Handling e = absurd (true≢false (sym e))
+      of leaf Exited e = refl
 
       by : (c : Option Component) (o : Option Leaf) → slice_get w.leaves x ≡ o → runs_as w x c o ≡ false
       by (Some c) None e = refl
       by None o e = refl
-      by (Some c) (Some leaf) e = of leaf.phase (rest x leaf e)
+      by (Some c) (Some leaf) e = of leaf leaf.phase (rest x leaf e)
 
   still_chooses : ((x : ℕ) → can_run u w x ≡ false) → (x : ℕ) (cs : List Component) → choices_from u racy w x cs ≡ []
   still_chooses still x [] = refl

@@ -12,7 +12,7 @@ use Rattle.gq_model.specs.machine.Doing.{Event, Stepped}
 use Rattle.gq_model.specs.machine.Run as model
 use Rattle.gq_model.specs.machine.Run.{Ran}
 use Rattle.gq_model.specs.machine.Scenario.{Component, Scenario, System, system}
-use Rattle.gq_model.specs.machine.Step.{all_released, exit_of, exited, is_named, next, released}
+use Rattle.gq_model.specs.machine.Step.{all_released, exit_of, exited, first_signal, is_named, next, released}
 use Rattle.gq_model.specs.machine.Sums.{paid}
 use Rattle.gq_model.specs.machine.World.{Leaf, Session, World, first_phase, session_at, start, start_leaves}
 use Rattle.gq_model.proofs.Small_facts.{none_some, some_same, get_within}
@@ -23,7 +23,7 @@ use Rattle.gq_laws.proofs.progress.Lasting_world_invariant.{Lasts, lasts_next, r
 use Rattle.gq_laws.proofs.step_shapes.Step_counting.{stands_still}
 use Rattle.gq_laws.proofs.verified_programs.Sound_systems.{is_resolved}
 use Rattle.gq_laws.proofs.verified_programs.Use_chains.{Uses, resolved_acyclic}
-use Rattle.gq_determined.specs.internal.Threads.{is_active, seen, seen_by, thread_by, who, works, works_for}
+use Rattle.gq_determined.specs.internal.Threads.{has_work, seen, seen_by, thread_by, who, works, works_for}
 use Rattle.gq_determined.proofs.regions.Region_changes.{put_at}
 use Rattle.gq_determined.proofs.rest_accounts.Own_peak_bounds.{AreWithin}
 use Rattle.gq_determined.proofs.rest_accounts.Own_peaks_kept.{next_within, start_each}
@@ -38,6 +38,8 @@ use Rattle.gq_determined.proofs.thread_runs.Uncounted_uses.{cycle_same}
 use Rattle.gq_outcomes.proofs.complete.Kept_renamed.{uses}
 use Rattle.gq_outcomes.proofs.complete.Held_worlds.{AreQuiet, Held, IsHeld, one, ready, still1, still_held, taken, turn, view}
 use Rattle.gq_outcomes.proofs.complete.Step_changes.{AreUnset, next_unset, pends_or_gone, start_unset}
+use Rattle.gq_determined.proofs.thread_steps.Signal_flags.{AreSince, signals_at, since_first, since_next}
+use Rattle.gq_outcomes.proofs.complete.Unsubmitted_signals.{goes_on, unsubmitted_start}
 
 -- RELEASED LEAVES
 
@@ -138,6 +140,8 @@ module _ (s : Scenario) (sound : IsSound s) (holds : ℕ → Bool) (P : ℕ → 
     pub within : AreWithin m.world
     pub started : AreStarted u m.world
     pub left : Lefts P u m.world
+    -- each signal is as it was at the start, or has been taken
+    pub since : AreSince (signals_at (start u)) m.world
 
   pub quiet : (m : Held) → Good m → AreQuiet holds m.world
   quiet m h = quiet_of m.world h.left
@@ -210,7 +214,7 @@ module _ (s : Scenario) (sound : IsSound s) (holds : ℕ → Bool) (P : ℕ → 
         same l at_l = ap (λ (l : Leaf). l.phase) (some_same (sym at_l ∙ at)) ∙ e
 
         by : IsWorking (view m) i x ⊎ IsServing (view m) i x → ⊥
-        by (inl w) = elim w.runs [
+        by (inl w) = elim (goes_on (view m) h.held.calm i x w) [
           | inl r ↦ running (sym r ∙ same w.at.leaf w.at.there)
           | inr r ↦ handling (sym r ∙ same w.at.leaf w.at.there)
         ]
@@ -250,7 +254,10 @@ module _ (s : Scenario) (sound : IsSound s) (holds : ℕ → Bool) (P : ℕ → 
             of (inr (inr r)) (inr f) = a6 (sym r ∙ f)
 
         by : IsWorking (view m) i x ⊎ IsServing (view m) i x → (k.phase ≡ Pending) ⊎ (k.phase ≡ Blocked) → ⊥
-        by (inl w) q = elim w.runs [ inl r ↦ runs w.at.leaf w.at.there (inl r) q | inr r ↦ runs w.at.leaf w.at.there (inr (inl r)) q ]
+        by (inl w) q = elim (goes_on (view m) h.held.calm i x w) [
+          | inl r ↦ runs w.at.leaf w.at.there (inl r) q
+          | inr r ↦ runs w.at.leaf w.at.there (inr (inl r)) q
+        ]
         by (inr p) q = runs p.leaf p.there (inr (inr p.serves)) q
 
     -- a leaf that has exited stays so
@@ -260,7 +267,7 @@ module _ (s : Scenario) (sound : IsSound s) (holds : ℕ → Bool) (P : ℕ → 
       where
         out : (works (view before) i z || z == x) ≡ false
         out = ap (λ o. works_for (view before).root i z o || z == x) at
-            ∙ (ap (λ p. is_active p && (thread_by (view before).root z k.current == i) || z == x) e ∙ elim (eqb_tells z x) [
+            ∙ (ap (λ p. has_work p (first_signal k.signals) && (thread_by (view before).root z k.current == i) || z == x) e ∙ elim (eqb_tells z x) [
               | inl q ↦ absurd (not_exited k (ap (slice_get m.world.leaves) (sym q.1) ∙ at) e)
               | inr q ↦ q.0
             ])
@@ -343,6 +350,7 @@ module _ (s : Scenario) (sound : IsSound s) (holds : ℕ → Bool) (P : ℕ → 
       within = next_within u m.world x new event h.within stepped;
       started = started_new;
       left = kept_outside P u sections m.world x new event h.left stepped;
+      since = since_next (signals_at (start u)) u m.world x new event h.since stepped;
     }
 
   -- THE START
@@ -362,6 +370,7 @@ module _ (s : Scenario) (sound : IsSound s) (holds : ℕ → Bool) (P : ℕ → 
       only = λ y ne. absurd (ne refl);
       busy = λ y phase q can at. absurd (none_some (start_placed.linked.handles y phase q at).1);
       free = λ y off. refl;
+      calm = unsubmitted_start u;
     };
     lasts = reached_lasts s sound (start real) (record { turns = []; is = refl });
     unset = record { each = start_unset u.components };
@@ -370,6 +379,7 @@ module _ (s : Scenario) (sound : IsSound s) (holds : ℕ → Bool) (P : ℕ → 
       each = λ y c l name at_c at_l after_is not. absurd (not (start_phases u.components y c l at_c at_l ∙ ap first_phase after_is));
     };
     left = start_outside P u sections;
+    since = since_first (start u);
   }
 
   -- RUNS

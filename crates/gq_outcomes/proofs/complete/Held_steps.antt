@@ -8,7 +8,7 @@ use Rattle.std.proofs.lemmas.Option.{slice_get_within}
 use Rattle.gq_model.specs.declared.phase.Phase.TheVariants.{Blocked}
 use Rattle.gq_model.specs.machine.Doing.{Event}
 use Rattle.gq_model.specs.machine.Scenario.{Component, System}
-use Rattle.gq_model.specs.machine.Step.{next}
+use Rattle.gq_model.specs.machine.Step.{first_signal, next}
 use Rattle.gq_model.specs.machine.Sums.{paid}
 use Rattle.gq_model.specs.machine.World.{SlotId, In_leaf, In_session, In_object, Session, Request, Current, Leaf, World, session_at}
 use Rattle.gq_model.proofs.Small_facts.{equal_self}
@@ -18,7 +18,7 @@ use Rattle.gq_laws.specs.Renamed.{renamed_request, renamed_session, renamed_slot
 use Rattle.gq_laws.specs.internal.Corresponding.{Correspond}
 use Rattle.gq_laws.proofs.Outside_step_untouched.{outlined}
 use Rattle.gq_laws.proofs.verified_programs.Use_chains.{Uses, Chain, chain_short}
-use Rattle.gq_determined.specs.internal.Threads.{Tracked, among, anew, is_active, stepped_to, thread_by, who, within, works, works_for}
+use Rattle.gq_determined.specs.internal.Threads.{Tracked, among, anew, has_work, is_active, stepped_to, thread_by, who, within, works, works_for}
 use Rattle.gq_determined.specs.internal.Threads.{IsSameThread}
 use Rattle.gq_determined.proofs.regions.Region_changes.{within_there, within_here}
 use Rattle.gq_determined.proofs.thread_positions.Single_thread_position.{IsPlaced, IsWaiting, handled}
@@ -28,10 +28,12 @@ use Rattle.gq_determined.proofs.thread_positions.Thread_step_ready.{given_both}
 use Rattle.gq_determined.proofs.thread_steps.Own_steps.{anew_else, anew_here}
 use Rattle.gq_determined.proofs.thread_steps.Paired_thread_step.{go, same_after}
 use Rattle.gq_determined.proofs.thread_steps.Stateless_thread_agreement.{ReadSame, BothGo}
-use Rattle.gq_determined.proofs.thread_steps.Thread_step_frame.{unseen_left, unseen_right, thread_new}
+use Rattle.gq_determined.proofs.thread_steps.Thread_step_frame.{active_works, unseen_left, unseen_right, thread_new}
 use Rattle.gq_outcomes.proofs.complete.Held_worlds.{AreQuiet, Held, IsBased, IsHeld, IsReady, active_in, after, base_at, freed, given_of, holding, m1, m2}
-use Rattle.gq_outcomes.proofs.complete.Held_worlds.{b0, b3, hold_else, not_x, one, parting, placed2, based2, ready, root_kept, roots, serving_in, is_serving}
+use Rattle.gq_outcomes.proofs.complete.Held_worlds.{b0, b3, calm2, hold_else, not_x, one, parting, placed2, based2, ready, root_kept, roots, serving_in}
+use Rattle.gq_outcomes.proofs.complete.Held_worlds.{is_serving}
 use Rattle.gq_outcomes.proofs.complete.Held_worlds.{still1, taken, turn, view, idle_blocked, root_else}
+use Rattle.gq_outcomes.proofs.complete.Unsubmitted_signals.{Unsubmitted, active_at, goes_on, works_as}
 
 -- THE SAME, WITH EQUAL ROOTS
 
@@ -117,7 +119,8 @@ module _ (u : System) (pays : (z : World) → paid u z ≡ true) (holds : ℕ �
           of current e false off = inr (off, r0.free x off)
           of None e true can =
               let same : x ≡ i = sym (ap (thread_by (view n1).root x) e) ∙ w.at.thread in
-              inl (r0.placed.main x w.at.leaf.phase (ap stance_in w.at.there ∙ ap (λ o. Some (stance w.at.leaf.phase o)) e) w.at.is_active ∙ same)
+              inl (r0.placed.main x w.at.leaf.phase (ap stance_in w.at.there ∙ ap (λ o. Some (stance w.at.leaf.phase o)) e)
+              (active_at w.at.leaf.phase (goes_on (view n1) h.calm i x w)) ∙ same)
           of (Some q) e true can =
               let stood = ap stance_in w.at.there ∙ ap (λ o. Some (stance w.at.leaf.phase o)) e in
               inl (r0.placed.held x w.at.leaf.phase q stood (r0.busy x w.at.leaf.phase q can stood)
@@ -167,7 +170,7 @@ module _ (u : System) (pays : (z : World) → paid u z ≡ true) (holds : ℕ �
 
         by : (o : Option Leaf) → slice_get new.leaves y ≡ o → works_for (view n3).root j y o ≡ works_for (view n2).root j y o
         by None e = refl
-        by (Some l) e = ap (λ n. is_active l.phase && (n == j)) (of l e l.current refl)
+        by (Some l) e = ap (λ n. has_work l.phase (first_signal l.signals) && (n == j)) (of l e l.current refl)
 
     pub among_kept : (j : ℕ) → among (view n3).root j new.requests ≡ among (view n2).root j new.requests
     among_kept j = by new.requests (each_request u (view n2) t2 (λ r. (view n3).root r.session ≡ (view n2).root r.session)
@@ -284,11 +287,15 @@ module _ (u : System) (pays : (z : World) → paid u z ≡ true) (holds : ℕ �
   works_act : act ≡ works (view n2) i x
   works_act = by (slice_get new.leaves x) refl
     where
+      calm : Unsubmitted new
+      calm = calm2 u holds m h quiet i x is pays component there_c new event stepped uses
+
       thread : (l : Leaf) → slice_get new.leaves x ≡ Some l → is_active l.phase ≡ true → thread_by (view n2).root x l.current ≡ i
       thread l at e =
           let s1 = one u holds m h quiet i x is pays component there_c new event stepped uses in
           ap (λ (r : ℕ → ℕ). thread_by r x l.current) (sym (roots u holds m h quiet i x is pays component there_c new event stepped uses))
-          ∙ thread_new u (view n1) r0.placed i x component s1.a s1.there new s1.done x (here (works (view n1) i x) (equal_self x)) l at e
+          ∙ thread_new u (view n1) r0.placed i x component s1.a s1.there new s1.done x (here (works (view n1) i x) (equal_self x)) l at
+          (active_works l.phase (first_signal l.signals) e)
         where
           here : (a : Bool) {b : Bool} → b ≡ true → (a || b) ≡ true
           here true e = refl
@@ -301,7 +308,9 @@ module _ (u : System) (pays : (z : World) → paid u z ≡ true) (holds : ℕ �
 
       by : (o : Option Leaf) → slice_get new.leaves x ≡ o → active_in o ≡ works_for (view n2).root i x o
       by None e = refl
-      by (Some l) e = of l e (is_active l.phase) refl
+      by (Some l) e =
+          of l e (is_active l.phase) refl
+          ∙ ap (λ b. b && (thread_by (view n2).root x l.current == i)) (sym (works_as l (calm.none x l e)))
 
 -- THE SAME STEP IN TWO WORLDS
 
@@ -334,10 +343,10 @@ module _ (u : System) (pays : (z : World) → paid u z ≡ true) (holds : ℕ �
       serves_n p = ap (λ a. a && holds x) (ap serving_in p.there ∙ ap is_serving p.serves)
 
       works_m : (w : IsWorking (view m) i x) → (serving_in (slice_get m.world.leaves x) && holds x) ≡ false
-      works_m w = ap (λ a. a && holds x) (ap serving_in w.at.there ∙ elim w.runs [ inl r ↦ ap is_serving r | inr r ↦ ap is_serving r ])
+      works_m w = ap (λ a. a && holds x) (ap serving_in w.at.there ∙ elim (goes_on (view m) h.calm i x w) [ inl r ↦ ap is_serving r | inr r ↦ ap is_serving r ])
 
       works_n : (w : IsWorking (view n) i x) → (serving_in (slice_get n.world.leaves x) && holds x) ≡ false
-      works_n w = ap (λ a. a && holds x) (ap serving_in w.at.there ∙ elim w.runs [ inl r ↦ ap is_serving r | inr r ↦ ap is_serving r ])
+      works_n w = ap (λ a. a && holds x) (ap serving_in w.at.there ∙ elim (goes_on (view n) g.calm i x w) [ inl r ↦ ap is_serving r | inr r ↦ ap is_serving r ])
 
       by : (IsWorking (view m) i x × IsWorking (view n) i x) ⊎ ServesSame u (view m) (view n) h.placed g.placed i s x → IsSameThread i (view m_1) (view n_1)
       by (inl w) =
@@ -553,27 +562,28 @@ module _ (u : System) (pays : (z : World) → paid u z ≡ true) (holds : ℕ �
         }
 
         -- no leaf works for the one that took the step
-        none_works : (w : Held) (t : IsPlaced u (view w)) (based : IsBased w)
+        none_works : (w : Held) (calm : Unsubmitted w.world) (t : IsPlaced u (view w)) (based : IsBased w)
             (b : (current : Option Current) → (links w.world).stances x ≡ Some (stance Blocked current) → ⊥)
             → active_in (slice_get w.world.leaves x) ≡ false → (y : ℕ) → works (view w) x y ≡ false
-        none_works w t based b off y = by (slice_get w.world.leaves y) refl
+        none_works w calm t based b off y = by (slice_get w.world.leaves y) refl
           where
             and_false : (a : Bool) → (a && false) ≡ false
             and_false true = refl
             and_false false = refl
 
             of : (l : Leaf) → slice_get w.world.leaves y ≡ Some l → (current : Option Current) → l.current ≡ current
-                → (is_active l.phase && (thread_by (view w).root y l.current == x)) ≡ false
+                → (has_work l.phase (first_signal l.signals) && (thread_by (view w).root y l.current == x)) ≡ false
             of l at None e = elim (eqb_tells y x) [
-              | inl q ↦ ap (λ a. a && (thread_by (view w).root y l.current == x)) (ap active_in (sym (ap (slice_get w.world.leaves) (sym q.1) ∙ at)) ∙ off)
-              | inr q ↦ ap (λ o. is_active l.phase && (thread_by (view w).root y o == x)) e
-                  ∙ (ap (λ a. is_active l.phase && a) q.0 ∙ and_false (is_active l.phase))
+              | inl q ↦ ap (λ a. a && (thread_by (view w).root y l.current == x))
+                  (works_as l (calm.none y l at) ∙ (ap active_in (sym (ap (slice_get w.world.leaves) (sym q.1) ∙ at)) ∙ off))
+              | inr q ↦ ap (λ o. has_work l.phase (first_signal l.signals) && (thread_by (view w).root y o == x)) e
+                  ∙ (ap (λ a. has_work l.phase (first_signal l.signals) && a) q.0 ∙ and_false (has_work l.phase (first_signal l.signals)))
             ]
             of l at (Some q) e =
                 let wait = (handled u (view w) t y l.phase q (ap stance_in at ∙ ap (λ o. Some (stance l.phase o)) e)).waiting in
-                ap (λ o. is_active l.phase && (thread_by (view w).root y o == x)) e
-                ∙ (ap (λ a. is_active l.phase && a) (unlike (w.hold (w.base q.session)) x (root_else u w t based x b q.session wait))
-                ∙ and_false (is_active l.phase))
+                ap (λ o. has_work l.phase (first_signal l.signals) && (thread_by (view w).root y o == x)) e
+                ∙ (ap (λ a. has_work l.phase (first_signal l.signals) && a) (unlike (w.hold (w.base q.session)) x (root_else u w t based x b q.session wait))
+                ∙ and_false (has_work l.phase (first_signal l.signals)))
 
             by : (o : Option Leaf) → slice_get w.world.leaves y ≡ o → works_for (view w).root x y o ≡ false
             by None e = refl
@@ -592,9 +602,11 @@ module _ (u : System) (pays : (z : World) → paid u z ≡ true) (holds : ℕ �
         -- and the leaf itself
         parted_x : IsSameThread x (view m_3) (view n_3)
         parted_x =
-            let off_m = none_works m_2 tm (based2 u holds m h quiet i x is pays component there_c new event stepped uses)
+            let off_m = none_works m_2 (calm2 u holds m h quiet i x is pays component there_c new event stepped uses) tm
+            (based2 u holds m h quiet i x is pays component there_c new event stepped uses)
             (idle_blocked u holds m h quiet i x is pays component there_c new event stepped uses idle) idle in
-            let off_n = none_works n_2 tn (based2 u holds n g quiet_n i x is_n pays component there_c other_new event goes_other uses_n)
+            let off_n = none_works n_2 (calm2 u holds n g quiet_n i x is_n pays component there_c other_new event goes_other uses_n) tn
+            (based2 u holds n g quiet_n i x is_n pays component there_c other_new event goes_other uses_n)
             (idle_blocked u holds n g quiet_n i x is_n pays component there_c other_new event goes_other uses_n idle_n) idle_n in
             let none_m : (y : ℕ) → works (view m_3) x y ≡ false
             = λ y. works_kept u pays holds m h quiet i x is component there_c new event stepped uses idle x y ∙ off_m y in

@@ -28,8 +28,9 @@ use Rattle.gq_determined.proofs.thread_positions.First_request_given.{IsGiven, g
 use Rattle.gq_determined.proofs.thread_positions.First_request_given.{own_new, serving_else, serving_who, who_same, x_else}
 use Rattle.gq_determined.proofs.thread_steps.Own_steps.{anew_else, anew_here, not_free}
 use Rattle.gq_determined.proofs.thread_steps.Stateless_thread_agreement.{IsStill, Solo, solo}
-use Rattle.gq_determined.proofs.thread_steps.Thread_step_frame.{is_or_not}
+use Rattle.gq_determined.proofs.thread_steps.Thread_step_frame.{accepts_or_not}
 use Rattle.gq_determined.proofs.thread_steps.Tracked_step_world.{fits_active, fresh, kept_new, leaf_of, named_session, same_currents, still_placed}
+use Rattle.gq_outcomes.proofs.complete.Unsubmitted_signals.{Unsubmitted, goes_on, no_flag, unsubmitted_next}
 
 -- a world; of each number of a session the leaf in whose own slots it stands, over however many sessions; and of each leaf the thread that holds it
 pub record Held : Type 0 where
@@ -114,6 +115,8 @@ pub record IsHeld (u : System) (holds : ℕ → Bool) (m : Held) : Type 0 where
   pub only : (y : ℕ) → m.hold y ≢ y → InSection m.world y
   pub busy : (y : ℕ) (phase : Phase) (q : Current) → holds y ≡ true → (links m.world).stances y ≡ Some (stance phase (Some q)) → m.hold y ≢ y
   pub free : (y : ℕ) → holds y ≡ false → m.hold y ≡ y
+  -- no signal is submitted
+  pub calm : Unsubmitted m.world
 
 -- a leaf that is never held changes no own slot in a section
 pub record AreQuiet (holds : ℕ → Bool) (w : World) : Type 0 where
@@ -130,7 +133,17 @@ root_base m (In_object j) = refl
 placed_as : (u : System) (g h : Tracked) → g.world ≡ h.world → g.root ≡ h.root → g.own ≡ h.own → IsPlaced u g → IsPlaced u h
 placed_as u g h world root own t =
     let s = subst (IsPlaced u) (λ e. record { world = world e; root = root e; own = own e; wrote = g.wrote }) t in
-    record { acyclic = s.acyclic; linked = s.linked; below = s.below; waits = s.waits; uses = s.uses; lives = s.lives; main = s.main; held = s.held }
+    record {
+      acyclic = s.acyclic;
+      linked = s.linked;
+      below = s.below;
+      waits = s.waits;
+      uses = s.uses;
+      lives = s.lives;
+      main = s.main;
+      held = s.held;
+      signals = s.signals;
+    }
 
 pub held_still : (holds : ℕ → Bool) (m : Held) → AreQuiet holds m.world
     → ((y : ℕ) (phase : Phase) (q : Current) → holds y ≡ true → (links m.world).stances y ≡ Some (stance phase (Some q)) → m.hold y ≢ y) → IsStill (view m)
@@ -271,7 +284,7 @@ module _ (u : System) (holds : ℕ → Bool) (m : Held) (h : IsHeld u holds m) (
     busy = h.busy;
     free = h.free;
     takes = λ leaf there serves. (
-      serving_else u (view m) h.placed i x (serving_who (view m) i x is leaf there serves),
+      serving_else u (view m) h.placed i x (serving_who (view m) i x is leaf there (serves, h.calm.none x leaf there)),
       inr (sym (ap (λ a. a && holds x) (ap serving_in there ∙ ap is_serving serves)) ∙ e),
     );
     left = λ j ne nx o s. s;
@@ -280,7 +293,7 @@ module _ (u : System) (holds : ℕ → Bool) (m : Held) (h : IsHeld u holds m) (
   ready_by true e = of (who_is (view m) i x is)
     where
       none : (w : IsWorking (view m) i x) → serving_in (slice_get m.world.leaves x) ≡ false
-      none w = ap serving_in w.at.there ∙ elim w.runs [ inl r ↦ ap is_serving r | inr r ↦ ap is_serving r ]
+      none w = ap serving_in w.at.there ∙ elim (goes_on (view m) h.calm i x w) [ inl r ↦ ap is_serving r | inr r ↦ ap is_serving r ]
 
       second : (a b : Bool) → (a && b) ≡ true → b ≡ true
       second true b e = e
@@ -325,8 +338,12 @@ module _ (u : System) (holds : ℕ → Bool) (m : Held) (h : IsHeld u holds m) (
     pub lives_i : m1.hold i ≡ i
     lives_i = lives_who u (view m1) t1 i x ready.who_is_i
 
+    pub calm2 : Unsubmitted new
+    calm2 = unsubmitted_next u m.world x new event h.calm stepped
+
     stepped_placed : IsPlaced u (stepped_to (view m1) x i (Ok (new, event)))
-    stepped_placed = still_placed u (view m1) t1 i x component one.a one.there new event one.done uses lives_i (λ serves ne. takes_i one.a one.there serves ne)
+    stepped_placed = still_placed u (view m1) t1 i x component one.a one.there new event one.done uses lives_i
+        (λ accepts ne. takes_i one.a one.there accepts.0 ne)
 
     abbrev pub m2 : Held
     m2 = after m1 i new
@@ -345,10 +362,10 @@ module _ (u : System) (holds : ℕ → Bool) (m : Held) (h : IsHeld u holds m) (
           | inr o ↦
               root_base m1 s.slot_id
               ∙ (sym (kept_new u (view m1) t1 i x component one.a one.there new event one.done uses lives_i
-              (λ serves ne. takes_i one.a one.there serves ne) s.slot_id s.client o.named
+              (λ accepts ne. takes_i one.a one.there accepts.0 ne) s.slot_id s.client o.named
               (one.done.linked.belongs k0 (outline s) (ap outline_in at)))
               ∙ fresh u (view m1) t1 i x component one.a one.there new event one.done uses lives_i
-              (λ serves ne. takes_i one.a one.there serves ne) s.slot_id o.ours)
+              (λ accepts ne. takes_i one.a one.there accepts.0 ne) s.slot_id o.ours)
         ]
 
     pub roots : anew (λ k. m1.hold (m1.base k)) k0 i ≡ (λ k. m1.hold (anew m.base k0 b2 k))
@@ -414,14 +431,14 @@ module _ (u : System) (holds : ℕ → Bool) (m : Held) (h : IsHeld u holds m) (
 
     -- the leaf itself, where it does a section now
     busy_here : (phase : Phase) (q : Current) → holds x ≡ true → (links new).stances x ≡ Some (stance phase (Some q)) → m1.hold x ≢ x
-    busy_here phase q can at = elim (is_or_not a.phase) [
-      | inl serves ↦
-          let r = ready.takes one.a one.there serves in
+    busy_here phase q can at = elim (accepts_or_not a) [
+      | inl accepts ↦
+          let r = ready.takes one.a one.there accepts.0 in
           elim r.1 [ inl i_is ↦ (λ e. r.0 (sym e ∙ i_is)) | inr off ↦ absurd (true≢false (sym can ∙ off)) ]
       | inr works_on ↦
           let l = leaf_of (slice_get new.leaves x) phase (Some q) at in
           let act = fits_active u (view m1) t1 i x component one.a one.there new event one.done uses lives_i
-          (λ serves ne. takes_i one.a one.there serves ne) phase q (one.done.linked.fits x (stance phase (Some q)) at) in
+          (λ accepts ne. takes_i one.a one.there accepts.0 ne) phase q (one.done.linked.fits x (stance phase (Some q)) at) in
           let current : a.current ≡ Some q = sym (one.done.rest.mine works_on l.0 l.1 (ap is_active l.2 ∙ act)) ∙ l.3 in
           ready.busy x a.phase q can (ap stance_in one.there ∙ ap (λ o. Some (stance a.phase o)) current)
     ]
@@ -441,13 +458,14 @@ module _ (u : System) (holds : ℕ → Bool) (m : Held) (h : IsHeld u holds m) (
       where
         by : (current : Option Current) → l.current ≡ current → InSection new x
         by (Some q) e = (l.phase, q, ap stance_in at ∙ ap (λ o. Some (stance l.phase o)) e)
-        by None e = elim (is_or_not a.phase) [
-          | inl serves ↦
-              let r = ready.takes one.a one.there serves in
-              absurd (r.0 (sym (ap (thread_by (anew (λ k. m1.hold (m1.base k)) k0 i) x) e) ∙ one.done.taken serves l at act))
+        by None e = elim (accepts_or_not a) [
+          | inl accepts ↦
+              let r = ready.takes one.a one.there accepts.0 in
+              absurd (r.0 (sym (ap (thread_by (anew (λ k. m1.hold (m1.base k)) k0 i) x) e) ∙ one.done.taken accepts l at))
           | inr works_on ↦
               let none : a.current ≡ None = sym (one.done.rest.mine works_on l at act) ∙ e in
-              let b : b0 ≡ false = ap (λ a. a && holds x) (ap serving_in one.there ∙ no_serving a.phase works_on) in
+              let b : b0 ≡ false = ap (λ a. a && holds x) (ap serving_in one.there
+              ∙ no_serving a.phase (λ serves. works_on (serves, h.calm.none x one.a one.there))) in
               let s = ready.only x (inr b) ne in
               absurd (none_some (sym none ∙ same_current (sym (ap stance_in one.there) ∙ s.2)))
         ]
@@ -486,6 +504,7 @@ module _ (u : System) (holds : ℕ → Bool) (m : Held) (h : IsHeld u holds m) (
           ];
           busy = busy2;
           free = ready.free;
+          calm = calm2;
         }
 
     module _ (idle : b3 ≡ false) where
@@ -580,6 +599,7 @@ module _ (u : System) (holds : ℕ → Bool) (m : Held) (h : IsHeld u holds m) (
         lives = λ k s at. whole3 (m3.base k);
         main = main3;
         held = held3;
+        signals = λ y l at flag. absurd (no_flag new calm2 y l at flag);
       }
 
       free3 : (y : ℕ) → holds y ≡ false → m3.hold y ≡ y
@@ -589,7 +609,7 @@ module _ (u : System) (holds : ℕ → Bool) (m : Held) (h : IsHeld u holds m) (
       ]
 
       pub freed_held : IsHeld u holds m3
-      freed_held = record { placed = placed3; based = based2; whole = whole3; only = only3; busy = busy3; free = free3 }
+      freed_held = record { placed = placed3; based = based2; whole = whole3; only = only3; busy = busy3; free = free3; calm = calm2 }
 
     still_by : (b : Bool) → b3 ≡ b → IsHeld u holds (parting m2 x b)
     still_by true e = still_active e

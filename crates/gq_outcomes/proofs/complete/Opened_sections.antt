@@ -13,7 +13,7 @@ use Rattle.gq_model.specs.declared.program.OperandSlot.TheVariants.{Own, Shared,
 use Rattle.gq_model.specs.machine.Doing.{Doing}
 use Rattle.gq_model.specs.machine.Program.{Statements, Done, Do, If, Loop}
 use Rattle.gq_model.specs.machine.Scenario.{Component, Scenario, System, system}
-use Rattle.gq_model.specs.machine.Step.{accept, accept_oldest, step_in, step_of}
+use Rattle.gq_model.specs.machine.Step.{accept, accept_oldest, serve, step_in, step_of}
 use Rattle.gq_model.specs.machine.World.{Current, In_leaf, Leaf, Session, SlotId, World, session_at, slot_id_of}
 use Rattle.gq_model.proofs.Small_facts.{none_some, some_same}
 use Rattle.gq_laws.specs.Sound_scenarios.{IsSound}
@@ -23,7 +23,7 @@ use Rattle.gq_laws.proofs.step_shapes.Step_change_shapes.{accept_by}
 use Rattle.gq_laws.proofs.step_shapes.Step_end_shapes.{Ends}
 use Rattle.gq_laws.proofs.step_shapes.Step_end_worlds.{begun}
 use Rattle.gq_races.specs.Races.{opens_first, opens_later}
-use Rattle.gq_determined.specs.internal.Threads.{is_active, seen, thread_by, who, works, works_for}
+use Rattle.gq_determined.specs.internal.Threads.{Accepts, is_active, seen, thread_by, who, works, works_for}
 use Rattle.gq_determined.proofs.rest_accounts.Own_peak_bounds.{put_cases}
 use Rattle.gq_determined.proofs.thread_positions.First_request_given.{working_serving}
 use Rattle.gq_determined.proofs.thread_positions.Turn_thread_position.{IsServing, IsWorking, who_is}
@@ -34,6 +34,7 @@ use Rattle.gq_outcomes.proofs.complete.Held_worlds.{AreQuiet, Held, taken, view}
 use Rattle.gq_outcomes.proofs.complete.Good_worlds.{c, event, new, seen_exited, solo_one, stepped, there_c}
 use Rattle.gq_outcomes.proofs.complete.Alike_held.{IsGood, end}
 use Rattle.gq_outcomes.proofs.complete.Two_orders.{seen_serving}
+use Rattle.gq_outcomes.proofs.complete.Unsubmitted_signals.{active_at, goes_on, works_as}
 
 inactive_is : (p : Phase) → is_active p ≡ false → (p ≡ Serving) ⊎ (p ≡ Exited)
 inactive_is Serving e = inl refl
@@ -121,7 +122,7 @@ module _ (s : Scenario) (sound : IsSound s) (holds : ℕ → Bool) (P : ℕ → 
 
             out : is_active k.phase ≡ false → (works (view (taken holds m x i)) i y || y == x) ≡ false
             out off = ap (λ o. works_for (view (taken holds m x i)).root i y o || y == x) e
-                ∙ (ap (λ b. b && (thread_by (view (taken holds m x i)).root y k.current == i) || y == x) off ∙ unequal)
+                ∙ (ap (λ b. b && (thread_by (view (taken holds m x i)).root y k.current == i) || y == x) (works_as k (h.held.calm.none y k e) ∙ off) ∙ unequal)
 
             seen_same : is_active k.phase ≡ false → seen l ≡ seen k
             seen_same off = some_same (sym (ap (option_map seen) at)
@@ -139,13 +140,14 @@ module _ (s : Scenario) (sound : IsSound s) (holds : ℕ → Bool) (P : ℕ → 
             let a = (solo_one s sound holds P sections quiet_of m h i x is).a in
             let there = (solo_one s sound holds P sections quiet_of m h i x is).there in
             let same : w.at.leaf ≡ a = some_same (sym w.at.there ∙ there) in
-            let busy : a.phase ≡ Serving → ⊥ = λ f. working_serving w.at.leaf.phase w.runs (ap (λ (l : Leaf). l.phase) same ∙ f) in
-            let old = b w.at.leaf (ap (slice_get m.world.leaves) q ∙ w.at.there) w.at.is_active in
+            let on = goes_on (view m) h.held.calm i x w in
+            let busy : Accepts a → ⊥ = λ f. working_serving w.at.leaf.phase on (ap (λ (l : Leaf). l.phase) same ∙ f.0) in
+            let old = b w.at.leaf (ap (slice_get m.world.leaves) q ∙ w.at.there) (active_at w.at.leaf.phase on) in
             let now = (solo_one s sound holds P sections quiet_of m h i x is).done.rest.mine busy l (ap (slice_get w2.leaves) (sym q) ∙ at) act in
             (old.0, now ∙ (ap (λ (l : Leaf). l.current) (sym same) ∙ old.1))
         here (inr p) q = accepts.holds w2 (event s sound holds P sections quiet_of m h i x is)
             (sym ((λ j. step_of u m.world x (there_c s sound holds P sections quiet_of m h i x is j) (p.there j))
-            ∙ (ap (step_in (serves_in p.leaf)) p.serves ∙ ap (accept_oldest (serves_in p.leaf)) p.found))
+            ∙ (ap (step_in (serves_in p.leaf)) p.serves ∙ (ap (serve (serves_in p.leaf)) p.idle ∙ ap (accept_oldest (serves_in p.leaf)) p.found)))
             ∙ stepped s sound holds P sections quiet_of m h i x is)
             l (ap (slice_get w2.leaves) (sym q) ∙ at)
           where

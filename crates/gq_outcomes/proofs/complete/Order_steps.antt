@@ -9,7 +9,7 @@ use Rattle.gq_model.specs.declared.program.Instruction.{Instruction}
 use Rattle.gq_model.specs.machine.Doing.{Doing}
 use Rattle.gq_model.specs.machine.Requests.{free_place}
 use Rattle.gq_model.specs.machine.Scenario.{Component, Scenario, System, system}
-use Rattle.gq_model.specs.machine.Step.{accept, accept_oldest, is_to, step_in, step_of}
+use Rattle.gq_model.specs.machine.Step.{accept, accept_oldest, is_to, serve, step_in, step_of}
 use Rattle.gq_model.specs.machine.World.{Session, Request, Leaf, World, session_at}
 use Rattle.gq_model.proofs.Small_facts.{some_same, equal_self}
 use Rattle.gq_laws.specs.Shapes.{Each}
@@ -33,6 +33,7 @@ use Rattle.gq_outcomes.proofs.complete.Good_worlds.{Good, c, event, later, new, 
 use Rattle.gq_outcomes.proofs.complete.Order_of_requests.{SameAsk, among_all, among_more, among_none, asked_of, behind, each_both, each_left, each_map}
 use Rattle.gq_outcomes.proofs.complete.Order_of_requests.{each_taken}
 use Rattle.gq_outcomes.proofs.complete.Order_of_requests.{oldest_roots, roots_in, roots_more, roots_same, roots_to}
+use Rattle.gq_outcomes.proofs.complete.Unsubmitted_signals.{goes_on}
 
 -- the roots of one list are those of another world's
 among_same : (root other : ℕ → ℕ) (i : ℕ) (rs : List Request) → Each (λ r. other r.session ≡ root r.session) rs → among other i rs ≡ among root i rs
@@ -98,7 +99,8 @@ module _ (s : Scenario) (sound : IsSound s) (holds : ℕ → Bool) (P : ℕ → 
         where
           of : IsWorking (view m) i x ⊎ IsServing (view m) i x → IsServing (view m) i x
           of (inr p) = p
-          of (inl w) = absurd (true≢false (sym e ∙ (ap serving_in w.at.there ∙ elim w.runs [ inl r ↦ ap is_serving r | inr r ↦ ap is_serving r ])))
+          of (inl w) = absurd (true≢false (sym e ∙ (ap serving_in w.at.there
+              ∙ elim (goes_on (view m) h.held.calm i x w) [ inl r ↦ ap is_serving r | inr r ↦ ap is_serving r ])))
 
       by : (b : Bool) → serving_in (slice_get m.world.leaves x) ≡ b → (d : Bool) → moved (b && d) x i m.hold (m.base k) ≡ m.hold (m.base k)
       by false e d = refl
@@ -213,7 +215,7 @@ module _ (s : Scenario) (sound : IsSound s) (holds : ℕ → Bool) (P : ℕ → 
   by_works w = by frame.from
     where
       not_serving : (l : Leaf) → slice_get m.world.leaves x ≡ Some l → l.phase ≡ Serving → ⊥
-      not_serving l at e = of w.runs
+      not_serving l at e = of (goes_on (view m) h.held.calm i x w)
         where
           phase : w.at.leaf.phase ≡ Serving
           phase = ap (λ (l : Leaf). l.phase) (some_same (sym w.at.there ∙ at)) ∙ e
@@ -235,7 +237,7 @@ module _ (s : Scenario) (sound : IsSound s) (holds : ℕ → Bool) (P : ℕ → 
       by : (frame.base ≡ m.world.requests) ⊎ IsTakenOff dd i before.hold root1 (λ y. works (view before) i y || y == x)
           (OursBy dd i before.hold root1) frame.base
           → IsOrdered
-      by (inr t) = absurd (not_serving a0 there0 t.serves)
+      by (inr t) = absurd (not_serving a0 there0 t.serves.0)
       by (inl e) =
           let order = order_is frame.base frame.more frame.is (subst (Each Then) (sym e) each_then)
           (λ y ne. ap (among root1 y) (sym frame.is)
@@ -272,6 +274,7 @@ module _ (s : Scenario) (sound : IsSound s) (holds : ℕ → Bool) (P : ℕ → 
       requests = accepts.holds w2 (event s sound holds P sections quiet_of m h i x is)
           (sym ((λ j. step_of u m.world x (there_c s sound holds P sections quiet_of m h i x is j) (p.there j))
           ∙ (ap (step_in (record { system = u; world = m.world; x = x; component = cc1; leaf = record p.leaf { steps = suc p.leaf.steps } })) p.serves
+          ∙ ap (serve (record { system = u; world = m.world; x = x; component = cc1; leaf = record p.leaf { steps = suc p.leaf.steps } })) p.idle
           ∙ ap (accept_oldest (record { system = u; world = m.world; x = x; component = cc1; leaf = record p.leaf { steps = suc p.leaf.steps } }))
           p.found)) ∙ stepped s sound holds P sections quiet_of m h i x is)
 
@@ -298,7 +301,8 @@ module _ (s : Scenario) (sound : IsSound s) (holds : ℕ → Bool) (P : ℕ → 
       by : (frame.base ≡ m.world.requests) ⊎ IsTakenOff dd i before.hold root1 (λ y. works (view before) i y || y == x)
           (OursBy dd i before.hold root1) frame.base
           → (more : List Request) × (w2.requests ≡ m.world.requests ++ more) × (among (view end).root i w2.requests ≡ more)
-      by (inr t) = absurd (working_serving w.at.leaf.phase w.runs (ap (λ (l : Leaf). l.phase) (some_same (sym w.at.there ∙ there0)) ∙ t.serves))
+      by (inr t) = absurd (working_serving w.at.leaf.phase (goes_on (view m) h.held.calm i x w)
+          (ap (λ (l : Leaf). l.phase) (some_same (sym w.at.there ∙ there0)) ∙ t.serves.0))
       by (inl e) = (
         frame.more,
         frame.is ∙ ap (λ l. l ++ frame.more) e,

@@ -5,6 +5,7 @@ use Rattle.std.specs.Prelude.{get_or, is_none, is_some, slice_get}
 use Rattle.std.proofs.lemmas.Bool.{true≢false, or_left, or_parts, or_right}
 use Rattle.gq_model.specs.declared.program.Instruction.{Instruction}
 use Rattle.gq_model.specs.declared.section.Section.{Section}
+use Rattle.gq_model.specs.declared.section.Section.TheVariants.{Main, Opening, Upgrading, Calling, Closing, Reacting}
 use Rattle.gq_model.specs.machine.Program.{Statements, Done, Do, If, Loop}
 use Rattle.gq_model.specs.machine.Scenario.{Component, Scenario, System, system}
 use Rattle.gq_model.specs.machine.World.{World}
@@ -18,11 +19,11 @@ use Rattle.gq_laws.specs.internal.Remaining_instructions.{AllAre, IsGood}
 use Rattle.gq_laws.specs.internal.Uncounted.{uncounted}
 use Rattle.gq_laws.proofs.verified_programs.Sound_systems.{good_of, is_resolved}
 use Rattle.gq_laws.proofs.verified_programs.Use_chains.{Uses, resolved_acyclic}
-use Rattle.gq_races.specs.Races.{Stated, changes_own, for_several, is_shared, stated_of}
+use Rattle.gq_races.specs.Races.{Stated, changes_own, for_several, is_race, is_shared, stated_of}
 use Rattle.gq_determined.proofs.thread_runs.Raceless_first_statements.{OpensThere, all_other, each_other, sections_none, sections_there}
 use Rattle.gq_determined.proofs.thread_runs.Remaining_section_statements.{AreSections, Lefts}
 use Rattle.gq_determined.proofs.thread_runs.Uncounted_uses.{cycle_same, shared_same}
-use Rattle.gq_outcomes.specs.Choices.{are_some, has_race, is_own_race, is_racy, leads_to_race, racy_from, racy_servers, races_at}
+use Rattle.gq_outcomes.specs.Choices.{are_some, has_race, is_racy, leads_to_race, racy_from, racy_servers, races_at}
 use Rattle.gq_outcomes.proofs.complete.Held_worlds.{AreQuiet}
 use Rattle.gq_outcomes.proofs.complete.Used_servers.{of_real, reach_more, reach_one, reach_used, to_real, used_below, used_server}
 
@@ -204,6 +205,15 @@ module _ (s : Scenario) (sound : IsSound s) where
   abbrev pub Kept : ℕ → Component → Bool → Instruction → Type 0
   Kept x c later i = OpensThere u c later i × KeepsOwn x later i
 
+  -- a section outside those of the leaf's own is not one of a start
+  outside : (section : Section) → not (is_own_section section) ≡ true → for_several true section ≡ true
+  outside Main e = e
+  outside Opening e = refl
+  outside (Upgrading l) e = refl
+  outside (Calling l) e = refl
+  outside (Closing l) e = refl
+  outside (Reacting i) e = refl
+
   own_sections : (x : ℕ) (c : Component) → slice_get u.components x ≡ Some c
       → Each (λ p. AllAre (KeepsOwn x (not (is_own_section p.0))) p.1) c.node.program.sections
   own_sections x c at = by (held x) refl
@@ -215,16 +225,16 @@ module _ (s : Scenario) (sound : IsSound s) where
           c.node.program.sections (good_of s sound x c at)
       by false off =
           each_other _ (λ p. AllAre (KeepsOwn x (not (is_own_section p.0))) p.1)
-          (λ p h. all_other (λ i. is_own_race (for_several true p.0) i ≡ false) (KeepsOwn x (not (is_own_section p.0)))
-          (λ i none later is. sym (λ j. later j && changes_own i) ∙ none) p.1 h)
+          (λ p h. all_other (λ i. is_race (for_several true p.0) i ≡ false) (KeepsOwn x (not (is_own_section p.0)))
+          (λ i none later is. sym (λ j. outside p.0 later j && changes_own i) ∙ none) p.1 h)
           c.node.program.sections
-          (sections_none u x c (IsGood real c) (λ section. is_own_race (for_several true section)) c.node.program.sections stated (good_of s sound x c at))
+          (sections_none u x c (IsGood real c) (λ section. is_race (for_several true section)) c.node.program.sections stated (good_of s sound x c at))
         where
           shared : is_shared real x ≡ true
           shared = sym (shared_same real x) ∙ shared_of x off
 
-          stated : stated_of is_own_race true c ≡ []
-          stated = none_stated (stated_of is_own_race true c) (sym (λ j. races_at (shared j) (at j)) ∙ (clear_off x off).own)
+          stated : stated_of is_race true c ≡ []
+          stated = none_stated (stated_of is_race true c) (sym (λ j. races_at (shared j) (at j)) ∙ (clear_off x off).own)
 
   pub kept_sections : AreSections Kept u
   kept_sections x c at =

@@ -13,12 +13,13 @@ use Rattle.gq_model.specs.machine.Run.{Acts, Ran, label_at, line_of, run, turn_f
 use Rattle.gq_model.specs.machine.Scenario.{Component, Scenario, System, components, system}
 use Rattle.gq_model.specs.machine.Step.{next}
 use Rattle.gq_model.specs.machine.World.{Leaf, Request, World, start}
+use Rattle.gq_model.specs.machine.Step_budgets.{all_steps_in}
 use Rattle.gq_model.specs.rules.Accept.{budgets, step_budgets}
 use Rattle.gq_laws.specs.Group_alone.{own_lines, silent}
 use Rattle.gq_laws.specs.Progress.{AllRest}
 use Rattle.gq_laws.specs.Separation.{own_requests}
 use Rattle.gq_laws.specs.Sound_scenarios.{IsSound}
-use Rattle.gq_laws.specs.Turn_effects.{can_run}
+use Rattle.gq_model.specs.machine.Rest.{can_run}
 use Rattle.gq_laws.specs.Renamed.{renamed_leaf, renamed_request}
 use Rattle.gq_laws.specs.internal.Corresponding.{IsSame}
 use Rattle.gq_laws.proofs.step_shapes.Step_counting.{stands_still}
@@ -206,15 +207,18 @@ module _ (s : Scenario) (sound : IsSound s) where
       subst (λ a. StandsAt a (each_time turns (times t.0 t.1 p))) (append_assoc acts ((t.0, Turns t.1) ∷ []) (turns_alone turns))
       (stands_all turns (acts ++ ((t.0, Turns t.1) ∷ [])) (times t.0 t.1 p) (stands_more acts t.0 t.1 p h))
 
+  abbrev steps : World → List ℕ
+  steps w = all_steps_in w (step_budgets (budgets s))
+
   -- how a run ends
   pub ends_so : (turns : List (ℕ × ℕ)) → ending s (turns_alone turns) ≡ (outcome_of e (each_time turns (first_point real))).text
   ends_so turns =
       let p = each_time turns (first_point real) in
       let h = stands_all turns [] (first_point real) stands_first in
-      ap (λ l. l ++ account_lines s.version (accounts s (run real (turns_alone turns)).world (step_budgets (budgets s))))
+      ap (λ l. l ++ account_lines s.version (accounts s (run real (turns_alone turns)).world (steps (run real (turns_alone turns)).world)))
       (quiet_is s (turns_alone turns) 0 (components s) p.said h.count (λ k c there. let at : 0 + k ≡ k = omega arith in
       ap (λ n. if_none c.node.provides (own_lines real (λ z. z == n) (turns_alone turns))) at ∙ h.lines k c there))
-      ∙ ap (λ w. lines_of p.said ++ account_lines s.version (accounts s w (step_budgets (budgets s)))) h.world
+      ∙ ap (λ w. lines_of p.said ++ account_lines s.version (accounts s w (steps w))) h.world
 
   -- TURNS THAT ARE NONE
 

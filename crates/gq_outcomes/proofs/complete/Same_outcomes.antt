@@ -1,22 +1,23 @@
 -- Points of which the same is kept have the same outcomes.
-use Rattle.std.proofs.Common.{◌≡◌, inl, inr, ℕ, true, ◌++◌, List, [], ◌∷◌, Option, Some, None, Ok, is_some}
+use Rattle.std.proofs.Common.{◌≡◌, inl, inr, ℕ, true, ◌||◌, ◌++◌, List, [], ◌∷◌, Option, Some, None, Ok, is_some}
 use Rattle.std.proofs.Common.{refl, ap, sym, ◌∙◌, subst}
 use Rattle.std.specs.Prelude.{slice_get, slice_set, get_or, option_map}
 use Rattle.std.proofs.lemmas.Bool.{true≢false}
 use Rattle.gq_model.specs.declared.phase.Phase.{Phase}
 use Rattle.gq_model.specs.declared.phase.Phase.TheVariants.{Pending, Running, Blocked, Serving, Handling, Exited}
-use Rattle.gq_model.specs.machine.Accounts.{account_lines, handed_to}
+use Rattle.gq_model.specs.machine.Accounts.{account_lines, accounts, handed_to}
 use Rattle.gq_model.specs.machine.Doing.{Event}
 use Rattle.gq_model.specs.machine.Requests.{free_place}
 use Rattle.gq_model.specs.machine.Scenario.{Component, Scenario, System, system}
-use Rattle.gq_model.specs.machine.Step.{next, oldest}
+use Rattle.gq_model.specs.machine.Step_budgets.{all_steps_in}
+use Rattle.gq_model.specs.machine.Step.{first_signal, next, oldest}
 use Rattle.gq_model.specs.machine.Sums.{paid}
 use Rattle.gq_model.specs.machine.World.{Leaf, Request, World, start}
 use Rattle.gq_laws.specs.Progress.{AllRest}
 use Rattle.gq_laws.specs.Reached_worlds.{IsReached}
 use Rattle.gq_laws.specs.Separation.{IsApart}
 use Rattle.gq_laws.specs.Sound_scenarios.{IsSound}
-use Rattle.gq_laws.specs.Turn_effects.{can_run, runs, runs_as}
+use Rattle.gq_model.specs.machine.Rest.{can_run, runs, runs_as}
 use Rattle.gq_laws.specs.Renamed.{renamed_leaf}
 use Rattle.gq_laws.specs.internal.Corresponding.{IsSame}
 use Rattle.gq_laws.proofs.Group_oldest_requests.{Match, matched}
@@ -24,13 +25,14 @@ use Rattle.gq_laws.proofs.Inside_step_both.{both_step}
 use Rattle.gq_laws.proofs.Outside_step_untouched.{free_none}
 use Rattle.gq_laws.proofs.Renamed_session_sums.{same_account}
 use Rattle.gq_laws.proofs.Session_renaming.{updated, updated_here, same_updated}
-use Rattle.gq_laws.proofs.input_settings.Setting_keeps_invariants.{set_paid}
-use Rattle.gq_laws.proofs.progress.Lasting_world_invariant.{Lasts, lasts_next, lasts_set, reached_lasts}
+use Rattle.gq_laws.proofs.input_settings.Setting_keeps_invariants.{set_paid, submit_paid}
+use Rattle.gq_laws.proofs.progress.Lasting_world_invariant.{Lasts, lasts_next, lasts_set, lasts_submit, reached_lasts}
 use Rattle.gq_laws.proofs.progress.No_deadlock.{rest_or_run}
 use Rattle.gq_laws.proofs.quota_payment.Paid_worlds.{kept_paid, start_paid}
 use Rattle.gq_laws.proofs.upheld_worlds.Reached_world_induction.{in_reached}
 use Rattle.gq_laws.proofs.upheld_worlds.Standing_world_invariant.{stands_upheld}
 use Rattle.gq_determined.proofs.rest_accounts.Node_accounts_equal.{accounts_same}
+use Rattle.gq_determined.proofs.rest_accounts.Step_budgets_same.{budgets_same, signals_in}
 use Rattle.gq_outcomes.specs.Laws.{acts_of}
 use Rattle.gq_outcomes.specs.Outcomes.{Explored, Kept, Point, after_step, after_turn, explored, kept, lines_of, line_by, outcome_of}
 use Rattle.gq_outcomes.specs.Same.{ordered}
@@ -60,6 +62,7 @@ module _ (s : Scenario) (sound : IsSound s) where
   pub reached_well : (w : World) → IsReached s w → Well w
   reached_well =
       in_reached s Well well_next (λ w x i n h. record { lasts = lasts_set s sound w x i n h.lasts; pays = set_paid real w x i n h.pays })
+      (λ w x i h. record { lasts = lasts_submit s sound w x i h.lasts; pays = submit_paid real w x i h.pays })
       (record { lasts = reached_lasts s sound (start real) (record { turns = []; is = refl }); pays = start_paid real })
 
   pub point_well : (p : Point) → Reaches s p → Well p.world
@@ -84,7 +87,7 @@ module _ (s : Scenario) (sound : IsSound s) where
 
   module _ (p q : Point) (h : AreAlike p q) where
     leaf_there : (o : Option Leaf) (r : Option Leaf) → r ≡ option_map (renamed_leaf h.name) o → (c : Option Component) (x : ℕ)
-        → ((leaf : Leaf) → o ≡ Some leaf → runs q.world x leaf.phase ≡ runs p.world x leaf.phase) → runs_as q.world x c r ≡ runs_as p.world x c o
+        → ((leaf : Leaf) → o ≡ Some leaf → runs q.world x leaf leaf.phase ≡ runs p.world x leaf leaf.phase) → runs_as q.world x c r ≡ runs_as p.world x c o
     leaf_there None r e c x same = ap (runs_as q.world x c) e ∙ none c
       where
         none : (c : Option Component) → runs_as q.world x c None ≡ runs_as p.world x c None
@@ -92,9 +95,17 @@ module _ (s : Scenario) (sound : IsSound s) where
         none (Some c) = refl
     leaf_there (Some leaf) r e c x same = ap (runs_as q.world x c) e ∙ some c
       where
+        renamed : (p : Phase) → runs q.world x (renamed_leaf h.name leaf) p ≡ runs q.world x leaf p
+        renamed Pending = refl
+        renamed Running = refl
+        renamed Blocked = refl
+        renamed Serving = refl
+        renamed Handling = refl
+        renamed Exited = refl
+
         some : (c : Option Component) → runs_as q.world x c (Some (renamed_leaf h.name leaf)) ≡ runs_as p.world x c (Some leaf)
         some None = refl
-        some (Some c) = same leaf refl
+        some (Some c) = renamed leaf.phase ∙ same leaf refl
 
     requests_there : (x : ℕ) → is_some (oldest q.world x q.world.requests) ≡ is_some (oldest p.world x p.world.requests)
     requests_there x = by (oldest p.world x p.world.requests) (oldest q.world x q.world.requests) (matched all x refl h.name p.world q.world h.same)
@@ -108,15 +119,15 @@ module _ (s : Scenario) (sound : IsSound s) where
     pub runs_alike : (x : ℕ) → can_run real q.world x ≡ can_run real p.world x
     runs_alike x =
         leaf_there (slice_get p.world.leaves x) (slice_get q.world.leaves x) (h.same.leaves x refl) (slice_get real.components x) x
-        (λ leaf at. by leaf.phase)
+        (λ leaf at. by leaf leaf.phase)
       where
-        by : (phase : Phase) → runs q.world x phase ≡ runs p.world x phase
-        by Pending = refl
-        by Running = refl
-        by Blocked = refl
-        by Serving = requests_there x
-        by Handling = refl
-        by Exited = refl
+        by : (leaf : Leaf) (phase : Phase) → runs q.world x leaf phase ≡ runs p.world x leaf phase
+        by leaf Pending = refl
+        by leaf Running = refl
+        by leaf Blocked = refl
+        by leaf Serving = ap (λ b. is_some (first_signal leaf.signals) || b) (requests_there x)
+        by leaf Handling = refl
+        by leaf Exited = refl
 
     pub alike_turn : (x : ℕ) → AreAlike (after_turn real x p) (after_turn real x q)
     alike_turn x =
@@ -153,9 +164,15 @@ module _ (s : Scenario) (sound : IsSound s) where
 
     pub text_alike : (outcome_of e q).text ≡ (outcome_of e p).text
     text_alike =
-        let sums = accounts_same s e.budgets p.world q.world
+        let steps = budgets_same p.world q.world (λ y. ap (option_map signals_in) (h.same.leaves y refl) ∙ signals_alike (slice_get p.world.leaves y))
+        e.budgets in
+        let sums = accounts_same s (all_steps_in p.world e.budgets) p.world q.world
         (λ version y budget. same_account h.name all p.world q.world h.same y refl version budget (slice_get real.components y)) handed_alike in
-        λ i. lines_of (sym h.said i) ++ account_lines s.version (sums i)
+        λ i. lines_of (sym h.said i) ++ account_lines s.version ((ap (accounts s q.world) steps ∙ sums) i)
+      where
+        signals_alike : (o : Option Leaf) → option_map signals_in (option_map (renamed_leaf h.name) o) ≡ option_map signals_in o
+        signals_alike None = refl
+        signals_alike (Some leaf) = refl
 
   -- SO THEY END ALIKE
 

@@ -15,7 +15,8 @@ use Rattle.gq_model.specs.machine.World.{Current, Leaf, World}
 use Rattle.gq_model.proofs.Small_facts.{equal_self, none_some, some_same}
 use Rattle.gq_laws.specs.Session_links.{Fits, links, stance, stance_in}
 use Rattle.gq_laws.specs.Sound_scenarios.{IsSound}
-use Rattle.gq_laws.specs.Turn_effects.{can_run, runs, runs_as, steps_of}
+use Rattle.gq_model.specs.machine.Rest.{can_run, runs, runs_as}
+use Rattle.gq_laws.specs.Turn_effects.{steps_of}
 use Rattle.gq_laws.specs.internal.Uncounted.{uncounted}
 use Rattle.gq_laws.proofs.session_links.Asked_request_changes.{same_current, same_phase}
 use Rattle.gq_laws.proofs.session_links.Linked_after_reply.{leaf_of_stance}
@@ -43,6 +44,7 @@ use Rattle.gq_outcomes.proofs.complete.Opened_sections.{AreBy, Begun, begun_kept
 use Rattle.gq_outcomes.proofs.complete.Lone_askers.{asks_or}
 use Rattle.gq_outcomes.proofs.complete.Rest_alike.{some_asks}
 use Rattle.gq_outcomes.proofs.complete.Sections_below.{none_waits}
+use Rattle.gq_outcomes.proofs.complete.Unsubmitted_signals.{active_at, goes_on, works_as}
 
 pub split_at : (b : Bool) (o : Option ℕ) (i : ℕ) → cond b o None ≡ Some i → (b ≡ true) × (o ≡ Some i)
 split_at true o i e = (refl, e)
@@ -118,7 +120,8 @@ module _ (s : Scenario) (sound : IsSound s) (holds : ℕ → Bool) (P : ℕ → 
           of : (current : Option Current) → w.at.leaf.current ≡ current → ⊥
           of None f =
               let same : y ≡ j = sym (ap (thread_by (view g.m).root y) f) ∙ w.at.thread in
-              let q = g.begun j at w.at.leaf (ap (slice_get g.m.world.leaves) (sym same) ∙ w.at.there) w.at.is_active in
+              let q = g.begun j at w.at.leaf (ap (slice_get g.m.world.leaves) (sym same) ∙ w.at.there)
+              (active_at w.at.leaf.phase (goes_on (view g.m) g.good.held.calm j y w)) in
               none_some (sym f ∙ q.1)
           of (Some q) f =
               let wait = (handled u (view g.m) g.good.held.placed y w.at.leaf.phase q
@@ -331,13 +334,16 @@ module _ (s : Scenario) (sound : IsSound s) (holds : ℕ → Bool) (P : ℕ → 
       not_at : (g : Stage) → Still g → (i y : ℕ) → v y ≡ true → IsAt (view g.m) i y → ⊥
       not_at g still i y at a = by a.leaf.phase refl
         where
+          active : is_active a.leaf.phase ≡ true
+          active = sym (works_as a.leaf (g.good.held.calm.none y a.leaf a.there)) ∙ a.has_work
+
           q : (q : Current) × (a.leaf.current ≡ Some q)
-          q = g.begun y at a.leaf a.there a.is_active
+          q = g.begun y at a.leaf a.there active
 
           d : (d : Component) × (slice_get u.components y ≡ Some d)
           d = placed s sound holds P sections quiet_of g.m g.good y a.leaf a.there
 
-          stays : runs g.m.world y a.leaf.phase ≡ false
+          stays : runs g.m.world y a.leaf a.leaf.phase ≡ false
           stays = (λ j. runs_as g.m.world y (sym d.1 j) (sym a.there j)) ∙ still y at
 
           fits : Fits a.leaf.phase a.leaf.current
@@ -345,10 +351,10 @@ module _ (s : Scenario) (sound : IsSound s) (holds : ℕ → Bool) (P : ℕ → 
 
           by : (p : Phase) → a.leaf.phase ≡ p → ⊥
           by Blocked e = a.goes e
-          by Running e = true≢false (ap (runs g.m.world y) (sym e) ∙ stays)
-          by Handling e = true≢false (ap (runs g.m.world y) (sym e) ∙ stays)
-          by Serving e = true≢false (sym a.is_active ∙ ap is_active e)
-          by Exited e = true≢false (sym a.is_active ∙ ap is_active e)
+          by Running e = true≢false (ap (runs g.m.world y a.leaf) (sym e) ∙ stays)
+          by Handling e = true≢false (ap (runs g.m.world y a.leaf) (sym e) ∙ stays)
+          by Serving e = true≢false (sym active ∙ ap is_active e)
+          by Exited e = true≢false (sym active ∙ ap is_active e)
           by Pending e = subst (λ o. Fits Pending o) q.1 (subst (λ p. Fits p a.leaf.current) e fits)
 
       -- nor is one asked

@@ -1,8 +1,8 @@
 -- Servers that are shared and not held: what their sections wait for is such a server as well, and where none of these can take a turn nobody waits for one
 -- that is done with `main`, as those are that it uses.
-use Rattle.std.proofs.Common.{◌≡◌, ◌⊎◌, inl, inr, ℕ, zero, suc, ◌+◌, ◌==◌, ◌&&◌, not, Bool, true, false, cond, List, [], ◌∷◌, length}
+use Rattle.std.proofs.Common.{◌≡◌, ◌⊎◌, inl, inr, ℕ, zero, suc, ◌+◌, ◌==◌, ◌&&◌, ◌||◌, not, Bool, true, false, cond, List, [], ◌∷◌, length}
 use Rattle.std.proofs.Common.{Option, Some, None, refl, ap, sym, ◌∙◌, subst, arith}
-use Rattle.std.specs.Prelude.{is_some, slice_get}
+use Rattle.std.specs.Prelude.{is_some, nat_lt, slice_get}
 use Rattle.std.proofs.lemmas.Bool.{true≢false, or_cases, or_left, or_right}
 use Rattle.std.proofs.lemmas.Bool.Decides.{eqb_tells}
 use Rattle.std.proofs.lemmas.Option.{slice_get_within}
@@ -17,7 +17,7 @@ use Rattle.gq_model.proofs.Small_facts.{equal_self, get_within, none_some, some_
 use Rattle.gq_laws.specs.Leaf_phases.{Suits}
 use Rattle.gq_laws.specs.Session_links.{Fits, Waits, at_current, by_current, links, one_if, outline, outline_in, requests_of, stance, stance_in}
 use Rattle.gq_laws.specs.Sound_scenarios.{IsSound}
-use Rattle.gq_laws.specs.Turn_effects.{can_run, runs, runs_as}
+use Rattle.gq_model.specs.machine.Rest.{can_run, runs, runs_as}
 use Rattle.gq_laws.specs.internal.Uncounted.{uncounted}
 use Rattle.gq_laws.proofs.Outside_step_untouched.{outlined}
 use Rattle.gq_laws.proofs.progress.Lasting_world_invariant.{server_some}
@@ -241,22 +241,24 @@ module _ (s : Scenario) (sound : IsSound s) (holds : ℕ → Bool) (P : ℕ → 
         provides : is_some d.0.node.provides ≡ true
         provides = server_some s sound a.session.client z r.0 d.0 a.session.service r.1 r.2 d.1
 
-        suits : Suits d.0.node.provides leaf.0.phase
+        suits : Suits d.0.node.provides d.0.node.signals leaf.0.phase
         suits = h.lasts.ready.suits z d.0 leaf.0 d.1 leaf.1
 
-        stays : runs m.world z leaf.0.phase ≡ false
+        stays : runs m.world z leaf.0 leaf.0.phase ≡ false
         stays = (λ i. runs_as m.world z (sym d.1 i) (sym leaf.1 i)) ∙ still z v
 
         by : (p : Phase) → leaf.0.phase ≡ p → IsStuck z
-        by Pending e = absurd (true≢false (sym provides ∙ ap is_some (subst (Suits d.0.node.provides) e suits)))
-        by Exited e = absurd (true≢false (sym provides ∙ ap is_some (subst (Suits d.0.node.provides) e suits)))
-        by Running e = absurd (true≢false (ap (runs m.world z) (sym e) ∙ stays))
-        by Handling e = absurd (true≢false (ap (runs m.world z) (sym e) ∙ stays))
+        by Pending e = absurd (true≢false (sym provides ∙ ap is_some (subst (Suits d.0.node.provides d.0.node.signals) e suits)))
+        by Exited e = absurd (true≢false (sym (ap (λ b. b || nat_lt 0 d.0.node.signals) provides) ∙ subst (Suits d.0.node.provides d.0.node.signals) e suits))
+        by Running e = absurd (true≢false (ap (runs m.world z leaf.0) (sym e) ∙ stays))
+        by Handling e = absurd (true≢false (ap (runs m.world z leaf.0) (sym e) ∙ stays))
         by Blocked e =
             let q = begun_of z v leaf.0 leaf.1 (ap is_active e) in
             (q.0, ap stance_in leaf.1 ∙ (λ i. Some (stance (e i) (q.1 i))))
         by Serving e =
-            absurd (true≢false (sym (serves_one s sound holds P sections quiet_of m h k a leaf.0 leaf.1 e) ∙ (ap (runs m.world z) (sym e) ∙ stays)))
+            absurd (true≢false (sym (serves_one s sound holds P sections quiet_of m h k a leaf.0 leaf.1 e)
+            ∙ (sym (ap (λ s. is_some s || is_some (oldest m.world z m.world.requests)) (h.held.calm.none z leaf.0 leaf.1))
+            ∙ (ap (runs m.world z leaf.0) (sym e) ∙ stays))))
 
     -- so there is a chain of uses of any length
     stuck_chain : (n z : ℕ) → V z → IsStuck z → (rest : List ℕ) × Chain u z rest × (length rest ≡ n)

@@ -9,34 +9,36 @@ use Rattle.std.proofs.lemmas.List.Sums.{sum_by-cons}
 use Rattle.std.proofs.lemmas.Option.{slice_get_within}
 use Rattle.gq_model.specs.declared.program.Instruction.{Instruction}
 use Rattle.gq_model.specs.machine.Scenario.{Component, Scenario, System, system}
-use Rattle.gq_model.specs.machine.World.{Leaf, World}
-use Rattle.gq_laws.specs.Leaf_phases.{Suits}
+use Rattle.gq_model.specs.machine.World.{Leaf, World, start}
+use Rattle.gq_model.specs.rules.Accept.{budgets, step_budgets}
 use Rattle.gq_laws.specs.Progress.{budgeted, taken}
 use Rattle.gq_laws.specs.Session_links.{stance, stance_in}
 use Rattle.gq_laws.specs.Sound_scenarios.{IsSound}
-use Rattle.gq_laws.specs.Turn_effects.{can_run, runs_as, steps_of}
+use Rattle.gq_model.specs.machine.Rest.{can_run, runs_as}
+use Rattle.gq_laws.specs.Turn_effects.{steps_of}
 use Rattle.gq_laws.specs.internal.Uncounted.{uncounted}
 use Rattle.gq_laws.proofs.progress.Work_ends.{work_ends}
 use Rattle.gq_laws.proofs.verified_programs.Use_chains.{Uses}
 use Rattle.gq_races.specs.Races.{any_below, is_shared}
 use Rattle.gq_determined.specs.internal.Threads.{who}
 use Rattle.gq_determined.proofs.thread_positions.Single_thread_position.{handled}
-use Rattle.gq_determined.proofs.thread_positions.Turn_thread_position.{IsServing, IsWorking, who_is}
+use Rattle.gq_determined.proofs.thread_positions.Turn_thread_position.{IsServing, IsWorking, taken_there, who_is}
 use Rattle.gq_determined.proofs.thread_runs.Raceless_first_statements.{OpensThere}
 use Rattle.gq_determined.proofs.thread_runs.Remaining_section_statements.{AreSections, Lefts}
 use Rattle.gq_outcomes.specs.Outcomes.{Explored, Point, after_turn, explored}
 use Rattle.gq_outcomes.proofs.complete.Found_by_ends.{Ends, EndsWithin, rests_still}
 use Rattle.gq_outcomes.proofs.complete.Held_worlds.{AreQuiet, Held, view}
-use Rattle.gq_outcomes.proofs.complete.Good_worlds.{placed}
+use Rattle.gq_outcomes.proofs.complete.Good_worlds.{first as first_held, good_first}
 use Rattle.gq_outcomes.proofs.complete.Order_of_requests.{asked_of}
 use Rattle.gq_outcomes.proofs.complete.Alike_held.{AreOne, IsGood, end, runs_who, steps_end}
 use Rattle.gq_outcomes.proofs.complete.Sections_below.{both}
-use Rattle.gq_outcomes.proofs.complete.Rest_alike.{who_runs}
+use Rattle.gq_outcomes.proofs.complete.Rest_alike.{steps_one, who_runs}
 use Rattle.gq_outcomes.proofs.complete.Opened_sections.{AreBy}
 use Rattle.gq_outcomes.proofs.complete.Unheld_asks.{never_asks}
 use Rattle.gq_outcomes.proofs.complete.Section_turns.{Stage, Still, after, by_step, next_stage, none_is, split, step, still_one, who_v}
 use Rattle.gq_outcomes.proofs.complete.Turns_at_points.{IsLike, said_server, turn_world}
 use Rattle.gq_outcomes.proofs.complete.Used_servers.{below_found, below_there, used_server}
+use Rattle.gq_outcomes.proofs.complete.Unsubmitted_signals.{active_at, goes_on}
 
 -- where one number is raised by one, the sum is
 total_raised : (l : List ℕ) (x : ℕ) → x < length l → sum_by (λ (n : ℕ). n) (slice_set l x (suc (slice_index l x))) ≡ suc (sum_by (λ (n : ℕ). n) l)
@@ -106,10 +108,10 @@ module _ (s : Scenario) (sound : IsSound s) (holds : ℕ → Bool) (P : ℕ → 
         by : IsWorking (view g.m) k x ⊎ IsServing (view g.m) k x
             → (d : Component) × (slice_get u.components x ≡ Some d) × (is_some d.node.provides ≡ true)
         by (inr p) =
-            let d = placed s sound holds P sections quiet_of g.m g.good x p.leaf p.there in
-            (d.0, d.1, subst (Suits d.0.node.provides) p.serves (g.good.lasts.ready.suits x d.0 p.leaf d.1 p.there))
+            let t = taken_there u (view g.m) g.good.held.placed k x p in
+            used_server s sound t.0.client x (subst (Uses u t.0.client) t.2 (g.good.held.placed.uses p.taken.0.session t.0 t.1))
         by (inl w) =
-            let q = g.begun x at w.at.leaf w.at.there w.at.is_active in
+            let q = g.begun x at w.at.leaf w.at.there (active_at w.at.leaf.phase (goes_on (view g.m) g.good.held.calm k x w)) in
             let r = handled u (view g.m) g.good.held.placed x w.at.leaf.phase q.0
             (ap stance_in w.at.there ∙ ap (λ o. Some (stance w.at.leaf.phase o)) q.1) in
             let uses = g.good.held.placed.uses q.0.session r.waiting.session r.waiting.there in
@@ -244,7 +246,7 @@ module _ (s : Scenario) (sound : IsSound s) (holds : ℕ → Bool) (P : ℕ → 
             (g.begun z.0 z.1) y (choice_held y chosen)) r)) (omega (arith, count))
 
     -- all work ends, so they settle anyway
-    settle_all : (first : S) (p : Point) (n : ℕ) (ds : List ℕ) (w : IsWay first p (length ds) (later first ds)) → budgeted s
+    settle_all : (first : S) (p : Point) (n : ℕ) (ds : List ℕ) (w : IsWay first p (length ds) (later first ds)) → budgeted s (start u)
         ≤ n + taken (later first ds).m.world → IsSettled first p
     settle_all first p zero ds w most = elim (some_can (later first ds)) [
       | inl still ↦ record { ds = ds; way = w; still = still }
@@ -254,11 +256,15 @@ module _ (s : Scenario) (sound : IsSound s) (holds : ℕ → Bool) (P : ℕ → 
           let sum = more.way.sum in
           let old = w.sum in
           let ends = work_ends s (later first (z.0 ∷ ds)).m.world (later first (z.0 ∷ ds)).good.lasts [] in
-          absurd (omega (arith, sum, old, ends, most)))
+          let same : budgeted s (later first (z.0 ∷ ds)).m.world ≡ budgeted s (start u)
+          = ap (sum_by (λ (n : ℕ). n)) (steps_one s sound holds P sections quiet_of (first_held s sound holds P sections quiet_of) (later first (z.0 ∷ ds)).m
+          (good_first s sound holds P sections quiet_of) (later first (z.0 ∷ ds)).good (step_budgets (budgets s))) in
+          absurd (omega (arith, sum, old, ends, same, most)))
     ]
     settle_all first p (suc n) ds w most = by (λ ds w most. settle_all first p n ds w most) (some_can (later first ds))
       where
-        by : ((ds : List ℕ) (w : IsWay first p (length ds) (later first ds)) → budgeted s ≤ n + taken (later first ds).m.world → IsSettled first p)
+        by : ((ds : List ℕ) (w : IsWay first p (length ds) (later first ds)) → budgeted s (start u) ≤ n + taken (later first ds).m.world
+            → IsSettled first p)
             → IsStill (later first ds) ⊎ ((z : ℕ) × (v z ≡ true) × (can_run u (later first ds).m.world z ≡ true)) → IsSettled first p
         by go (inl still) = record { ds = ds; way = w; still = still }
         by go (inr z) =
@@ -283,7 +289,7 @@ module _ (s : Scenario) (sound : IsSound s) (holds : ℕ → Bool) (P : ℕ → 
           f = settle_in one p k k takes [] (way_none one p at_p) ends (omega arith)
 
           h : IsSettled other q
-          h = settle_all other q (budgeted s) [] (way_none other q at_q) (omega arith)
+          h = settle_all other q (budgeted s (start u)) [] (way_none other q at_q) (omega arith)
 
           alike : AreOne s sound holds P sections quiet_of (later one f.settled.ds).m (later other h.ds).m
           alike = still_one s sound holds P sections quiet_of opens_of v off_of one other o shared_of lower used f.settled.ds h.ds f.settled.still h.still

@@ -2,22 +2,24 @@
 use Rattle.std.proofs.Common.{◌≡◌, ◌≢◌, ◌⊎◌, inl, inr, ℕ, zero, suc, Bool, true, false, cond, nat_lt, List, [], ◌∷◌, Option, Some, None, Ok, refl}
 use Rattle.std.proofs.Common.{ap, sym, ◌∙◌, arith}
 use Rattle.std.specs.Prelude.{replicate, slice_get}
-use Rattle.gq_model.specs.declared.fault.Wrong.TheVariants.{WrongKind, ExceededQuota}
+use Rattle.gq_model.specs.declared.fault.Wrong.TheVariants.{WrongKind, ExceededQuota, MissingSection}
 use Rattle.gq_model.specs.declared.phase.Phase.{Phase}
 use Rattle.gq_model.specs.declared.phase.Phase.TheVariants.{Pending, Running, Blocked, Serving, Handling, Exited}
 use Rattle.gq_model.specs.declared.section.Section.{Section}
 use Rattle.gq_model.specs.declared.section.Section.TheVariants.{Main, Opening, Upgrading, Calling, Closing, Reacting}
 use Rattle.gq_model.specs.machine.Doing.{Doing, Event, Idle, Quiet, Finished, settled, standing}
-use Rattle.gq_model.specs.machine.Program.{Statements, Done, Do, If, Loop}
+use Rattle.gq_model.specs.machine.Program.{Statements, Done, Do, If, Loop, section_in}
 use Rattle.gq_model.specs.machine.Scenario.{Component, System}
 use Rattle.gq_model.specs.machine.Step.{accept_oldest, active_again, all_empty, all_released, body_ended, exit_of, exited, main_ended, next, no_link}
 use Rattle.gq_model.specs.machine.Step.{oldest, perform, replied, reply, reply_close, resumed, section_ended, serving, step_in, step_of, unblocked, instruct}
+use Rattle.gq_model.specs.machine.Step.{first_signal, reacting_to, serve}
 use Rattle.gq_model.specs.machine.Sums.{paid, with_peaks}
-use Rattle.gq_model.specs.machine.World.{Empty, Link, Slot, SlotId, Session, Request, Current, Round, Leaf, World, session_at, start_leaves, with_leaf}
+use Rattle.gq_model.specs.machine.World.{Empty, Link, Slot, SlotId, Session, Request, Current, Signal, Round, Leaf, World, session_at, start_leaves, with_leaf}
 use Rattle.gq_model.specs.machine.World.{with_slot}
 use Rattle.gq_model.proofs.Small_facts.{none_some, some_same, equal_self}
 use Rattle.gq_model.specs.declared.program.Instruction.{Instruction}
 use Rattle.gq_model.specs.machine.Doing.{Stepped}
+use Rattle.gq_laws.specs.Leaf_phases.{serves}
 use Rattle.gq_laws.specs.Session_links.{IsLinkedWorld, Stands, at_current, links, one_if, outline, outline_in, stance, stance_in}
 use Rattle.gq_laws.proofs.session_links.Asked_request_changes.{same_phase}
 use Rattle.gq_laws.proofs.step_shapes.Step_end_shapes.{Ends, fails, gives, need_ends, need_found, when_ends, pop_ends}
@@ -58,28 +60,29 @@ unblocked_unset w x f h = by (slice_get w.leaves x) refl
   where
     by : (o : Option Leaf) → slice_get w.leaves x ≡ o → AreUnset (active_again w x f o)
     by None e = h
-    by (Some leaf) e = leaf_unset w x (record leaf { phase = resumed leaf.current; operands = f leaf.operands }) (h.each x leaf e) h
+    by (Some leaf) e = leaf_unset w x (record leaf { phase = resumed leaf.current leaf.reacting; operands = f leaf.operands }) (h.each x leaf e) h
 
 settled_unset : (u : System) (x : ℕ) (w : World) → AreUnset w → Ends AreUnset (settled u x w)
 settled_unset u x w h =
     need_found AreUnset _ _ _ (λ leaf there. when_ends AreUnset _ _ _ (gives _ _ (leaf_unset w x (with_peaks w x leaf) (h.each x leaf there) h)))
 
 module _ (d : Doing) (h : AreUnset d.world) (own : d.leaf.inputs ≡ zeros) where
-  main_unset : (o : Option (List ℕ)) → Ends AreUnset (main_ended d o)
-  main_unset (Some service) = gives _ Quiet (leaf_unset d.world d.x (serving d.leaf) own h)
-  main_unset None = when_ends AreUnset (no_link d.leaf.slots) WrongKind _ (gives _ Finished (record {
+  main_unset : (o : Option (List ℕ)) (signals : ℕ) → Ends AreUnset (main_ended d o signals)
+  main_unset (Some service) signals = gives _ Quiet (leaf_unset d.world d.x (serving d.leaf) own h)
+  main_unset None (suc n) = gives _ Quiet (leaf_unset d.world d.x (serving d.leaf) own h)
+  main_unset None zero = when_ends AreUnset (no_link d.leaf.slots) WrongKind _ (gives _ Finished (record {
     each = λ y leaf e.
         (let old = released_leaf d.component.node.name d.system.components (standing d (exited d.leaf)).leaves y leaf e in
         let w = leaf_unset d.world d.x (exited d.leaf) refl h in old.2 ∙ w.each y old.0 old.1);
   }))
 
-  section_unset : (current : Option Current) → Ends AreUnset (section_ended d current)
+  section_unset : (current : Option Current) (reacting : Option ℕ) → Ends AreUnset (section_ended d current reacting)
   section_unset =
       section_by d AreUnset slot_unset (leaf_unset d.world d.x (serving d.leaf) own h) unblocked_unset (λ w k hw. record { each = hw.each })
-      (main_unset d.component.node.provides)
+      (main_unset d.component.node.provides d.component.node.signals)
 
   body_unset : (loops : List Round) → Ends AreUnset (body_ended d loops)
-  body_unset [] = section_unset d.leaf.current
+  body_unset [] = section_unset d.leaf.current d.leaf.reacting
   body_unset (r ∷ loops) = gives _ Quiet (by (nat_lt (suc r.round) r.count))
     where
       by : (b : Bool) → AreUnset (standing d (cond b (record d.leaf { todo = r.body; loops = record r { round = suc r.round } ∷ loops })
@@ -91,6 +94,11 @@ module _ (d : Doing) (h : AreUnset d.world) (own : d.leaf.inputs ≡ zeros) wher
   accepted_unset None = gives d.world Idle h
   accepted_unset (Some q) =
       accept_by AreUnset d q.0 q.1 (λ old there. (let w = leaf_unset d.world d.x (begun d q.0 old) own h in record { each = w.each }))
+
+  served_unset : (o : Option (ℕ × List Signal)) → Ends AreUnset (serve d o)
+  served_unset None = accepted_unset (oldest d.world d.x d.world.requests)
+  served_unset (Some p) = need_ends AreUnset (section_in (Reacting p.0) d.component.node.program.sections) MissingSection _
+      (λ body. gives _ Quiet (leaf_unset d.world d.x (reacting_to d.leaf p.0 p.1 body) own h))
 
 instruct_unset : (d : Doing) → AreUnset d.world → d.leaf.inputs ≡ zeros → (todo : Statements) → Ends AreUnset (perform d todo)
 instruct_unset d h own Done = body_unset d h own d.leaf.loops
@@ -105,7 +113,7 @@ instruct_unset d h own (Loop count body rest) = gives _ Quiet (leaf_unset d.worl
 step_unset : (d : Doing) → AreUnset d.world → d.leaf.inputs ≡ zeros → (phase : Phase) → Ends AreUnset (step_in d phase)
 step_unset d h own Running = instruct_unset d h own d.leaf.todo
 step_unset d h own Handling = instruct_unset d h own d.leaf.todo
-step_unset d h own Serving = accepted_unset d h own (oldest d.world d.x d.world.requests)
+step_unset d h own Serving = served_unset d h own (first_signal d.leaf.signals)
 step_unset d h own Pending = gives d.world Idle h
 step_unset d h own Blocked = gives d.world Idle h
 step_unset d h own Exited = gives d.world Idle h
@@ -141,7 +149,7 @@ module _ (u : System) (w0 : World) (linked : IsLinkedWorld u w0) (x y : ℕ) (ne
 
   -- still pending, or the leaf that took the step has exited
   abbrev pub Gone : World → Type 0
-  Gone w = (w ≡ exit_of d0) × (c.node.provides ≡ None)
+  Gone w = (w ≡ exit_of d0) × (serves c.node.provides c.node.signals ≡ false)
 
   record StaysOr (w : World) : Type 0 where
     is : Pends w ⊎ Gone w
@@ -232,17 +240,19 @@ module _ (u : System) (w0 : World) (linked : IsLinkedWorld u w0) (x y : ℕ) (ne
     stay r h = record { holds = λ w e is. record { is = inl (h.holds w e is) } }
 
     module _ (gone : exit_of d ≡ exit_of d0) where
-      main_pends : (o : Option (List ℕ)) → c.node.provides ≡ o → Ends StaysOr (main_ended d o)
-      main_pends (Some service) e = gives _ Quiet (record { is = inl (stand (serving leaf)) })
-      main_pends None e = when_ends StaysOr (no_link leaf.slots) WrongKind _ (gives _ Finished (record { is = inr (gone, e) }))
+      main_pends : (o : Option (List ℕ)) (n : ℕ) → serves c.node.provides c.node.signals ≡ serves o n → Ends StaysOr (main_ended d o n)
+      main_pends (Some service) n e = gives _ Quiet (record { is = inl (stand (serving leaf)) })
+      main_pends None (suc n) e = gives _ Quiet (record { is = inl (stand (serving leaf)) })
+      main_pends None zero e = when_ends StaysOr (no_link leaf.slots) WrongKind _ (gives _ Finished (record { is = inr (gone, e) }))
 
-      section_pends : (current : Option Current) → leaf.current ≡ current → Ends StaysOr (section_ended d current)
-      section_pends None e = main_pends c.node.provides refl
-      section_pends (Some q) e =
+      section_pends : (current : Option Current) (reacting : Option ℕ) → leaf.current ≡ current → Ends StaysOr (section_ended d current reacting)
+      section_pends None None e = main_pends c.node.provides c.node.signals refl
+      section_pends None (Some i) e = gives _ Quiet (record { is = inl (stand (serving leaf)) })
+      section_pends (Some q) reacting e =
           need_found StaysOr (session_at w0 q.session) WrongKind _ (λ s at. stay _ (reply_pends q.session q.section s (client_else q s e at)))
 
       body_pends : (loops : List Round) → Ends StaysOr (body_ended d loops)
-      body_pends [] = section_pends leaf.current refl
+      body_pends [] = section_pends leaf.current leaf.reacting refl
       body_pends (r ∷ loops) = gives _ Quiet (by (nat_lt (suc r.round) r.count))
         where
           by : (b : Bool) → StaysOr (standing d (cond b (record leaf { todo = r.body; loops = record r { round = suc r.round } ∷ loops })
@@ -261,10 +271,15 @@ module _ (u : System) (w0 : World) (linked : IsLinkedWorld u w0) (x y : ℕ) (ne
   accepted_pends (Some q) =
       accept_by StaysOr d0 q.0 q.1 (λ s at. record { is = inl (record { stays = (stand d0.leaf refl (begun d0 q.0 s)).stays }) })
 
+  served_pends : (o : Option (ℕ × List Signal)) → Ends StaysOr (serve d0 o)
+  served_pends None = accepted_pends (oldest w0 x w0.requests)
+  served_pends (Some p) = need_ends StaysOr (section_in (Reacting p.0) c.node.program.sections) MissingSection _
+      (λ body. gives _ Quiet (record { is = inl (stand d0.leaf refl (reacting_to d0.leaf p.0 p.1 body)) }))
+
   step_pends : (phase : Phase) → Ends StaysOr (step_in d0 phase)
   step_pends Running = perform_pends old.todo
   step_pends Handling = perform_pends old.todo
-  step_pends Serving = accepted_pends (oldest w0 x w0.requests)
+  step_pends Serving = served_pends (first_signal d0.leaf.signals)
   step_pends Pending = gives w0 Idle (record { is = inl pends_first })
   step_pends Blocked = gives w0 Idle (record { is = inl pends_first })
   step_pends Exited = gives w0 Idle (record { is = inl pends_first })

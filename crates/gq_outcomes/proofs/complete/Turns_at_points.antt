@@ -11,7 +11,7 @@ use Rattle.gq_model.specs.machine.Step.{next}
 use Rattle.gq_model.specs.machine.World.{World}
 use Rattle.gq_laws.specs.Progress.{AllRest}
 use Rattle.gq_laws.specs.Sound_scenarios.{IsSound}
-use Rattle.gq_laws.specs.Turn_effects.{can_run}
+use Rattle.gq_model.specs.machine.Rest.{can_run}
 use Rattle.gq_laws.specs.internal.Uncounted.{uncounted}
 use Rattle.gq_determined.specs.internal.Threads.{who}
 use Rattle.gq_determined.proofs.thread_positions.Turn_thread_position.{IsWorking}
@@ -24,8 +24,9 @@ use Rattle.gq_outcomes.proofs.complete.Held_worlds.{AreQuiet, Held, view}
 use Rattle.gq_outcomes.proofs.complete.Good_worlds.{goes}
 use Rattle.gq_outcomes.proofs.complete.Alike_held.{AreOne, IsGood, both_show, end, good_end, one_end, runs_who, shown}
 use Rattle.gq_outcomes.proofs.complete.Two_orders.{who_one}
-use Rattle.gq_outcomes.proofs.complete.Rest_alike.{accounts_one, rest_one}
+use Rattle.gq_outcomes.proofs.complete.Rest_alike.{accounts_one, steps_one, rest_one}
 use Rattle.gq_outcomes.proofs.complete.Opened_sections.{AreBy, by_next}
+use Rattle.gq_model.specs.machine.Step_budgets.{all_steps_in}
 
 set_two : {A : Type 0} (l : List A) (x y : ℕ) (a b : A) → x ≢ y → slice_set (slice_set l x a) y b ≡ slice_set (slice_set l y b) x a
 set_two [] x y a b ne = refl
@@ -122,9 +123,12 @@ module _ (s : Scenario) (sound : IsSound s) (holds : ℕ → Bool) (P : ℕ → 
   pub like_rests : (t : List ℕ) (p q : Point) → IsLike p q → Ends s p [] t → Ends s q [] t
   like_rests t p q l r =
       let rest = subst AllRest (sym l.at) r.0 in
-      let sums : account_lines s.version (accounts s q.world e.budgets) ≡ account_lines s.version (accounts s p.world e.budgets)
-      = ap (account_lines s.version) (ap (λ w. accounts s w e.budgets) (sym l.at_n)
-      ∙ (accounts_one s sound holds P sections quiet_of l.m l.n l.good_m l.good_n l.one rest e.budgets ∙ ap (λ w. accounts s w e.budgets) l.at)) in (
+      let sums : account_lines s.version (accounts s q.world (all_steps_in q.world e.budgets))
+      ≡ account_lines s.version (accounts s p.world (all_steps_in p.world e.budgets))
+      = ap (account_lines s.version) (ap (λ w. accounts s w (all_steps_in w e.budgets)) (sym l.at_n)
+      ∙ (ap (accounts s l.n.world) (steps_one s sound holds P sections quiet_of l.m l.n l.good_m l.good_n e.budgets)
+      ∙ (accounts_one s sound holds P sections quiet_of l.m l.n l.good_m l.good_n l.one rest (all_steps_in l.m.world e.budgets)
+      ∙ ap (λ w. accounts s w (all_steps_in w e.budgets)) l.at))) in (
         subst AllRest l.at_n (rest_one s sound holds P sections quiet_of l.m l.n l.good_m l.good_n l.one rest),
         (λ j. lines_of (sym l.said j) ++ sums j) ∙ r.1,
       )

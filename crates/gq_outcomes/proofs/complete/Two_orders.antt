@@ -1,7 +1,7 @@
 -- Steps of two leaves come to the same in either order, up to what is left open of worlds in which all threads have the same.
 use Rattle.std.proofs.Common.{◌≡◌, ◌≢◌, ◌⊎◌, inl, inr, ℕ, zero, suc, ◌==◌, ◌&&◌, ◌||◌, Bool, true, false, ◌++◌, List, [], ◌∷◌, Option, Some, None}
 use Rattle.std.proofs.Common.{refl, ap, sym, ◌∙◌, subst, arith}
-use Rattle.std.specs.Prelude.{is_some, option_map, slice_get, slice_set, slice_index}
+use Rattle.std.specs.Prelude.{option_map, slice_get, slice_set, slice_index}
 use Rattle.std.proofs.lemmas.Bool.{true≢false}
 use Rattle.std.proofs.lemmas.Bool.Decides.{eqb_tells}
 use Rattle.std.proofs.lemmas.Option.{slice_get_within}
@@ -11,13 +11,15 @@ use Rattle.gq_model.specs.declared.program.Instruction.{Instruction}
 use Rattle.gq_model.specs.machine.Scenario.{Component, Scenario, System, system}
 use Rattle.gq_model.specs.machine.World.{Current, Leaf, World}
 use Rattle.gq_model.proofs.Small_facts.{none_some, some_same, equal_self, get_within, text_is}
-use Rattle.gq_laws.specs.Leaf_phases.{Suits}
+use Rattle.gq_laws.specs.Leaf_phases.{Suits, serves}
+use Rattle.gq_model.specs.machine.Step.{oldest}
 use Rattle.gq_laws.specs.Session_links.{links, stance, stance_in}
 use Rattle.gq_laws.specs.Sound_scenarios.{IsSound}
 use Rattle.gq_laws.specs.Renamed.{renamed_leaf}
 use Rattle.gq_laws.specs.internal.Uncounted.{uncounted}
 use Rattle.gq_laws.proofs.session_links.Asked_request_changes.{same_phase}
-use Rattle.gq_determined.specs.internal.Threads.{asker, is_active, seen, seen_by, thread_by, who, who_by, who_of, works, works_for, IsSameThread}
+use Rattle.gq_determined.specs.internal.Threads.{asker, has_work, is_active, seen, served_for, seen_by, thread_by, who, who_by, who_of, works, works_for}
+use Rattle.gq_determined.specs.internal.Threads.{IsSameThread}
 use Rattle.gq_determined.proofs.thread_positions.Single_thread_position.{handled, root_waits}
 use Rattle.gq_determined.proofs.thread_positions.Turn_thread_position.{IsServing, IsWorking, at_other, requested, same_place, who_is, works_at}
 use Rattle.gq_determined.proofs.thread_runs.Remaining_section_statements.{AreSections, Lefts}
@@ -27,6 +29,7 @@ use Rattle.gq_outcomes.proofs.complete.Good_worlds.{exited_kept, placed, solo_on
 use Rattle.gq_outcomes.proofs.complete.Order_of_requests.{asked_of, oldest_roots, oldest_some, roots_in, roots_to}
 use Rattle.gq_outcomes.proofs.complete.Order_steps.{ordered}
 use Rattle.gq_outcomes.proofs.complete.Alike_held.{AreOne, IsGood, alive, end, frame_right, good_end}
+use Rattle.gq_outcomes.proofs.complete.Unsubmitted_signals.{goes_on, works_as}
 
 -- what is seen of a leaf that serves
 pub seen_serving : (l k : Leaf) → seen l ≡ seen k → k.phase ≡ Serving → l.phase ≡ Serving
@@ -105,14 +108,14 @@ index_else (c ∷ l) zero (suc y) a ne = refl
 index_else (c ∷ l) (suc x) zero a ne = refl
 index_else (c ∷ l) (suc x) (suc y) a ne = index_else l x y a (λ e. ne (ap suc e))
 
-inactive_phases : (p : Phase) (provides : Option (List ℕ)) → is_active p ≡ false → Suits provides p
-    → ((p ≡ Serving) × (is_some provides ≡ true)) ⊎ ((p ≡ Exited) × (provides ≡ None))
-inactive_phases Serving provides e suits = inl (refl, suits)
-inactive_phases Exited provides e suits = inr (refl, suits)
-inactive_phases Pending provides e suits = absurd (true≢false e)
-inactive_phases Running provides e suits = absurd (true≢false e)
-inactive_phases Blocked provides e suits = absurd (true≢false e)
-inactive_phases Handling provides e suits = absurd (true≢false e)
+inactive_phases : (p : Phase) (provides : Option (List ℕ)) (n : ℕ) → is_active p ≡ false → Suits provides n p
+    → ((p ≡ Serving) × (serves provides n ≡ true)) ⊎ ((p ≡ Exited) × (serves provides n ≡ false))
+inactive_phases Serving provides n e suits = inl (refl, suits)
+inactive_phases Exited provides n e suits = inr (refl, suits)
+inactive_phases Pending provides n e suits = absurd (true≢false e)
+inactive_phases Running provides n e suits = absurd (true≢false e)
+inactive_phases Blocked provides n e suits = absurd (true≢false e)
+inactive_phases Handling provides n e suits = absurd (true≢false e)
 
 module _ (s : Scenario) (sound : IsSound s) (holds : ℕ → Bool) (P : ℕ → Component → Bool → Instruction → Type 0)
     (sections : AreSections P (uncounted (system s))) (quiet_of : (w : World) → Lefts P (uncounted (system s)) w → AreQuiet holds w) where
@@ -137,14 +140,14 @@ module _ (s : Scenario) (sound : IsSound s) (holds : ℕ → Bool) (P : ℕ → 
       = some_same (ap (option_map seen) (sym a.there) ∙ (t.alike y (works_at (view m) j y w.at)
       ∙ ap (option_map (λ l. renamed_leaf t.f (seen l))) w.at.there)) in
       let runs : ((seen a.leaf).phase ≡ Running) ⊎ ((seen a.leaf).phase ≡ Handling)
-      = elim w.runs [
+      = elim (goes_on (view m) h.held.calm j y w) [
         | inl r ↦ inl (ap (λ (l : Leaf). l.phase) same ∙ ap (λ p. (seen_by p w.at.leaf).phase) r)
         | inr r ↦ inr (ap (λ (l : Leaf). l.phase) same ∙ ap (λ p. (seen_by p w.at.leaf).phase) r)
       ] in
-      record { at = a; runs = seen_runs a.leaf runs (pending a.leaf a.there) }
+      record { at = a; runs = inl (seen_runs a.leaf runs (pending a.leaf a.there)) }
     where
       not_m : w.at.leaf.phase ≡ Pending → ⊥
-      not_m e = elim w.runs [ inl r ↦ ne1 (sym r ∙ e) | inr r ↦ ne2 (sym r ∙ e) ]
+      not_m e = elim (goes_on (view m) h.held.calm j y w) [ inl r ↦ ne1 (sym r ∙ e) | inr r ↦ ne2 (sym r ∙ e) ]
         where
           ne1 : Running ≡ Pending → ⊥
           ne1 e = cc
@@ -160,20 +163,23 @@ module _ (s : Scenario) (sound : IsSound s) (holds : ℕ → Bool) (P : ℕ → 
           let k = exits o.z o.leaf o.there o.phase in
           r.2 o.z o.component k.0 o.placed (text_is o.component.node.name r.0 o.named) k.1 k.2
 
-  who_working : (m : Held) (j y : ℕ) → IsWorking (view m) j y → who (view m) y ≡ Some j
-  who_working m j y w =
+  who_working : (m : Held) (h : G m) (j y : ℕ) → IsWorking (view m) j y → who (view m) y ≡ Some j
+  who_working m h j y w =
       ap (who_of (view m) y) w.at.there
-      ∙ elim w.runs [
-        | inl r ↦ ap (who_by (view m) y w.at.leaf.current) r ∙ ap Some w.at.thread
-        | inr r ↦ ap (who_by (view m) y w.at.leaf.current) r ∙ ap Some w.at.thread
+      ∙ elim (goes_on (view m) h.held.calm j y w) [
+        | inl r ↦ ap (who_by (view m) y w.at.leaf.current w.at.leaf.signals) r ∙ ap Some w.at.thread
+        | inr r ↦ ap (who_by (view m) y w.at.leaf.current w.at.leaf.signals) r ∙ ap Some w.at.thread
       ]
 
-  pub who_serving : (m : Held) (j y : ℕ) (l : Leaf) (rest : List ℕ) → slice_get m.world.leaves y ≡ Some l → l.phase ≡ Serving → roots_to m y ≡ j ∷ rest
+  pub who_serving : (m : Held) (h : G m) (j y : ℕ) (l : Leaf) (rest : List ℕ) → slice_get m.world.leaves y ≡ Some l → l.phase ≡ Serving
+      → roots_to m y ≡ j ∷ rest
       → who (view m) y ≡ Some j
-  who_serving m j y l rest at serves order =
+  who_serving m h j y l rest at serves order =
       let p = oldest_some (view m).root m.world y m.world.requests j rest order in
       ap (who_of (view m) y) at
-      ∙ (ap (who_by (view m) y l.current) serves ∙ (ap (asker (view m).root) p.1 ∙ ap Some p.2))
+      ∙ (ap (who_by (view m) y l.current l.signals) serves
+      ∙ (ap (λ s. served_for (view m).root (thread_by (view m).root y l.current) s (oldest m.world y m.world.requests)) (h.held.calm.none y l at)
+      ∙ (ap (asker (view m).root) p.1 ∙ ap Some p.2)))
 
   -- a thread for which a leaf takes a step has no other leaf's number
   pub not_leaf : (m : Held) (h : G m) (i x j y : ℕ) → who (view m) x ≡ Some i → who (view m) y ≡ Some j → x ≢ y → j ≢ x
@@ -221,7 +227,7 @@ module _ (s : Scenario) (sound : IsSound s) (holds : ℕ → Bool) (P : ℕ → 
 
       by : IsWorking (view m) j y ⊎ IsServing (view m) j y → who (view (end s sound holds P sections quiet_of m h i x is)) y ≡ Some j
       by (inl w) =
-          who_working (end s sound holds P sections quiet_of m h i x is) j y
+          who_working (end s sound holds P sections quiet_of m h i x is) (good_end s sound holds P sections quiet_of m h i x is) j y
           (works_other m (end s sound holds P sections quiet_of m h i x is) h (good_end s sound holds P sections quiet_of m h i x is) j y t
           (λ z k at e. exited_kept s sound holds P sections quiet_of m h i x is z k at e) w)
       by (inr p) = serves (slice_get (end s sound holds P sections quiet_of m h i x is).world.leaves y) refl
@@ -236,7 +242,7 @@ module _ (s : Scenario) (sound : IsSound s) (holds : ℕ → Bool) (P : ℕ → 
 
           out : (works (view (taken holds m x i)) i y || y == x) ≡ false
           out = ap (λ o. works_for (view (taken holds m x i)).root i y o || y == x) p.there
-              ∙ (ap (λ f. is_active f && (thread_by (view (taken holds m x i)).root y p.leaf.current == i) || y == x) p.serves ∙ unequal)
+              ∙ ((λ e. has_work (p.serves e) (p.idle e) && (thread_by (view (taken holds m x i)).root y p.leaf.current == i) || y == x) ∙ unequal)
             where
               unequal : (y == x) ≡ false
               unequal = elim (eqb_tells y x) [ inl q ↦ absurd (ne (sym q.1)) | inr q ↦ q.0 ]
@@ -249,7 +255,8 @@ module _ (s : Scenario) (sound : IsSound s) (holds : ℕ → Bool) (P : ℕ → 
               → who (view (end s sound holds P sections quiet_of m h i x is)) y ≡ Some j
           serves None e = absurd (none_some (sym (ap (option_map seen) e) ∙ (seen_same ∙ ap (option_map seen) p.there)))
           serves (Some l) e =
-              who_serving (end s sound holds P sections quiet_of m h i x is) j y l (old.0 ++ asked_of (end s sound holds P sections quiet_of m h i x is) i y) e
+              who_serving (end s sound holds P sections quiet_of m h i x is) (good_end s sound holds P sections quiet_of m h i x is) j y l
+              (old.0 ++ asked_of (end s sound holds P sections quiet_of m h i x is) i y) e
               (seen_serving l p.leaf (some_same (sym (ap (option_map seen) e) ∙ (seen_same ∙ ap (option_map seen) p.there))) p.serves)
               (order ∙ ap (λ l. l ++ asked_of (end s sound holds P sections quiet_of m h i x is) i y) old.1)
 
@@ -264,9 +271,9 @@ module _ (s : Scenario) (sound : IsSound s) (holds : ℕ → Bool) (P : ℕ → 
       of j thread act own =
           let t = o.same j (o.back j own) in
           let there : works (view n) j z ≡ true
-          = ap (works_for (view n).root j z) at_n ∙ ((λ e. act e && (thread e == j)) ∙ equal_self j) in
+          = ap (works_for (view n).root j z) at_n ∙ ((λ e. (works_as l (g.held.calm.none z l at_n) ∙ act) e && (thread e == j)) ∙ equal_self j) in
           let none : works (view m) j z ≡ false
-          = ap (works_for (view m).root j z) at ∙ ap (λ b. b && (thread_by (view m).root z k.current == j)) off in
+          = ap (works_for (view m).root j z) at ∙ ap (λ b. b && (thread_by (view m).root z k.current == j)) (works_as k (h.held.calm.none z k at) ∙ off) in
           true≢false (sym there ∙ (sym (t.leaves z) ∙ none))
 
       alive_n : (current : Option Current) → l.current ≡ current → is_active l.phase ≡ true → ⊥
@@ -293,9 +300,9 @@ module _ (s : Scenario) (sound : IsSound s) (holds : ℕ → Bool) (P : ℕ → 
       let l = leaf_there m n h g z k at in
       let c = placed s sound holds P sections quiet_of m h z k at in
       let off = inactive_one m n h g o z k l.0 at (ap is_active e) l.1 in
-      let none = subst (Suits c.0.node.provides) e (h.lasts.ready.suits z c.0 k c.1 at) in
-      elim (inactive_phases l.0.phase c.0.node.provides off (g.lasts.ready.suits z c.0 l.0 c.1 l.1)) [
-        | inl q ↦ absurd (true≢false (sym q.1 ∙ ap is_some none))
+      let none = subst (Suits c.0.node.provides c.0.node.signals) e (h.lasts.ready.suits z c.0 k c.1 at) in
+      elim (inactive_phases l.0.phase c.0.node.provides c.0.node.signals off (g.lasts.ready.suits z c.0 l.0 c.1 l.1)) [
+        | inl q ↦ absurd (true≢false (sym q.1 ∙ none))
         | inr q ↦ (l.0, l.1, q.0)
       ]
 
@@ -305,10 +312,10 @@ module _ (s : Scenario) (sound : IsSound s) (holds : ℕ → Bool) (P : ℕ → 
       let l = leaf_there m n h g z k at in
       let c = placed s sound holds P sections quiet_of m h z k at in
       let off = inactive_one m n h g o z k l.0 at (ap is_active e) l.1 in
-      let some = subst (Suits c.0.node.provides) e (h.lasts.ready.suits z c.0 k c.1 at) in
-      elim (inactive_phases l.0.phase c.0.node.provides off (g.lasts.ready.suits z c.0 l.0 c.1 l.1)) [
+      let some = subst (Suits c.0.node.provides c.0.node.signals) e (h.lasts.ready.suits z c.0 k c.1 at) in
+      elim (inactive_phases l.0.phase c.0.node.provides c.0.node.signals off (g.lasts.ready.suits z c.0 l.0 c.1 l.1)) [
         | inl q ↦ (l.0, l.1, q.0)
-        | inr q ↦ absurd (true≢false (sym some ∙ ap is_some q.1))
+        | inr q ↦ absurd (true≢false (sym some ∙ q.1))
       ]
 
   -- who works in one world does in the other, and a server that is held takes the same request
@@ -317,10 +324,11 @@ module _ (s : Scenario) (sound : IsSound s) (holds : ℕ → Bool) (P : ℕ → 
   who_one m n h g o i x is how = by (who_is (view m) i x is) how
     where
       by : IsWorking (view m) i x ⊎ IsServing (view m) i x → IsWorking (view m) i x ⊎ (holds x ≡ true) → who (view n) x ≡ Some i
-      by (inl w) q = who_working n i x (works_other m n h g i x (o.same i (alive s sound holds P sections quiet_of m h i x is)) (exited_one m n h g o) w)
-      by (inr p) (inl w) = who_working n i x (works_other m n h g i x (o.same i (alive s sound holds P sections quiet_of m h i x is)) (exited_one m n h g o) w)
+      by (inl w) q = who_working n g i x (works_other m n h g i x (o.same i (alive s sound holds P sections quiet_of m h i x is)) (exited_one m n h g o) w)
+      by (inr p) (inl w) = who_working n g i x (works_other m n h g i x (o.same i (alive s sound holds P sections quiet_of m h i x is))
+          (exited_one m n h g o) w)
       by (inr p) (inr can) =
           let k = serving_one m n h g o x p.leaf p.there p.serves in
           let r = oldest_roots (view m).root m.world x m.world.requests p.taken p.found in
-          who_serving n i x k.0 (roots_in (view m).root m.world x p.taken.1) k.1 k.2
+          who_serving n g i x k.0 (roots_in (view m).root m.world x p.taken.1) k.1 k.2
           (sym (o.order x can) ∙ (r.0 ∙ ap (λ n. n ∷ roots_in (view m).root m.world x p.taken.1) p.root))

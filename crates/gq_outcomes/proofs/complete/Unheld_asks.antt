@@ -30,6 +30,7 @@ use Rattle.gq_outcomes.proofs.complete.Asked_uses.{IsFound, found_behind, object
 use Rattle.gq_outcomes.proofs.complete.Calm_turns.{not_named}
 use Rattle.gq_outcomes.proofs.complete.Opened_sections.{AreBy, Begun, IsBy}
 use Rattle.gq_outcomes.proofs.complete.Sections_below.{shared_below}
+use Rattle.gq_outcomes.proofs.complete.Unsubmitted_signals.{active_at, goes_on}
 
 module _ (s : Scenario) (sound : IsSound s) (holds : ℕ → Bool) (P : ℕ → Component → Bool → Instruction → Type 0)
     (sections : AreSections P (uncounted (system s))) (quiet_of : (w : World) → Lefts P (uncounted (system s)) w → AreQuiet holds w)
@@ -109,6 +110,6 @@ module _ (s : Scenario) (sound : IsSound s) (holds : ℕ → Bool) (P : ℕ → 
       by : IsWorking (view m) i x ⊎ IsServing (view m) i x → asked_of (end s sound holds P sections quiet_of m h i x is) i z ≡ []
       by (inr p) = (ordered s sound holds P sections quiet_of m h i x is).quiet_then p z
       by (inl w) =
-          let q = begun w.at.leaf w.at.there w.at.is_active in
+          let q = begun w.at.leaf w.at.there (active_at w.at.leaf.phase (goes_on (view m) h.held.calm i x w)) in
           not_named s sound holds P sections quiet_of m h i x is z
           (λ named. true≢false (sym can ∙ next_off w.at.leaf w.at.there q.0 q.1 z named))

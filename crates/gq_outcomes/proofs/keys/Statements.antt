@@ -1,5 +1,5 @@
 -- Keys of statements and of what a leaf has left to do.
-use Rattle.std.proofs.Common.{◌≡◌, ℕ, ◌+◌, ◌<◌, List, [], ◌∷◌, ◌++◌, drop, refl, ap, sym, ◌∙◌, append_assoc, arith}
+use Rattle.std.proofs.Common.{◌≡◌, ℕ, ◌<◌, List, [], ◌∷◌, ◌++◌, drop, refl, ap, sym, ◌∙◌, append_assoc, arith}
 use Rattle.gq_model.specs.machine.Program.{Statements, Done, Do, If, Loop}
 use Rattle.gq_model.specs.machine.World.{Round}
 use Rattle.gq_outcomes.specs.internal.Keys.{instruction_key, left_key, loops_key, number_key, statements_key}

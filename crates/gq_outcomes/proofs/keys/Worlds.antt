@@ -1,13 +1,14 @@
 -- Keys of slots, sessions, requests, leaves and worlds.
-use Rattle.std.proofs.Common.{◌≡◌, ℕ, ◌+◌, Bool, true, false, List, ◌∷◌, ◌++◌, drop, Option, refl, ap, arith}
+use Rattle.std.proofs.Common.{◌≡◌, ℕ, Bool, true, false, List, ◌∷◌, ◌++◌, drop, Option, refl, ap, arith}
 use Rattle.gq_model.specs.declared.phase.Phase.{Phase}
 use Rattle.gq_model.specs.declared.program.Form.{Form}
 use Rattle.gq_model.specs.declared.section.Section.{Section}
 use Rattle.gq_model.specs.machine.Program.{Statements}
 use Rattle.gq_model.specs.machine.World.{Slot, Empty, Bytes, Pool, Link, Waiting, SlotId, In_leaf, In_session, In_object, Session, Ask, Ask_open, Ask_upgrade}
-use Rattle.gq_model.specs.machine.World.{Ask_close, Ask_call, Request, Current, Round, Leaf, World}
+use Rattle.gq_model.specs.machine.World.{Ask_close, Ask_call, Request, Current, Round, Signal, Leaf, World}
 use Rattle.gq_outcomes.specs.internal.Keys.{ask_key, bytes_key, current_key, flag, form_tag, leaf_key, left_key, list_key, number_key, option_key, phase_tag}
-use Rattle.gq_outcomes.specs.internal.Keys.{request_key, section_key, session_key, slot_id_key, slot_key, slots_key, text_key, world_key}
+use Rattle.gq_outcomes.specs.internal.Keys.{request_key, section_key, session_key, signal_key, signals_key, slot_id_key, slot_key, slots_key, text_key}
+use Rattle.gq_outcomes.specs.internal.Keys.{world_key}
 use Rattle.gq_outcomes.proofs.keys.Numbers.{IsFree, both_free, bytes_free, list_free, number_free, option_free, text_free, via_free}
 use Rattle.gq_outcomes.proofs.keys.Parts.{form_same, phase_same, section_free, tagged}
 use Rattle.gq_outcomes.proofs.keys.Statements.{left_free}
@@ -122,37 +123,58 @@ left_of p = left_key p.0 p.1
 left_pair_free : IsFree left_of
 left_pair_free p q r s e = let h = left_free p.0 q.0 p.1 q.1 r s e in ((λ k. (h.0 k, h.1 k)), h.2)
 
+abbrev SignalParts : Type 0
+SignalParts = Bool × ℕ
+
+pub signal_free : IsFree signal_key
+signal_free =
+    via_free (λ (s : Signal). (s.submitted, s.taken)) (λ (p : SignalParts). record { submitted = p.0; taken = p.1 }) (λ s. refl)
+    (λ (p : SignalParts). flag p.0 ∷ number_key p.1) (tagged flag flag_same number_key number_free)
+
+abbrev Reacts : Type 0
+Reacts = Option ℕ × List Signal
+
+abbrev signals_of : Reacts → List ℕ
+signals_of p = signals_key p.0 p.1
+
+signals_free : IsFree signals_of
+signals_free = both_free (option_key number_key) (list_key signal_key) (option_free number_key number_free) (list_free signal_key signal_free)
+
 abbrev LeafParts : Type 0
-LeafParts = Phase × (Option Current × ((Statements × List Round) × (List ℕ × (List ℕ × (List ℕ × (ℕ × (List ℕ × List Slot)))))))
+LeafParts = Phase × (Option Current × ((Statements × List Round) × (List ℕ × (List ℕ × (List ℕ × (ℕ × (List ℕ × (Reacts × List Slot))))))))
 
 abbrev parts_of_leaf : Leaf → LeafParts
 parts_of_leaf l =
-    (l.phase, (l.current, ((l.todo, l.loops), (l.operands, (l.locals, (l.peaks, (l.steps, (l.inputs, l.slots))))))))
+    (l.phase, (l.current, ((l.todo, l.loops), (l.operands, (l.locals, (l.peaks, (l.steps, (l.inputs, ((l.reacting, l.signals), l.slots)))))))))
 
 abbrev leaf_with : LeafParts → Leaf
 leaf_with p =
     record {
       phase = p.0;
       current = p.1.0;
+      reacting = p.1.1.1.1.1.1.1.1.0.0;
       todo = p.1.1.0.0;
       loops = p.1.1.0.1;
       operands = p.1.1.1.0;
       locals = p.1.1.1.1.0;
-      slots = p.1.1.1.1.1.1.1.1;
+      slots = p.1.1.1.1.1.1.1.1.1;
       peaks = p.1.1.1.1.1.0;
       steps = p.1.1.1.1.1.1.0;
       inputs = p.1.1.1.1.1.1.1.0;
+      signals = p.1.1.1.1.1.1.1.1.0.1;
     }
 
 abbrev LeafRest : Type 0
-LeafRest = Option Current × ((Statements × List Round) × (List ℕ × (List ℕ × (List ℕ × (ℕ × (List ℕ × List Slot))))))
+LeafRest = Option Current × ((Statements × List Round) × (List ℕ × (List ℕ × (List ℕ × (ℕ × (List ℕ × (Reacts × List Slot)))))))
 
 abbrev rest_key : LeafRest → List ℕ
 rest_key x =
     option_key current_key x.0
     ++ (left_of x.1.0
-    ++ (text_key x.1.1.0 ++ (text_key x.1.1.1.0 ++ (text_key x.1.1.1.1.0 ++ (number_key x.1.1.1.1.1.0 ++ (text_key x.1.1.1.1.1.1.0 ++ slots_key
-    x.1.1.1.1.1.1.1))))))
+    ++ (text_key x.1.1.0
+    ++ (text_key x.1.1.1.0
+    ++ (text_key x.1.1.1.1.0
+    ++ (number_key x.1.1.1.1.1.0 ++ (text_key x.1.1.1.1.1.1.0 ++ (signals_of x.1.1.1.1.1.1.1.0 ++ slots_key x.1.1.1.1.1.1.1.1)))))))
 
 rest_free : IsFree rest_key
 rest_free =
@@ -162,7 +184,8 @@ rest_free =
     (both_free text_key _ text_free
     (both_free text_key _ text_free
     (both_free number_key _ number_free
-    (both_free text_key slots_key text_free slots_free))))))
+    (both_free text_key _ text_free
+    (both_free signals_of slots_key signals_free slots_free)))))))
 
 pub leaf_free : IsFree leaf_key
 leaf_free =

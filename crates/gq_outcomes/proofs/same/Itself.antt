@@ -26,11 +26,11 @@ use Rattle.gq_model.specs.machine.Amounts.{Amount, same_amount}
 use Rattle.gq_model.specs.machine.Program.{Statements, Done, Do, If, Loop, text_eq}
 use Rattle.gq_model.specs.machine.Sections.{same_section}
 use Rattle.gq_model.specs.machine.World.{Slot, Empty, Bytes, Pool, Link, Waiting, SlotId, In_leaf, In_session, In_object, Ask, Ask_open, Ask_upgrade}
-use Rattle.gq_model.specs.machine.World.{Ask_close, Ask_call, Current, Leaf, Request, Round, Session, World}
+use Rattle.gq_model.specs.machine.World.{Ask_close, Ask_call, Current, Leaf, Request, Round, Session, Signal, World}
 use Rattle.gq_outcomes.specs.Outcomes.{Kept, same_kept}
 use Rattle.gq_outcomes.specs.Same.{same_all, same_ask, same_bare, same_bool, same_current, same_form, same_instruction, same_leaf, same_on_operands}
 use Rattle.gq_outcomes.specs.Same.{same_operator, same_option, same_phase, same_operand_slot, same_request, same_round, same_session, same_slot, same_slot_id}
-use Rattle.gq_outcomes.specs.Same.{same_statements, same_width, same_with_number, same_world}
+use Rattle.gq_outcomes.specs.Same.{same_signal, same_statements, same_width, same_with_number, same_world}
 
 both : (a b : Bool) → a ≡ true → b ≡ true → (a && b) ≡ true
 both true b p q = q
@@ -203,6 +203,9 @@ session_itself s =
     let h8 = both (t1 && t2 && t3 && t4 && t5 && t6 && t7) t8 h7 (slot_itself s.object) in
     both (t1 && t2 && t3 && t4 && t5 && t6 && t7 && t8) t9 h8 (all_itself same_slot slot_itself s.slots)
 
+signal_itself : (s : Signal) → same_signal s s ≡ true
+signal_itself s = both (same_bool s.submitted s.submitted) (s.taken == s.taken) (bool_itself s.submitted) (number_itself s.taken)
+
 leaf_itself : (a : Leaf) → same_leaf a a ≡ true
 leaf_itself a =
     let t1 = same_phase a.phase a.phase in
@@ -215,6 +218,7 @@ leaf_itself a =
     let t8 = text_eq a.peaks a.peaks in
     let t9 = a.steps == a.steps in
     let t10 = text_eq a.inputs a.inputs in
+    let t11 = same_option (λ i j. i == j) a.reacting a.reacting in
     let h2 = both t1 t2 (phase_itself a.phase) (option_itself same_current current_itself a.current) in
     let h3 = both (t1 && t2) t3 h2 (statements_itself a.todo) in
     let h4 = both (t1 && t2 && t3) t4 h3 (all_itself same_round round_itself a.loops) in
@@ -223,7 +227,10 @@ leaf_itself a =
     let h7 = both (t1 && t2 && t3 && t4 && t5 && t6) t7 h6 (all_itself same_slot slot_itself a.slots) in
     let h8 = both (t1 && t2 && t3 && t4 && t5 && t6 && t7) t8 h7 (text_itself a.peaks) in
     let h9 = both (t1 && t2 && t3 && t4 && t5 && t6 && t7 && t8) t9 h8 (number_itself a.steps) in
-    both (t1 && t2 && t3 && t4 && t5 && t6 && t7 && t8 && t9) t10 h9 (text_itself a.inputs)
+    let h10 = both (t1 && t2 && t3 && t4 && t5 && t6 && t7 && t8 && t9) t10 h9 (text_itself a.inputs) in
+    let h11 = both (t1 && t2 && t3 && t4 && t5 && t6 && t7 && t8 && t9 && t10) t11 h10 (option_itself (λ i j. i == j) number_itself a.reacting) in
+    both (t1 && t2 && t3 && t4 && t5 && t6 && t7 && t8 && t9 && t10 && t11) (same_all same_signal a.signals a.signals) h11
+    (all_itself same_signal signal_itself a.signals)
 
 world_itself : (w : World) → same_world w w ≡ true
 world_itself w =

@@ -3,10 +3,10 @@ use Rattle.std.proofs.Common.{◌≡◌, ◌==◌, true, ◌&&◌}
 use Rattle.gq_model.specs.machine.Amounts.{Amount, same_amount}
 use Rattle.gq_model.specs.machine.Program.{text_eq}
 use Rattle.gq_model.specs.machine.Sections.{same_section}
-use Rattle.gq_model.specs.machine.World.{Current, Leaf, Request, Round, Session, World}
+use Rattle.gq_model.specs.machine.World.{Current, Leaf, Request, Round, Session, Signal, World}
 use Rattle.gq_outcomes.specs.Outcomes.{Kept, same_kept}
 use Rattle.gq_outcomes.specs.Same.{same_all, same_ask, same_bool, same_current, same_leaf, same_option, same_phase, same_request, same_round, same_session}
-use Rattle.gq_outcomes.specs.Same.{same_slot, same_slot_id, same_statements, same_world}
+use Rattle.gq_outcomes.specs.Same.{same_signal, same_slot, same_slot_id, same_statements, same_world}
 use Rattle.gq_outcomes.proofs.same.Tests.{lists_are_equal, ask_is_equal, bool_is_equal, first_holds, number_is_equal, option_is_equal, phase_is_equal}
 use Rattle.gq_outcomes.proofs.same.Tests.{second_holds, section_is_equal}
 use Rattle.gq_outcomes.proofs.same.Tests.{slot_is_equal, slot_id_is_equal, statements_are_equal, text_is_equal}
@@ -79,6 +79,14 @@ session_is_equal a b e =
       slots = e9 k;
     }
 
+signal_is_equal : (a b : Signal) → same_signal a b ≡ true → a ≡ b
+signal_is_equal a b e =
+    let t1 = same_bool a.submitted b.submitted in
+    let t2 = a.taken == b.taken in
+    let e1 = bool_is_equal a.submitted b.submitted (first_holds t1 t2 e) in
+    let e2 = number_is_equal a.taken b.taken (second_holds t1 t2 e) in
+    λ k. record { submitted = e1 k; taken = e2 k }
+
 pub leaf_is_equal : (a b : Leaf) → same_leaf a b ≡ true → a ≡ b
 leaf_is_equal a b e =
     let t1 = same_phase a.phase b.phase in
@@ -91,7 +99,11 @@ leaf_is_equal a b e =
     let t8 = text_eq a.peaks b.peaks in
     let t9 = a.steps == b.steps in
     let t10 = text_eq a.inputs b.inputs in
-    let h9 = first_holds (t1 && t2 && t3 && t4 && t5 && t6 && t7 && t8 && t9) t10 e in
+    let t11 = same_option (λ i j. i == j) a.reacting b.reacting in
+    let t12 = same_all same_signal a.signals b.signals in
+    let h11 = first_holds (t1 && t2 && t3 && t4 && t5 && t6 && t7 && t8 && t9 && t10 && t11) t12 e in
+    let h10 = first_holds (t1 && t2 && t3 && t4 && t5 && t6 && t7 && t8 && t9 && t10) t11 h11 in
+    let h9 = first_holds (t1 && t2 && t3 && t4 && t5 && t6 && t7 && t8 && t9) t10 h10 in
     let h8 = first_holds (t1 && t2 && t3 && t4 && t5 && t6 && t7 && t8) t9 h9 in
     let h7 = first_holds (t1 && t2 && t3 && t4 && t5 && t6 && t7) t8 h8 in
     let h6 = first_holds (t1 && t2 && t3 && t4 && t5 && t6) t7 h7 in
@@ -108,7 +120,11 @@ leaf_is_equal a b e =
     let e7 = lists_are_equal same_slot slot_is_equal a.slots b.slots (second_holds (t1 && t2 && t3 && t4 && t5 && t6) t7 h7) in
     let e8 = text_is_equal a.peaks b.peaks (second_holds (t1 && t2 && t3 && t4 && t5 && t6 && t7) t8 h8) in
     let e9 = number_is_equal a.steps b.steps (second_holds (t1 && t2 && t3 && t4 && t5 && t6 && t7 && t8) t9 h9) in
-    let e10 = text_is_equal a.inputs b.inputs (second_holds (t1 && t2 && t3 && t4 && t5 && t6 && t7 && t8 && t9) t10 e) in
+    let e10 = text_is_equal a.inputs b.inputs (second_holds (t1 && t2 && t3 && t4 && t5 && t6 && t7 && t8 && t9) t10 h10) in
+    let e11 = option_is_equal (λ i j. i == j) number_is_equal a.reacting b.reacting
+    (second_holds (t1 && t2 && t3 && t4 && t5 && t6 && t7 && t8 && t9 && t10) t11 h11) in
+    let e12 = lists_are_equal same_signal signal_is_equal a.signals b.signals
+    (second_holds (t1 && t2 && t3 && t4 && t5 && t6 && t7 && t8 && t9 && t10 && t11) t12 e) in
     λ k. record {
       phase = e1 k;
       current = e2 k;
@@ -120,6 +136,8 @@ leaf_is_equal a b e =
       peaks = e8 k;
       steps = e9 k;
       inputs = e10 k;
+      reacting = e11 k;
+      signals = e12 k;
     }
 
 pub world_is_equal : (w v : World) → same_world w v ≡ true → w ≡ v

@@ -7,6 +7,7 @@ use Rattle.gq_model.specs.machine.Accounts.{account_lines, accounts}
 use Rattle.gq_model.specs.machine.Run.{Acts, run}
 use Rattle.gq_model.specs.machine.Scenario.{Component, Scenario, System, components, system}
 use Rattle.gq_model.specs.machine.World.{World}
+use Rattle.gq_model.specs.machine.Step_budgets.{all_steps_in}
 use Rattle.gq_model.specs.rules.Accept.{budgets, step_budgets}
 use Rattle.gq_model.proofs.Small_facts.{none_some}
 use Rattle.gq_laws.specs.Group_alone.{own_lines}
@@ -14,7 +15,7 @@ use Rattle.gq_laws.specs.Progress.{AllRest}
 use Rattle.gq_laws.specs.Shapes.{Each}
 use Rattle.gq_laws.specs.Reached_worlds.{IsReached}
 use Rattle.gq_laws.specs.Sound_scenarios.{IsSound}
-use Rattle.gq_laws.specs.Turn_effects.{can_run, runs_as}
+use Rattle.gq_model.specs.machine.Rest.{can_run, runs_as}
 use Rattle.gq_laws.proofs.progress.No_deadlock.{rest_or_run}
 use Rattle.gq_laws.proofs.progress.Lasting_world_invariant.{reached_lasts}
 use Rattle.gq_outcomes.specs.Choices.{asks_racy, can_settle, choices, choices_from, is_at_choice, is_settled, some_settle}
@@ -149,6 +150,9 @@ module _ (s : Scenario) where
       by false = last_too found o all one
 
   module _ (sound : IsSound s) where
+    abbrev steps : World → List ℕ
+    steps w = all_steps_in w (step_budgets (budgets s))
+
     outcome_is : (p : Point) → Reaches s p → is_settled real e.racy p.world ≡ true → choices real e.racy p.world ≡ [] → IsOutcome s (outcome_of e p)
     outcome_is p h calm none =
         let reached : IsReached s p.world = record { turns = acts_of p.past; is = h.world } in
@@ -159,10 +163,10 @@ module _ (s : Scenario) where
         record {
           right = h.right;
           rests = subst AllRest (sym h.world) rests;
-          ends = ap (λ l. l ++ account_lines s.version (accounts s (run real (acts_of p.past)).world (step_budgets (budgets s))))
+          ends = ap (λ l. l ++ account_lines s.version (accounts s (run real (acts_of p.past)).world (steps (run real (acts_of p.past)).world)))
               (quiet_is (acts_of p.past) 0 (components s) p.said h.count (λ k c there. let at : 0 + k ≡ k = omega arith in
               ap (λ n. if_none c.node.provides (own_lines real (λ z. z == n) (acts_of p.past))) at ∙ h.lines k c there))
-              ∙ ap (λ w. lines_of p.said ++ account_lines s.version (accounts s w (step_budgets (budgets s)))) h.world;
+              ∙ ap (λ w. lines_of p.said ++ account_lines s.version (accounts s w (steps w))) h.world;
         }
 
     module _ (go : Point → Search → Search) (keeps : (q : Point) (t : Search) → Reaches s q → Good t → Good (go q t)) where

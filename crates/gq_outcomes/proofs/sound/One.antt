@@ -3,16 +3,13 @@ use Rattle.std.proofs.Common.{◌≡◌, ℕ, zero, suc, ◌+◌, Bool, true, fa
 use Rattle.std.proofs.Common.{Option, Some, None, refl, ap, sym, ◌∙◌, arith}
 use Rattle.std.specs.Prelude.{slice_get, get_or}
 use Rattle.std.proofs.lemmas.Bool.{true≢false}
-use Rattle.gq_model.specs.declared.program.Instruction.{Instruction}
-use Rattle.gq_model.specs.declared.section.Section.{Section}
-use Rattle.gq_model.specs.machine.Program.{Statements, Done, Do, If, Loop, size}
 use Rattle.gq_model.specs.machine.Scenario.{Component, Scenario, System, system}
 use Rattle.gq_model.specs.machine.World.{World}
 use Rattle.gq_model.specs.rules.Use.{reaches}
-use Rattle.gq_laws.specs.Turn_effects.{can_run}
-use Rattle.gq_races.specs.Races.{IsRaceFree, changes_own, each_stated, for_several, found_in, is_race, is_shared, reads_input, stated_from}
-use Rattle.gq_races.specs.Races.{stated_in, stated_of}
-use Rattle.gq_outcomes.specs.Choices.{are_some, asks_next, choices, choices_from, has_race, is_at_choice, is_one_of, is_own_race, is_racy}
+use Rattle.gq_model.specs.machine.Rest.{can_run}
+use Rattle.gq_races.specs.Races.{IsRaceFree, is_race, is_shared, stated_from}
+use Rattle.gq_races.specs.Races.{stated_of}
+use Rattle.gq_outcomes.specs.Choices.{are_some, asks_next, choices, choices_from, has_race, is_at_choice, is_one_of, is_racy}
 use Rattle.gq_outcomes.specs.Choices.{is_settled, leads_to_race, races_at, racy_from, racy_servers}
 use Rattle.gq_outcomes.specs.Laws.{IsOne}
 use Rattle.gq_outcomes.specs.Outcomes.{Explored, Going, Outcome, Point, Search, branch, enter, explored, first_point, kept, most_turns}
@@ -27,63 +24,6 @@ prefix_none (x ∷ xs) ys e = absurd (cc e)
 back_none : {A : Type 0} (xs ys : List A) → xs ++ ys ≡ [] → ys ≡ []
 back_none [] ys e = e
 back_none (x ∷ xs) ys e = absurd (cc e)
-
-both_none : {A : Type 0} (xs ys : List A) → xs ≡ [] → ys ≡ [] → xs ++ ys ≡ []
-both_none xs ys e f = ap (λ l. l ++ ys) e ∙ f
-
--- what is none of a kind is none of a narrower one
-module _ (p q : Instruction → Bool) (narrow : (i : Instruction) → p i ≡ false → q i ≡ false) where
-  one_none : (i : Instruction) (c : ℕ × Instruction) (b : Bool) → p i ≡ b → cond b (c ∷ []) [] ≡ [] → cond (q i) (c ∷ []) [] ≡ []
-  one_none i c true e f = absurd (cc f)
-  one_none i c false e f = ap (λ b. cond b (c ∷ []) []) (narrow i e)
-
-  found_none : (n : ℕ) (t : Statements) → found_in p n t ≡ [] → found_in q n t ≡ []
-  found_none n Done e = refl
-  found_none n (Do i rest) e =
-      let c : ℕ × Instruction = (n, i) in
-      both_none (cond (q i) (c ∷ []) []) (found_in q (suc n) rest)
-      (one_none i c (p i) refl (prefix_none (cond (p i) (c ∷ []) []) (found_in p (suc n) rest) e))
-      (found_none (suc n) rest (back_none (cond (p i) (c ∷ []) []) (found_in p (suc n) rest) e))
-  found_none n (If arm other rest) e =
-      let m = suc n + size arm in
-      let o = m + size other in
-      let xs = found_in p (suc n) arm in
-      let ys = found_in p m other in
-      let zs = found_in p o rest in
-      let first : xs ++ ys ≡ [] = prefix_none (xs ++ ys) zs e in
-      let last : zs ≡ [] = back_none (xs ++ ys) zs e in
-      both_none (found_in q (suc n) arm ++ found_in q m other) (found_in q o rest)
-      (both_none (found_in q (suc n) arm) (found_in q m other) (found_none (suc n) arm (prefix_none xs ys first)) (found_none m other (back_none xs ys first)))
-      (found_none o rest last)
-  found_none n (Loop count body rest) e =
-      let m = suc n + size body in
-      both_none (found_in q (suc n) body) (found_in q m rest) (found_none (suc n) body (prefix_none (found_in p (suc n) body) (found_in p m rest) e))
-      (found_none m rest (back_none (found_in p (suc n) body) (found_in p m rest) e))
-
-none_stated : (leaf : List ℕ) (section : Section) (found : List (ℕ × Instruction)) → each_stated leaf section found ≡ [] → found ≡ []
-none_stated leaf section [] e = refl
-none_stated leaf section (c ∷ rest) e = absurd (cc e)
-
-stated_none : (p q : Section → Instruction → Bool) → ((s : Section) (i : Instruction) → p s i ≡ false → q s i ≡ false) → (leaf : List ℕ)
-    (sections : List (Section × Statements)) → stated_in p leaf sections ≡ [] → stated_in q leaf sections ≡ []
-stated_none p q narrow leaf [] e = refl
-stated_none p q narrow leaf (t ∷ rest) e =
-    let xs = each_stated leaf t.0 (found_in (p t.0) 1 t.1) in
-    let ys = stated_in p leaf rest in
-    let found = found_none (p t.0) (q t.0) (narrow t.0) 1 t.1 (none_stated leaf t.0 (found_in (p t.0) 1 t.1) (prefix_none xs ys e)) in
-    both_none (each_stated leaf t.0 (found_in (q t.0) 1 t.1)) (stated_in q leaf rest) (ap (each_stated leaf t.0) found)
-    (stated_none p q narrow leaf rest (back_none xs ys e))
-
-own_none : (a b c : Bool) → (a && b || c) ≡ false → (a && b) ≡ false
-own_none true true c e = absurd cc
-own_none true false c e = refl
-own_none false b c e = refl
-
--- a leaf without a race has none of its own slots
-leaf_none : (shared : Bool) (c : Component) → stated_of is_race shared c ≡ [] → stated_of is_own_race shared c ≡ []
-leaf_none shared c e =
-    stated_none (λ section. is_race (for_several shared section)) (λ section. is_own_race (for_several shared section))
-    (λ section i h. own_none (for_several shared section) (changes_own i) (reads_input i) h) c.label c.node.program.sections e
 
 -- SERVERS
 
@@ -110,7 +50,7 @@ module _ (u : System) where
         by (Some c) e =
             let at : 0 + x ≡ x = omega arith in
             let none = leaves_none 0 x u.components c free e in
-            ap are_some (leaf_none (is_shared u x) c (ap (λ n. stated_of is_race (is_shared u n) c) (sym at) ∙ none))
+            ap are_some (ap (λ n. stated_of is_race (is_shared u n) c) (sym at) ∙ none)
 
     none_led : (x y : ℕ) (cs : List Component) → leads_to_race u x y cs ≡ false
     none_led x y [] = refl

@@ -7,11 +7,12 @@ use Rattle.std.proofs.lemmas.Bool.Decides.{eqb_tells}
 use Rattle.std.proofs.lemmas.List.{append_assoc, append-nil, length-set}
 use Rattle.std.proofs.lemmas.Option.{slice_get_within}
 use Rattle.gq_model.specs.declared.act.Act.{Act}
-use Rattle.gq_model.specs.declared.act.Act.TheVariants.{Turns, Sets}
+use Rattle.gq_model.specs.declared.act.Act.TheVariants.{Turns, Sets, Submits}
 use Rattle.gq_model.specs.declared.fault.Wrong.{Wrong}
 use Rattle.gq_model.specs.machine.Doing.{Event, Stepped}
 use Rattle.gq_model.specs.machine.Run as model
-use Rattle.gq_model.specs.machine.Run.{Acts, Ran, act_on, label_at, line_of, run, run_on, set_from, set_input, turn_from, turns_of}
+use Rattle.gq_model.specs.machine.Run.{Acts, Ran, act_on, label_at, line_of, run, run_on, set_from, set_input, submit, submit_from}
+use Rattle.gq_model.specs.machine.Run.{turn_from, turns_of}
 use Rattle.gq_model.specs.machine.Scenario.{Component, Scenario, System, components, system}
 use Rattle.gq_model.specs.machine.Step.{next}
 use Rattle.gq_model.specs.machine.World.{World, start}
@@ -76,10 +77,17 @@ module _ (s : System) where
   alike_set x i n ran other h None e = record { world = ap (λ w. set_input s w x i n) h.world; wrong = h.wrong }
   alike_set x i n ran other h (Some p) e = h
 
+  alike_submit : (x i : ℕ) (ran other : Ran) → Alike ran other → (o : Option (ℕ × Wrong)) → ran.wrong ≡ o
+      → Alike (submit_from x i ran o) (submit_from x i other o)
+  alike_submit x i ran other h None e = record { world = ap (λ w. submit w x i) h.world; wrong = h.wrong }
+  alike_submit x i ran other h (Some p) e = h
+
   alike_act : (x : ℕ) (act : Act) (ran other : Ran) → Alike ran other → Alike (act_on s x act ran) (act_on s x act other)
   alike_act x (Turns n) ran other h = alike_turns x n ran other h
   alike_act x (Sets i n) ran other h =
       subst (λ o. Alike (set_from s x i n ran ran.wrong) (set_from s x i n other o)) h.wrong (alike_set x i n ran other h ran.wrong refl)
+  alike_act x (Submits i) ran other h =
+      subst (λ o. Alike (submit_from x i ran ran.wrong) (submit_from x i other o)) h.wrong (alike_submit x i ran other h ran.wrong refl)
 
   pub alike_all : (acts : Acts) (ran other : Ran) → Alike ran other → Alike (run_on s acts ran) (quiet_on s acts other)
   alike_all [] ran other h = h

@@ -40,4 +40,4 @@ pub record AreChoices (s : Scenario) (c : Choices) : Type 0 where
 pub record IsNext (s : Scenario) (c : Component) (l : Leaf) (a : Asks) : Type 0 where
   pub core : Core
   pub stands : StandsAt c l core
-  pub is : a ≡ asks_of (server_of (system s) c) (ahead_in (body_of (section_in (section_of l.current) c.node.program.sections)) core.position)
+  pub is : a ≡ asks_of (server_of (system s) c) (ahead_in (body_of (section_in (section_of l.current l.reacting) c.node.program.sections)) core.position)

@@ -14,8 +14,8 @@ use Rattle.gq_machine.specs.Machine_world.{no_leaf}
 use Rattle.gq_machine.specs.Machines.{Machine}
 use Rattle.gq_machine.specs.declared.world_reads.SessionState.{SessionState}
 use Rattle.gq_outcomes.specs.Same.{place_of}
-use Rattle.gq_outcomes.specs.internal.Keys.{current_key, flag, left_key, leaf_key, number_key, option_key, phase_tag, request_key, session_key, slot_id_key}
-use Rattle.gq_outcomes.specs.internal.Keys.{slot_key, text_key}
+use Rattle.gq_outcomes.specs.internal.Keys.{current_key, flag, left_key, leaf_key, number_key, option_key, phase_tag, request_key, session_key}
+use Rattle.gq_outcomes.specs.internal.Keys.{signals_key, slot_id_key, slot_key, text_key}
 
 -- the place of a session in an order
 abbrev pub place_in : List ℕ → ℕ → ℕ
@@ -67,7 +67,9 @@ leaf_head_key leaf =
     phase_tag leaf.phase
     ∷ (option_key current_key leaf.current
     ++ (left_key leaf.todo leaf.loops
-    ++ (text_key leaf.operands ++ (text_key leaf.locals ++ (text_key leaf.peaks ++ (number_key leaf.steps ++ text_key leaf.inputs))))))
+    ++ (text_key leaf.operands
+    ++ (text_key leaf.locals
+    ++ (text_key leaf.peaks ++ (number_key leaf.steps ++ (text_key leaf.inputs ++ signals_key leaf.reacting leaf.signals)))))))
 
 -- a leaf in which sessions go by their places in an order
 abbrev pub kept_head_key : List ℕ → Leaf → List ℕ

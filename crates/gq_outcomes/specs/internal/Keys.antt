@@ -23,7 +23,7 @@ use Rattle.gq_model.specs.declared.section.Section.{Section}
 use Rattle.gq_model.specs.declared.section.Section.TheVariants.{Main, Opening, Upgrading, Calling, Closing, Reacting}
 use Rattle.gq_model.specs.machine.Program.{Statements, Done, Do, If, Loop}
 use Rattle.gq_model.specs.machine.World.{Slot, Empty, Bytes, Pool, Link, Waiting, SlotId, In_leaf, In_session, In_object, Session, Ask, Ask_open, Ask_upgrade}
-use Rattle.gq_model.specs.machine.World.{Ask_close, Ask_call, Request, Current, Round, Leaf, World}
+use Rattle.gq_model.specs.machine.World.{Ask_close, Ask_call, Request, Current, Round, Signal, Leaf, World}
 
 -- NUMBERS AND LISTS
 
@@ -192,6 +192,13 @@ phase_tag Serving = 3
 phase_tag Handling = 4
 phase_tag Exited = 5
 
+abbrev pub signal_key : Signal → List ℕ
+signal_key s = flag s.submitted ∷ number_key s.taken
+
+-- the signal that a leaf reacts to, and its signals
+abbrev pub signals_key : Option ℕ → List Signal → List ℕ
+signals_key reacting signals = option_key number_key reacting ++ list_key signal_key signals
+
 abbrev pub leaf_key : Leaf → List ℕ
 leaf_key leaf =
     phase_tag leaf.phase
@@ -199,7 +206,7 @@ leaf_key leaf =
     ++ (left_key leaf.todo leaf.loops
     ++ (text_key leaf.operands
     ++ (text_key leaf.locals
-    ++ (text_key leaf.peaks ++ (number_key leaf.steps ++ (text_key leaf.inputs ++ slots_key leaf.slots)))))))
+    ++ (text_key leaf.peaks ++ (number_key leaf.steps ++ (text_key leaf.inputs ++ (signals_key leaf.reacting leaf.signals ++ slots_key leaf.slots))))))))
 
 abbrev pub world_key : World → List ℕ
 world_key w = list_key leaf_key w.leaves ++ (list_key (option_key session_key) w.sessions ++ list_key request_key w.requests)

@@ -5,7 +5,7 @@ use Rattle.gq_model.specs.machine.Lists.{any_of}
 use Rattle.gq_model.specs.machine.Program.{Statements, Done, Do, If, Loop}
 use Rattle.gq_model.specs.machine.Routes.{leaf_routed, route}
 use Rattle.gq_model.specs.machine.Scenario.{Component}
-use Rattle.gq_model.specs.machine.Sections.{is_own_section}
+use Rattle.gq_model.specs.machine.Sections.{is_start_section}
 use Rattle.gq_model.specs.rules.Use.{services_in}
 use Rattle.gq_races.specs.Races.{changes_own}
 
@@ -19,7 +19,7 @@ changes_in (Loop n body rest) = changes_in body || changes_in rest
 -- one of a section other than `main` does
 abbrev pub changes_later : List (Section × Statements) → Bool
 changes_later [] = false
-changes_later (p ∷ rest) = not (is_own_section p.0) && changes_in p.1 || changes_later rest
+changes_later (p ∷ rest) = not (is_start_section p.0) && changes_in p.1 || changes_later rest
 
 -- the leaf that is found is marked
 abbrev pub is_marked : List Bool → Option ℕ → Bool

@@ -1,5 +1,5 @@
 -- A run on the way, as the code keeps it.
-use Rattle.std.specs.Prelude.{◌≡◌, ◌<◌, ◌++◌, ℕ, zero, suc, All, List, [], ◌∷◌, map, get_or, length, slice_get, slice_set}
+use Rattle.std.specs.Prelude.{◌≡◌, ◌<◌, ◌++◌, ℕ, zero, suc, false, All, List, [], ◌∷◌, map, get_or, length, slice_get, slice_set}
 use Rattle.gq_model.specs.machine.Doing.{Event}
 use Rattle.gq_model.specs.machine.Scenario.{Scenario, System, components, system}
 use Rattle.gq_laws.specs.Ready.{IsReady}
@@ -28,6 +28,7 @@ pub record IsWalk (s : Scenario) (w : Walk) : Type 0 where
   pub choices : AreChoices s w.choices
   pub count : length w.said.items ≡ length (components s)
   pub turns : All (λ x. x < length (components s)) w.past.items
+  pub running : w.world.stopped ≡ false
 
 -- the world and the lines are those of this point
 pub record StandsAt (w : Walk) (p : Point) : Type 0 where

@@ -1,7 +1,6 @@
 -- What was noted of a world, and what is reported by that.
 use Rattle.std.specs.Prelude.{◌≡◌, if◌then◌else◌, ◌≤◌, ℕ, ◌<◌, List, [], Option, Some, None, get_or, length, map, option_map, slice_get, slice_set, true}
 use Rattle.std.specs.Prelude.{IfSome}
-use Rattle.gq_model.specs.machine.Accounts.{accounts}
 use Rattle.gq_model.specs.machine.Amounts.{Ram, Caps, counts_caps}
 use Rattle.gq_model.specs.machine.Scenario.{Scenario, components, system}
 use Rattle.gq_model.specs.machine.Sums.{held}
@@ -12,7 +11,7 @@ use Rattle.gq_prepared.specs.Prepared.{names_of}
 use Rattle.gq_world.specs.Account_lines.{all_accounts}
 use Rattle.gq_world.specs.World_between_turns as worlds
 use Rattle.gq_traces.specs.Trace as trace
-use Rattle.gq_traces.specs.Trace.{Standing, same_printed, session_line, printed_session, using_of, standing_of}
+use Rattle.gq_traces.specs.Trace.{Standing, accounts_in, same_printed, session_line, printed_session, using_of, standing_of}
 use Rattle.gq_traces.specs.declared.noted.PrintedState.{PrintedState}
 use Rattle.gq_traces.specs.declared.noted.Use.{Use}
 use Rattle.gq_traces.specs.declared.session_lines.PrintedSession.{PrintedSession}
@@ -58,7 +57,7 @@ IsBeyond n = (k : ℕ) → n.count ≤ k → get_or n.sessions.items k None ≡ 
 
 -- it is noted how each account stands, and what is reported of each session
 pub record AreNoted (s : Scenario) (w : World) (n : PrintedState) : Type 0 where
-  pub accounts : map standing_in n.accounts.items ≡ map standing_of (accounts s w (step_budgets (budgets s)))
+  pub accounts : map standing_in n.accounts.items ≡ map standing_of (accounts_in s w (step_budgets (budgets s)))
   pub sessions : (k : ℕ) → k < 16449 → IsReported s w k (get_or n.sessions.items k None)
   pub room : length n.sessions.items ≡ 16449
   pub count : n.count ≡ length w.sessions

@@ -1,7 +1,7 @@
 -- The peaks of leaves on the way through a run.
-use Rattle.std.specs.Prelude.{◌≡◌, ◌+◌, ℕ, zero, suc, nat_lt, if◌then◌else◌, List, [], ◌∷◌, None, Some, length, slice_get, true}
+use Rattle.std.specs.Prelude.{◌≡◌, ◌≤◌, ◌+◌, ℕ, zero, suc, nat_lt, if◌then◌else◌, List, [], ◌∷◌, None, Some, length, slice_get, true, false}
 use Rattle.gq_model.specs.declared.act.Act.{Act}
-use Rattle.gq_model.specs.declared.act.Act.TheVariants.{Turns, Sets}
+use Rattle.gq_model.specs.declared.act.Act.TheVariants.{Turns, Sets, Submits}
 use Rattle.gq_model.specs.machine.Amounts.{Resource, Ram, Caps, counts_caps}
 use Rattle.gq_model.specs.machine.Run.{Ran, Acts, act_on, turn_from}
 use Rattle.gq_model.specs.machine.Scenario.{Scenario, System, system}
@@ -66,6 +66,7 @@ HasTurns system x runs n now (suc m) =
 abbrev pub HasAct : System → ℕ → (ℕ → Ran) → ℕ → Ran → Act → Type 0
 HasAct system x runs n now (Turns m) = HasTurns system x runs n now m
 HasAct system x runs n now (Sets i v) = Unit {0}
+HasAct system x runs n now (Submits i) = Unit {0}
 
 -- behind its first n turns it has all of a list
 abbrev pub HasAll : System → Acts → (ℕ → Ran) → ℕ → Ran → Type 0
@@ -86,9 +87,11 @@ pub record Comes (s : Scenario) (runs : ℕ → Ran) (n m : ℕ) (now : Ran) (ne
   pub at : IsIn (system s) runs m now new
   pub peaks : AllPeaks s runs n olds → AllPeaks s runs m news
 
--- So it is of every run that has this behind its first n turns, and goes on so.
-pub record Peaked (has : (ℕ → Ran) → Ran → Type 0) (go : Ran → Ran) (n m : ℕ) (old new : World) (olds news : List LeafPeaks) : Type 0 where
+-- So it is of every run that has this behind its first n turns, and goes on so, with at most so many signals.
+pub record Peaked (most : ℕ) (has : (ℕ → Ran) → Ran → Type 0) (go : Ran → Ran) (n m : ℕ) (old new : World) (olds news : List LeafPeaks) : Type 0 where
   pub scenario : new.scenario ≡ old.scenario
+  pub running : new.stopped ≡ false
+  pub signals : new.signals ≤ old.signals + most
   pub long : length news ≡ length olds
   pub comes : (runs : ℕ → Ran) (now : Ran) → has runs now → IsIn (system old.scenario) runs n now old.world
       → Comes old.scenario runs n m (go now) new.world olds news

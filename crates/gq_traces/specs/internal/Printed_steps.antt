@@ -1,24 +1,28 @@
 -- What is written of steps: the first line of a step before the first of what follows, or at once where all steps are reported; and nothing more after a failed
 -- write.
-use Rattle.std.specs.Prelude.{◌≡◌, ℕ, ◌+◌, ◌++◌, Ok, Err, Bool, true, false, List, [], ◌∷◌, Option, Some, None, drop, slice_get, slice_set, codes, decimal, map}
-use Rattle.std.specs.Prelude.{MatchOption, get_or, length, max}
+use Rattle.std.specs.Prelude.{◌≡◌, ℕ, ◌+◌, ◌≤◌, ◌++◌, Ok, Err, Bool, true, false, List, [], ◌∷◌, Option, Some, None, drop, slice_get, slice_set}
+use Rattle.std.specs.Prelude.{codes, decimal, map}
+use Rattle.std.specs.Prelude.{MatchOption, get_or, length, max, option_map}
 use Rattle.std.specs.Io.KnownBytes.{Appends}
 use Rattle.gq_output.specs.Writer_failures.{failures_of, written_to}
 use Rattle.gq_output.specs.Account_values.{AccountValues}
 use Rattle.gq_output.specs.Writes.{IsPrefix, IsRaised}
 use Rattle.gq_output.specs.declared.counted.Counted.{Counted}
 use Rattle.gq_machine.specs.Events.{event_of}
+use Rattle.gq_machine.specs.Readers.{requested}
 use Rattle.gq_model.specs.declared.phase.Phase.{Phase}
 use Rattle.gq_model.specs.declared.phase.Phase.TheVariants.{Running, Handling}
 use Rattle.gq_model.specs.declared.section.Section.{Section}
+use Rattle.gq_model.specs.declared.section.Section.TheVariants.{Reacting}
 use Rattle.gq_model.specs.machine.Accounts.{Account}
 use Rattle.gq_model.specs.machine.Doing.{Event}
-use Rattle.gq_model.specs.machine.Step.{next}
+use Rattle.gq_model.specs.machine.Step.{first_signal, next, oldest}
 use Rattle.gq_model.specs.machine.Sections.{section_word}
 use Rattle.gq_model.specs.machine.Scenario.{Component, Scenario, components, system}
+use Rattle.gq_model.specs.machine.Rest.{can_run, while_can}
 use Rattle.gq_model.specs.machine.World as model
 use Rattle.gq_model.specs.rules.Accept.{budgets, step_budgets}
-use Rattle.gq_model.specs.texts.Turns.{Turned}
+use Rattle.gq_model.specs.texts.Turns.{Listed}
 use Rattle.gq_scenario.specs.Sizes.{leaf_places}
 use Rattle.gq_views.specs.Listing.{loop_text}
 use Rattle.gq_model.specs.machine.Run.{label_at}
@@ -27,8 +31,9 @@ use Rattle.gq_world.specs.Account_lines.{all_accounts}
 use Rattle.gq_world.specs.World_between_turns as worlds
 use Rattle.gq_reports.specs.declared.run_fault.RunFault.{RunFault}
 use Rattle.gq_reports.specs.declared.run_fault.RunFault.TheVariants as fault
-use Rattle.gq_traces.specs.Step_positions.{Ahead, StepPosition, ahead, body_in, next_place, past, place}
-use Rattle.gq_model.specs.machine.World.{section_of}
+use Rattle.gq_traces.specs.Step_positions.{Ahead, StepPosition, ahead, body_in, first_request, next_place, past, place}
+use Rattle.gq_model.specs.machine.World.{Signal, section_of}
+use Rattle.gq_model.specs.machine.Step_budgets.{StepBudget}
 use Rattle.gq_traces.specs.Traces_written.{prints_all}
 use Rattle.gq_traces.specs.Trace.{Due, Traced, account_change, account_changes, after_turns, changes, due_in, head_line, session_changes, standing_of}
 use Rattle.gq_traces.specs.Trace.{printed_step, turns_text}
@@ -95,6 +100,14 @@ place_of d = place d.section d.number (statement_text d.statement)
 abbrev pub head_text : Scenario → Head → List ℕ
 head_text s h = head_line h.turn (label_at (slice_get (components s) h.leaf)) (place_of h.due)
 
+-- the section that a serving leaf takes next: for a signal, or else for a request
+abbrev pub section_by : Option (ℕ × List Signal) → Option Section → Option Section
+section_by None other = other
+section_by (Some p) other = Some (Reacting p.0)
+
+abbrev pub section_due : model.World → ℕ → model.Leaf → Option Section
+section_due w x leaf = section_by (first_signal leaf.signals) (option_map (λ r. requested w r) (first_request (oldest w x w.requests)))
+
 abbrev pub IsDue : Option stated.Due → Option Due → Type 0
 IsDue None None = Unit {0}
 IsDue None (Some d) = ⊥
@@ -118,7 +131,7 @@ PlacePrinted programs stands x section due =
 abbrev pub StepPrinted : List Entries → List places.Ahead → Scenario → model.World → ℕ → stated.Due → Type 0
 StepPrinted programs stands s w x due =
     (c : Component) (l : model.Leaf) (aheads : List Ahead) (t : Ahead) → slice_get (components s) x ≡ Some c → slice_get w.leaves x ≡ Some l
-    → AreAheads programs stands aheads → slice_get aheads x ≡ Some t → place_of due ≡ next_place c (section_of l.current) t.todo t.loops
+    → AreAheads programs stands aheads → slice_get aheads x ≡ Some t → place_of due ≡ next_place c (section_of l.current l.reacting) t.todo t.loops
 
 -- the leaf stands past its next step, as one that takes steps of its own and has these operands
 abbrev pub PassesBy : List Entries → List places.Ahead → List places.Ahead → ℕ → List ℕ → Type 0
@@ -133,8 +146,8 @@ PassesOwn programs old new w x =
     → AreAheads programs new (slice_set aheads x (past l.operands t.todo t.loops))
 
 -- the leaf stands at the start of a section
-abbrev pub PassesRequest : List Entries → List places.Ahead → List places.Ahead → ℕ → Section → Type 0
-PassesRequest programs old new x section =
+abbrev pub StartsSection : List Entries → List places.Ahead → List places.Ahead → ℕ → Section → Type 0
+StartsSection programs old new x section =
     (cs : List Component) (c : Component) (aheads : List Ahead) → ArePrograms programs (map (λ d. d.node.program) cs) → slice_get cs x ≡ Some c
     → AreAheads programs old aheads → AreAheads programs new (slice_set aheads x (ahead (body_in c section)))
 
@@ -217,7 +230,7 @@ pub record PrintsSessions {W : Type 0} (contents : W → Option (List ℕ)) (bef
   pub accounts : new.accounts ≡ old.accounts
 
 -- the step budgets of a scenario
-abbrev pub budgets_of : Scenario → List ℕ
+abbrev pub budgets_of : Scenario → List StepBudget
 budgets_of s = step_budgets (budgets s)
 
 -- the step was taken, and what it changes was reported and noted
@@ -225,7 +238,8 @@ pub record PrintsStep {W : Type 0} (contents : W → Option (List ℕ)) (reporti
     (out_old out_new : Counted W)
     (was now : Bool) (h : Head) : Type 0 where
   pub scenario : new.scenario ≡ old.scenario
-  pub stopped : new.stopped ≡ old.stopped
+  pub running : new.stopped ≡ false
+  pub signals : new.signals ≡ old.signals
   pub event : Event
   pub goes : next (system old.scenario) old.world h.leaf ≡ Ok (new.world, event)
   pub reports : Goes contents out_old out_new was now (printed_step (prints_all reporting) (head_text old.scenario h)
@@ -236,6 +250,8 @@ pub record PrintsStep {W : Type 0} (contents : W → Option (List ℕ)) (reporti
 pub record IsTaken (old new : worlds.World) (x : ℕ) (t : Taken) (text : List ℕ) : Type 0 where
   pub stands : Standing old
   pub scenario : new.scenario ≡ old.scenario
+  pub running : new.stopped ≡ false
+  pub signals : new.signals ≡ old.signals
   pub goes : next (system old.scenario) old.world x ≡ Ok (new.world, event_of t.event text)
   pub before : IsUse old.scenario old.world x t.before
   pub after : IsUse new.scenario new.world x t.after
@@ -263,11 +279,12 @@ pub record IsOn (programs : List Entries) (stands : List places.Ahead) (w : worl
   pub aheads : AreAheads programs stands t.aheads
   pub count : t.turns ≡ turns
 
--- a trace can go on: the programs are those of the leaves, each of which stands somewhere, and the world is noted
+-- a trace can go on: the programs are those of the leaves, each of which stands somewhere, the world is noted, and it is not stopped
 pub record CanTrace (w : worlds.World) (t : Tracing) : Type 0 where
   pub programs : ArePrograms t.programs.items (programs_of w.scenario)
   pub stands : AllStand t.programs.items t.aheads.items
   pub noted : AreNoted w.scenario w.world t.notes
+  pub running : w.stopped ≡ false
 
 -- A leaf took a step of its own in this section and with this top operand, before which the trace could go on.
 pub record IsOwnTaken (old new : worlds.World) (t : Tracing) (o : Own) (text : List ℕ) : Type 0 where
@@ -275,22 +292,28 @@ pub record IsOwnTaken (old new : worlds.World) (t : Tracing) (o : Own) (text : L
   pub taken : IsTaken old new o.leaf o.taken text
   pub noted : WasNoted new t.notes
   pub own : takes_own o.taken.before.phase ≡ true
-  pub section : (l : model.Leaf) → slice_get old.world.leaves o.leaf ≡ Some l → o.section ≡ section_of l.current
+  pub section : (l : model.Leaf) → slice_get old.world.leaves o.leaf ≡ Some l → o.section ≡ section_of l.current l.reacting
   pub top : (l : model.Leaf) → slice_get old.world.leaves o.leaf ≡ Some l → IsTop o.top l.operands
 
--- Turns were reported: of each trace that was on the way there, the text was written, and the trace that goes on from there is on the way.
-pub record PrintsTurns {W : Type 0} (contents : W → Option (List ℕ)) (text : Traced → List ℕ) (go : Traced → Traced) (turns more : ℕ)
+-- Turns were reported, and at most so many signals with them: of each trace that was on the way there, the text was written, and the trace that goes on from
+-- there is on the way.
+pub record PrintsTurns {W : Type 0} (most : ℕ) (contents : W → Option (List ℕ)) (text : Traced → List ℕ) (go : Traced → Traced) (turns more : ℕ)
     (old new : worlds.World) (before after : Tracing) (out_old out_new : Counted W) (was now : Bool) : Type 0 where
   pub scenario : new.scenario ≡ old.scenario
+  pub signals : new.signals ≤ old.signals + most
   pub can : CanTrace new after
   pub written : (t : Traced) → IsOn before.programs.items before.aheads.items old turns t → Goes contents out_old out_new was now (text t)
   pub on : (t : Traced) → IsOn before.programs.items before.aheads.items old turns t
       → IsOn after.programs.items after.aheads.items new (turns + more) (go t)
 
--- n turns of the x-th leaf, of which nothing is reported: each trace that was on the way there goes on so, and the leaf holds and does what it held and did
+-- n turns of the x-th leaf, of which nothing is reported: each trace that was on the way there goes on so, and the leaf holds and does what it held and did;
+-- each is a step where the leaf can take one at first, and then it can take a further one
 pub record IsSilent (all : Bool) (x n : ℕ) (old new : worlds.World) (before after : Tracing) : Type 0 where
   pub scenario : new.scenario ≡ old.scenario
+  pub signals : new.signals ≡ old.signals
   pub can : CanTrace new after
+  pub able : can_run (system old.scenario) old.world x ≡ true
+      → (while_can n (system old.scenario) old.world x ≡ (n, new.world)) × (can_run (system old.scenario) new.world x ≡ true)
   pub uses : (u : Use) → IsUse old.scenario old.world x u → IsUse new.scenario new.world x u
   pub none : (turns : ℕ) (t : Traced) → IsOn before.programs.items before.aheads.items old turns t
       → [] ≡ turns_text all old.scenario (budgets_of old.scenario) x n t
@@ -298,7 +321,7 @@ pub record IsSilent (all : Bool) (x n : ℕ) (old new : worlds.World) (before af
       → IsOn after.programs.items after.aheads.items new (turns + n) (after_turns (system old.scenario) x n t)
 
 -- why turns are not read
-abbrev pub IsTurnsFault : RunFault → Turned → Type 0
+abbrev pub IsTurnsFault : RunFault → Listed → Type 0
 IsTurnsFault (fault.Load f) t = ⊥
 IsTurnsFault (fault.NoComponent name) t = ⊥
 IsTurnsFault (fault.NoOutcome number) t = ⊥

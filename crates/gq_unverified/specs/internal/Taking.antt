@@ -2,7 +2,9 @@
 use Rattle.std.specs.Prelude.{◌≡◌, ◌<◌, ◌≤◌, ◌+◌, ◌^◌, ℕ, List, [], ◌∷◌, ◌++◌, length, Option, Result, OnOk, OnErr, slice_index}
 use Rattle.std.specs.Io.KnownBytes.{Appends}
 use Rattle.gq_model.specs.declared.fault.Wrong.{Wrong}
-use Rattle.gq_model.specs.machine.Run.{Ran, Acts}
+use Rattle.gq_model.specs.declared.act.TurnLine.{TurnLine}
+use Rattle.gq_model.specs.declared.act.TurnLine.TheVariants.{Gives, Rests}
+use Rattle.gq_model.specs.machine.Run.{Ran}
 use Rattle.gq_model.specs.machine.World.{World}
 use Rattle.gq_model.specs.texts.Turns.{turns_given}
 use Rattle.gq_output.specs.Writer_failures.{failures_of}
@@ -39,10 +41,14 @@ pub record IsNear (old new : World) (n : ℕ) : Type 0 where
   pub leaves : length new.leaves ≡ length old.leaves
   pub steps : (x : ℕ) → slice_index (steps_of new) x ≤ slice_index (steps_of old) x + n
 
--- how many turns these are; settings are none
-abbrev pub turns_in : Acts → ℕ
+-- how many turns a line gives at most; settings and signals are none
+abbrev pub most_turns : TurnLine → ℕ
+most_turns (Gives x act) = turns_given act
+most_turns Rests = 1000000
+
+abbrev pub turns_in : List TurnLine → ℕ
 turns_in [] = 0
-turns_in (t ∷ turns) = turns_given t.1 + turns_in turns
+turns_in (line ∷ rest) = most_turns line + turns_in rest
 
 -- a write that failed was counted, and no other
 pub record CountsFailures {W A E : Type 0} (old new : Counted W) (result : Result A E) : Type 0 where

@@ -24,6 +24,7 @@ no_node =
       provides = None;
       after = None;
       inputs = [];
+      signals = 0;
       routes = None;
     }
 

@@ -1,4 +1,4 @@
-use Rattle.std.proofs.Common.{map}
+use Rattle.std.proofs.Common.{map, length}
 use Rattle.std.proofs.lemmas.Slice.Zip.{either_empty_from_Zip}
 use Rattle.std.specs.Slice.Iter.{iter_rest}
 use Rattle.std.specs.Iterator.Adapters.{zip_first, zip_second}
@@ -13,5 +13,6 @@ returns c =
     let xs = iter_rest (zip_first s) in
     let ys = iter_rest (zip_second s) in
     let all = c.args.leaves.now in
-    none_left c.loop-leaf.asks.items (all_asks all xs (map (λ v. v.items) ys)) (all_asks all all (map (λ v. v.items) c.args.leads.now)) (asks_none all xs ys m)
-    c.loop-leaf.invariant
+    let n = length c.loop-leaf.asks.items in
+    none_left c.loop-leaf.asks.items (all_asks all n xs (map (λ v. v.items) ys)) (all_asks all 0 all (map (λ v. v.items) c.args.leads.now))
+    (asks_none all n xs ys m) c.loop-leaf.invariant

@@ -4,10 +4,10 @@ use Rattle.gq_determined.proofs.written_lines.Written_lines_law.{writes_same}
 use Rattle.gq_determined.proofs.determined.determined_laws.Goals as goal
 
 pub returns-clause-writes : goal.returns-clause-writes
-returns-clause-writes c s sound none = writes_same s sound none
+returns-clause-writes c s sound none unread unmoved = writes_same s sound none unread unmoved
 
 pub returns-clause-leaves : goal.returns-clause-leaves
-returns-clause-leaves c s sound none = leaves_same s sound none
+returns-clause-leaves c s sound none unread unmoved = leaves_same s sound none unread unmoved
 
 pub returns-clause-all : goal.returns-clause-all
-returns-clause-all c s sound none quiet = all_write_same s sound none quiet
+returns-clause-all c s sound none unread unmoved quiet = all_write_same s sound none unread unmoved quiet

@@ -16,7 +16,7 @@ returns c system f g s x y d e l bs h q client ops lawful st active end current 
       d = it;
       is = record { system_is = refl; world_is = refl; x_is = refl; component_is = refl };
       operands = ap (λ (z : world.Leaf). z.operands) (shape system f s x d l.state bs lawful st.stands);
-      next_is = end_is system f s x d l bs lawful st active end ∙ ap (λ o. section_ended it (current_seen o)) current
+      next_is = end_is system f s x d l bs lawful st active end ∙ ap (λ o. section_ended it (current_seen o) l.state.reacting) current
           ∙ ap (λ o. need o WrongKind (reply it h.session h.section)) at;
       goes_on = λ F made. goes_on system f s x d l bs lawful st active end g y e client ops apart below stood blocked replied.names replied.others
           replied.serves replied.goes_on q F is made;

@@ -22,7 +22,7 @@ pub budgets_of-requires : goal.budgets_of-requires
 budgets_of-requires c =
     let s = c.args.scenario.now in
     let cs = c.args.components.now in
-    let steps = c.as_slice-3.ensures.value ∙ (c.in_ok-steps.ensures ∙ ap (budgets_from (system s) 0) (sym c.requires.components)) in
+    let steps = c.in_ok-steps.ensures ∙ ap (budgets_from (system s) 0) (sym c.requires.components) in
     let owns = c.as_slice-2.ensures.value ∙ c.requires.surveys.owns in
     ap length steps ∙ (steps_count (system s) 0 cs ∙ sym (ap length owns ∙ owns_count s.interfaces cs))
 
@@ -30,9 +30,9 @@ pub returns : goal.returns
 returns c =
     let s = c.args.scenario.now in
     let cs = c.args.components.now in
-    let steps = c.as_slice-3.ensures.value ∙ (c.in_ok-steps.ensures ∙ ap (budgets_from (system s) 0) (sym c.requires.components)) in
+    let steps = c.in_ok-steps.ensures ∙ ap (budgets_from (system s) 0) (sym c.requires.components) in
     let owns = c.as_slice-2.ensures.value ∙ c.requires.surveys.owns in
     c.in_ok-budgets.ensures
-    ∙ (ap (λ v. budgets_with v c.as_slice-2.result.now c.as_slice-3.result.now) c.version.ensures
-    ∙ (ap (λ o. budgets_with s.version o c.as_slice-3.result.now) owns
+    ∙ (ap (λ v. budgets_with v c.as_slice-2.result.now c.in_ok-steps.steps.items) c.version.ensures
+    ∙ (ap (λ o. budgets_with s.version o c.in_ok-steps.steps.items) owns
     ∙ (ap (budgets_with s.version (map (λ d. own_of (judged_by s.interfaces d)) cs)) steps ∙ kept_same s.version (system s) 0 cs)))

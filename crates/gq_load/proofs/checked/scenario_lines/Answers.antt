@@ -1,4 +1,4 @@
-use Rattle.std.proofs.Common.{◌∙◌, ap, sym, length}
+use Rattle.std.proofs.Common.{◌∙◌, ap, sym, length, arith}
 use Rattle.std.proofs.lemmas.Result.{err_from_is_err_and}
 use Rattle.gq_model.specs.machine.Lists.{or_first}
 use Rattle.gq_model.specs.machine.Scenario.{components, system}
@@ -7,6 +7,8 @@ use Rattle.gq_load.specs.Load_faults.{PrintsFault}
 use Rattle.gq_load.specs.internal.Judged_programs.{first_refusal}
 use Rattle.gq_load.specs.Load.{refused, sources_fault}
 use Rattle.gq_load.proofs.First_refusal_reason.{for_survey, of_scenario}
+use Rattle.gq_load.proofs.Signal_line_steps.{accepted_small}
+use Rattle.gq_load.specs.internal.Small_budgets.{all_small}
 use Rattle.gq_load.proofs.checked.scenario_lines.Goals as goal
 
 pub returns-in_err-surveys-clause-refused : goal.returns-in_err-surveys-clause-refused
@@ -23,3 +25,21 @@ component_lines-requires c =
     let s = c.args.scenario.now in
     ap length (c.as_slice-4.ensures.value ∙ c.in_ok-_routes.ensures.budgets)
     ∙ (budgets_count s.version (system s) 0 (components s) ∙ sym (ap length (c.as_slice-3.ensures.value ∙ c.in_ok-components.ensures)))
+
+pub push_signal_lines-requires-clause-as_many : goal.push_signal_lines-requires-clause-as_many
+push_signal_lines-requires-clause-as_many c =
+    let s = c.args.scenario.now in
+    ap length (c.as_slice-6.ensures.value ∙ c.in_ok-_routes.ensures.budgets)
+    ∙ (budgets_count s.version (system s) 0 (components s) ∙ sym (ap length (c.as_slice-5.ensures.value ∙ c.in_ok-components.ensures)))
+
+pub push_signal_lines-requires-clause-small : goal.push_signal_lines-requires-clause-small
+push_signal_lines-requires-clause-small c =
+    let s = c.args.scenario.now in
+    ap all_small (c.as_slice-6.ensures.value ∙ c.in_ok-_routes.ensures.budgets)
+    ∙ accepted_small s c.in_ok-_routes.ensures.accepted (budgets_count s.version (system s) 0 (components s))
+
+pub push_signal_lines-requires-clause-few : goal.push_signal_lines-requires-clause-few
+push_signal_lines-requires-clause-few c =
+    let s = c.args.scenario.now in
+    let count = ap length (c.as_slice-6.ensures.value ∙ c.in_ok-_routes.ensures.budgets) ∙ budgets_count s.version (system s) 0 (components s) in
+    omega (arith, count, c.bounds.ensures.leaves)

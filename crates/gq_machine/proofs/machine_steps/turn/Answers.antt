@@ -31,11 +31,12 @@ returns-in-Pending-clause-step c =
 pub returns-in-Err-clause-holds : goal.returns-in-Err-clause-holds
 returns-in-Err-clause-holds c =
     let f = c.args.fixed.now in
-    from_err c.accept.result (Holds f c.accept.new.state) _ _ c.accept.ensures.leaves.holds c.accept.ensures.leaves.leaves c.accept.ensures.leaves.slots (λ e g.
-    holds_same f c.args.state.now c.accept.new.state e g c.requires.holds)
+    from_err c.take_next.result (Holds f c.take_next.new.state) _ _ c.take_next.ensures.leaves.holds c.take_next.ensures.leaves.leaves
+    c.take_next.ensures.leaves.slots (λ e g.
+    holds_same f c.args.state.now c.take_next.new.state e g c.requires.holds)
 
-pub accept-requires : goal.accept-requires
-accept-requires c =
+pub take_next-requires : goal.take_next-requires
+take_next-requires c =
     record {
       serves = record {
         can =

@@ -1,4 +1,4 @@
--- The end of `main` of a leaf that provides nothing.
+-- The end of `main` of a leaf that provides nothing and has no signals.
 use Rattle.std.proofs.Common.{◌≡◌, ◌+◌, ◌<◌, ◌^◌, ℕ, List, Option, Some, None, refl, sym, ap, subst, ◌∙◌, rules}
 use Rattle.std.specs.Prelude.{Err, Ok, Result, slice_get}
 use Rattle.gq_model.specs.declared.fault.Wrong.{Wrong}
@@ -11,7 +11,6 @@ use Rattle.gq_model.proofs.Small_facts.{some_same}
 use Rattle.gq_bytecode.specs.declared.operation.Operation.TheVariants as operation
 use Rattle.gq_bytecode.specs.Nexts.{Active}
 use Rattle.gq_statements.proofs.linked.Ended_leaves.{no_sessions}
-use Rattle.gq_statements.proofs.linked.Stored_world_links.{stance_is}
 use Rattle.gq_slots.specs.Slots.{AreLong, Frame, Slots, world_seen}
 use Rattle.gq_slots.specs.Session_calls.{EndsLeaf}
 use Rattle.gq_statements.specs.Systems.{AreLawful, IsOf}
@@ -30,16 +29,16 @@ use Rattle.gq_machine.specs.Machine_world.{frame_of, world_of}
 use Rattle.gq_machine.specs.declared.machine_state.Fixed.{Fixed}
 use Rattle.gq_machine.specs.declared.machine_state.MachineState.{MachineState}
 use Rattle.gq_machine.specs.internal.Endings.{AreGone}
-use Rattle.gq_machine.specs.internal.Machine_invariant.{CanStep, EndsMain, Goes, Holds, IsNext, OfLeaf, ProvidesNone}
-use Rattle.gq_machine.proofs.Exited_leaf_successors.{codes_gone, frame_gone, gone_frame, is_gone, provides_nothing, room_then, runs}
+use Rattle.gq_machine.specs.internal.Machine_invariant.{CanStep, EndsMain, Goes, HasNone, Holds, IsNext, OfLeaf}
+use Rattle.gq_machine.proofs.Exited_leaf_successors.{codes_gone, frame_gone, gone_frame, is_gone, provides_nothing, room_then}
 use Rattle.gq_machine.proofs.Machine_leaf_frames.{leaf_at}
 use Rattle.gq_machine.proofs.Machine_invariant_step.{kept}
-use Rattle.gq_machine.proofs.Stepping_leaf_facts.{active_awake, active_live, below, live, of_leaf, standing}
+use Rattle.gq_machine.proofs.Stepping_leaf_facts.{active_awake, active_live, live, of_leaf, standing}
 use Rattle.gq_machine.proofs.main_end.exit.Goals as goal
 
-none_provided : (o : Option Component) (c : Component) → o ≡ Some c → ProvidesNone o → c.node.provides ≡ None
-none_provided None c e h = absurd h
-none_provided (Some d) c e h = ap (λ (b : Component). b.node.provides) (sym (some_same e)) ∙ h
+none_had : (o : Option Component) (c : Component) → o ≡ Some c → HasNone o → (c.node.provides ≡ None) × (c.node.signals ≡ 0)
+none_had None c e h = absurd h
+none_had (Some d) c e h = subst (λ (b : Component). (b.node.provides ≡ None) × (b.node.signals ≡ 0)) (some_same e) h
 
 module _ (f : Fixed) (m : MachineState) (x : ℕ) (can : CanStep f m x) (goes : IsNext m x operation.End) (ends : EndsMain f m x) (l : AreLawful m.slots) where
   abbrev own : Component
@@ -61,20 +60,19 @@ module _ (f : Fixed) (m : MachineState) (x : ℕ) (can : CanStep f m x) (goes : 
   end = of_leaf (λ l. operation_of l ≡ Some operation.End) (slice_get ls x) leaf can.leaf_is goes.next
 
   current : leaf.state.current ≡ None
-  current = of_leaf (λ l. l.state.current ≡ None) (slice_get ls x) leaf can.leaf_is ends.main
+  current = of_leaf (λ l. l.state.current ≡ None) (slice_get ls x) leaf can.leaf_is ends.main.no_request
+
+  reacting : leaf.state.reacting ≡ None
+  reacting = of_leaf (λ l. l.state.reacting ≡ None) (slice_get ls x) leaf can.leaf_is ends.main.no_signal
 
   provides : own.node.provides ≡ None
-  provides = none_provided (slice_get (components f.table) x) own can.component_is ends.provides
+  provides = (none_had (slice_get (components f.table) x) own can.component_is ends.provides).0
+
+  signals : own.node.signals ≡ 0
+  signals = (none_had (slice_get (components f.table) x) own can.component_is ends.provides).1
 
   at : frame.leaf x ≡ leaf_of own.node.program leaf.state
   at = leaf_at f.table ls x own leaf can.component_is can.leaf_is
-
-  running : leaf.state.phase ≡ phase.Running
-  running =
-      let fits = can.holds.linked.fits x _ (stance_is frame m.slots x l (below f m can.holds l x own can.component_is)) in
-      let now = ap (λ (y : world.Leaf). y.phase) at in
-      sym now ∙ runs (frame.leaf x).phase (frame.leaf x).current (subst Active (sym now) active) fits
-      (ap (λ (y : world.Leaf). y.current) at ∙ ap current_seen current)
 
   pub is_live : IsLive m.slots.trades x
   is_live = live f m can.holds l x own leaf can.component_is can.leaf_is (active_live leaf.state.phase active)
@@ -87,18 +85,19 @@ module _ (f : Fixed) (m : MachineState) (x : ℕ) (can : CanStep f m x) (goes : 
 
   -- the step, where the leaf has exited in the frame g
   pub step_in : (g : Frame) → IsGone (system f.table) frame g x own leaf.state → (result : Result (Unit {0}) Wrong) (u : Slots)
-      → ((h : Frame) (d : Doing) → d.x ≡ x → IsReleased d h m.slots → main_ended d None ≡ finished result (world_seen h u))
+      → ((h : Frame) (d : Doing) → d.x ≡ x → IsReleased d h m.slots → main_ended d None 0 ≡ finished result (world_seen h u))
       → next (system f.table) (world_of f.table ls m.slots) x ≡ finished result (world_seen g u)
   step_in g gone result u ended =
       let bs = f.services.buffers in
       let st = standing f m can.holds l x own leaf can.component_is can.leaf_is in
       let d = first (system f.table) frame m.slots x own leaf.state bs l st.stands in
-      end_is (system f.table) frame m.slots x own leaf bs l st active end ∙ ap (λ o. section_ended d (current_seen o)) current ∙ ap (main_ended d) provides
-      ∙ ended g d refl (exits (system f.table) frame m.slots x own leaf bs l st running g gone.names (sym st.stands.of.count) gone.exits gone.others)
+      end_is (system f.table) frame m.slots x own leaf bs l st active end
+      ∙ (λ k. section_ended d (current_seen (current k)) (reacting k)) ∙ (λ k. main_ended d (provides k) (signals k))
+      ∙ ended g d refl (exits (system f.table) frame m.slots x own leaf bs l st g gone.names (sym st.stands.of.count) gone.exits gone.others)
 
   -- the frame in which it has exited, if it has
   pub fails : (wrong : Wrong) (u : Slots)
-      → ((h : Frame) (d : Doing) → d.x ≡ x → IsReleased d h m.slots → main_ended d None ≡ finished (Err wrong) (world_seen h u))
+      → ((h : Frame) (d : Doing) → d.x ≡ x → IsReleased d h m.slots → main_ended d None 0 ≡ finished (Err wrong) (world_seen h u))
       → next (system f.table) (world_of f.table ls m.slots) x ≡ Err wrong
   fails wrong u ended =
       step_in (gone_frame (system f.table) frame x own leaf.state) (frame_gone (system f.table) frame x own leaf.state) (Err wrong) u ended
@@ -110,7 +109,7 @@ module _ (f : Fixed) (m : MachineState) (x : ℕ) (can : CanStep f m x) (goes : 
     is : IsGone (system f.table) frame later x own leaf.state
     is = is_gone f.table x ls ms can.holds.count gone can.holds.ready.resolved.differ own leaf can.component_is can.leaf_is
 
-    pub exited_step : ((h : Frame) (d : Doing) → d.x ≡ x → IsReleased d h m.slots → main_ended d None ≡ finished (Ok tt) (world_seen h u))
+    pub exited_step : ((h : Frame) (d : Doing) → d.x ≡ x → IsReleased d h m.slots → main_ended d None 0 ≡ finished (Ok tt) (world_seen h u))
         → next (system f.table) (world_of f.table ls m.slots) x ≡ finished (Ok tt) (world_of f.table ms u)
     exited_step = step_in later is (Ok tt) u
 

@@ -9,11 +9,9 @@ returns-in-Main-clause-step c =
     let m = c.args.state.now in
     let x = c.args.number in
     let current = c.args.current in
-    let client = c.client_at-client.result in
-    let end = c.client_at-client.ensures.client.end in
     elim c.in-Main.is [
-      | inl e ↦ main_wrong f m x client current end e
-      | inr e ↦ reacting_wrong f m x client current end e.0 e.1
+      | inl is ↦ main_wrong f m x c.client_at-client.result current c.client_at-client.ensures.client.end is
+      | inr is ↦ reacting_wrong f m x c.client_at-client.result current c.client_at-client.ensures.client.end is.0 is.1
     ]
 
 pub upgraded-requires-clause-section : goal.upgraded-requires-clause-section

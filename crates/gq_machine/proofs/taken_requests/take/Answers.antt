@@ -1,10 +1,11 @@
 -- A request that is taken.
-use Rattle.std.proofs.Common.{◌≡◌, ◌<◌, ◌+◌, ◌^◌, ℕ, refl, sym, ap, subst, Some, Ok, Err, ◌∙◌, rules}
+use Rattle.std.proofs.Common.{◌≡◌, ◌<◌, ◌+◌, ◌^◌, ℕ, refl, sym, ap, subst, Some, None, Ok, Err, ◌∙◌, rules}
 use Rattle.std.specs.Prelude.{slice_get}
 use Rattle.std.proofs.lemmas.Option.{slice_get_within}
 use Rattle.gq_model.specs.declared.phase.Phase.TheVariants as phase
 use Rattle.gq_model.specs.machine.Doing.{Quiet}
 use Rattle.gq_model.specs.machine.Scenario.{components}
+use Rattle.gq_model.specs.machine.Step.{first_signal}
 use Rattle.gq_model.proofs.Small_facts.{some_same}
 use Rattle.gq_statements.specs.Systems.{stage_in}
 use Rattle.gq_statements.specs.Serving.{found}
@@ -21,7 +22,8 @@ returns-in-Err-clause-wrong c =
     let m = c.args.state.now in
     let x = c.args.number in
     let serves = of_leaf (λ l. l.state.phase ≡ phase.Serving) (slice_get m.leaves.items x) can.leaf can.leaf_is c.requires.serves.serves in
-    led c.args.fixed.now m can.holds c.lawful.ensures x can.component can.leaf can.component_is can.leaf_is serves c.provider-provider.result.sections.now
+    let none = of_leaf (λ y. first_signal y.state.signals ≡ None) (slice_get m.leaves.items x) can.leaf can.leaf_is c.requires.no_signal in
+    led c.args.fixed.now m can.holds c.lawful.ensures x can.component can.leaf can.component_is can.leaf_is serves none c.provider-provider.result.sections.now
     c.accept.new.slots (found c.args.request c.accept.result) (Err c.in-Err.wrong) c.scenario_laws.ensures.interfaces c.provider-provider.ensures.sections
     c.accept.ensures.step (ap (found c.args.request) c.in-Err.is)
 
@@ -36,9 +38,10 @@ returns-in-Ok-clause-step c =
     let old = c.index_mut-leaf.result.now in
     let there = item_there m.leaves.items x can.leaf old can.leaf_is c.index_mut-leaf.ensures.value in
     let serves = of_leaf (λ l. l.state.phase ≡ phase.Serving) (slice_get m.leaves.items x) old there c.requires.serves.serves in
-    goes f m can.holds c.lawful.ensures x can.component old can.component_is there serves t r r c.args.level c.begin.new.leaf c.in-Ok.ensures.takes
+    let none = of_leaf (λ y. first_signal y.state.signals ≡ None) (slice_get m.leaves.items x) old there c.requires.no_signal in
+    goes f m can.holds c.lawful.ensures x can.component old can.component_is there serves none t r r c.args.level c.begin.new.leaf c.in-Ok.ensures.takes
     c.requires.first.oldest c.requires.first.level c.begin.ensures
-    (led f m can.holds c.lawful.ensures x can.component old can.component_is there serves c.provider-provider.result.sections.now t
+    (led f m can.holds c.lawful.ensures x can.component old can.component_is there serves none c.provider-provider.result.sections.now t
     (found r c.accept.result) (Ok (Some r)) c.scenario_laws.ensures.interfaces c.provider-provider.ensures.sections c.accept.ensures.step
     (ap (found r) c.in-Ok.is))
 
@@ -54,6 +57,7 @@ returns-in-Ok-clause-leaves c =
           let old = c.index_mut-leaf.result.now in
           let there = item_there m.leaves.items x can.leaf old can.leaf_is c.index_mut-leaf.ensures.value in
           let serves = of_leaf (λ l. l.state.phase ≡ phase.Serving) (slice_get m.leaves.items x) old there c.requires.serves.serves in
+          let none = of_leaf (λ y. first_signal y.state.signals ≡ None) (slice_get m.leaves.items x) old there c.requires.no_signal in
           kept_one f m _ x can.component old c.begin.new.leaf Quiet can.holds c.lawful.ensures c.lawful-in-Ok.ensures can.component_is there refl
           (ap (λ (l : Coded). l.code) c.begin.ensures) (ap (λ (l : Coded). stage_in l.state.phase) c.begin.ensures ∙ sym (ap stage_in serves))
           (scene_taken m.slots t x c.args.request c.in-Ok.ensures.takes) (returns-in-Ok-clause-step c);
@@ -67,6 +71,7 @@ accept-requires-clause-live c =
     let m = c.args.state.now in
     let x = c.args.number in
     let serves = of_leaf (λ l. l.state.phase ≡ phase.Serving) (slice_get m.leaves.items x) can.leaf can.leaf_is c.requires.serves.serves in
+    let none = of_leaf (λ y. first_signal y.state.signals ≡ None) (slice_get m.leaves.items x) can.leaf can.leaf_is c.requires.no_signal in
     live c.args.fixed.now m can.holds c.lawful.ensures x can.component can.leaf can.component_is can.leaf_is (ap stage_in serves)
 
 pub accept-requires-clause-first : goal.accept-requires-clause-first

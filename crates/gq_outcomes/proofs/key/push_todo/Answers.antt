@@ -18,7 +18,7 @@ returns c =
     let leaf = leaf_at m.world c.args.leaf in
     let core = c.registers-registers.result.now in
     let component = get_within (components m.scenario) c.args.leaf c.requires.leaf in
-    let body = body_in leaf.phase (body_of (section_in (section_of leaf.current) component.0.node.program.sections)) in
+    let body = body_in leaf.phase (body_of (section_in (section_of leaf.current leaf.reacting) component.0.node.program.sections)) in
     let stands = leaf_reads m c.requires.sound c.args.leaf c.requires.leaf (λ l. StandsAt component.0 l core)
     (c.registers-registers.ensures component.0 component.1) in
     let same = c.statements_of-statements.ensures.statements component.0 component.1 in

@@ -1,8 +1,6 @@
 use Rattle.gq_model.specs.texts.Code.{greatest_statements}
-use Rattle.gq_races.proofs.Race_line_text.{effect_same, few_after, section_put}
-use Rattle.gq_races.specs.Races.{for_several}
-use Rattle.gq_races.specs.Race_text.{effect_text, has_effect}
-use Rattle.gq_races.specs.internal.Kind_lines.{effect_line}
+use Rattle.gq_races.proofs.Race_leaf_lines.{sections_put}
+use Rattle.gq_races.proofs.Race_line_text.{few_after}
 use Rattle.gq_races.proofs.effects.push_sections.Goals as goal
 
 pub loop-section-preserved : goal.loop-section-preserved
@@ -13,7 +11,7 @@ loop-section-preserved c =
     let within = c.loop-section-test.true in
     let is = c.loop-section-item.is in
     record {
-      lines = section_put (λ section. has_effect (for_several c.args.shared section)) effect_line effect_text effect_same c.args.label.now all
-          l.section-index p within is l.text.items c.push_section.new.text.items _ c.in_ok-push_section.ensures l.invariant.lines;
+      lines = sections_put c.args.shared c.args.label.now all l.section-index p within is l.text.items c.push_section.new.text.items _
+          c.in_ok-push_section.ensures l.invariant.lines;
       few = few_after all l.section-index p within is greatest_statements l.invariant.few;
     }

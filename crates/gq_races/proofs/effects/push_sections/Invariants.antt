@@ -1,9 +1,8 @@
-use Rattle.std.proofs.Common.{◌≡◌, ◌≤◌, ◌++◌, drop, map}
+use Rattle.std.proofs.Common.{◌≡◌, ◌≤◌, ◌++◌, drop}
 use Rattle.std.specs.Prelude.{sum_by}
 use Rattle.gq_model.specs.machine.Program.{size}
 use Rattle.gq_model.specs.texts.Code.{greatest_statements}
-use Rattle.gq_races.specs.Races.{for_several, stated_in}
-use Rattle.gq_races.specs.Race_text.{effect_text, has_effect}
+use Rattle.gq_races.specs.Race_text.{sections_lines}
 use Rattle.gq_views.specs.Listing.{joined}
 use Rattle.gq_races.proofs.effects.push_sections.Given as goal
 
@@ -11,7 +10,7 @@ use Rattle.gq_races.proofs.effects.push_sections.Given as goal
 abbrev pub invariant-loop-section : goal.invariant-loop-section
 invariant-loop-section l = record {
   lines :
-      l.text.items ++ joined (map effect_text (stated_in (λ section. has_effect (for_several l.shared section)) l.label (drop l.section-index l.sections)))
-      ≡ l.fn.text.items ++ joined (map effect_text (stated_in (λ section. has_effect (for_several l.shared section)) l.label l.sections));
+      l.text.items ++ joined (sections_lines l.shared l.label (drop l.section-index l.sections))
+      ≡ l.fn.text.items ++ joined (sections_lines l.shared l.label l.sections);
   few : sum_by (λ p. size p.1) (drop l.section-index l.sections) ≤ greatest_statements;
 }

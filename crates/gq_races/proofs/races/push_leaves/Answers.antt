@@ -1,8 +1,8 @@
 use Rattle.std.proofs.Common.{◌∙◌, ◌++◌, ap, arith, false, get_or, refl}
 use Rattle.std.proofs.lemmas.List.{length-map}
 use Rattle.gq_model.specs.machine.Scenario.{components, system}
-use Rattle.gq_races.specs.Races.{stated_of}
-use Rattle.gq_races.specs.Race_text.{has_effect, heading, sharing_lines}
+use Rattle.gq_races.specs.Race_text.{sections_lines}
+use Rattle.gq_races.specs.internal.Conflicts.{sharing}
 use Rattle.gq_races.specs.internal.Openers.{opened_among, opened_from}
 use Rattle.gq_views.specs.Listing.{joined}
 use Rattle.gq_views.specs.internal.Table_leaves.{leaf_of}
@@ -28,7 +28,7 @@ loop-number-preserved c =
     let is_shared = shared_test s c.args.shared.now c.requires.shared l.number at.within false shared refl in
     leaf_put (system s) all l.number leaf.component at.within at.is l.text.items c.push_leaf.new.text.items _
     (c.in_ok-push_leaf.ensures
-    ∙ ap (λ n. l.text.items ++ joined (heading (sharing_lines shared (leaf_of s n).component (opened_among all n all))
-    (stated_of has_effect shared (leaf_of s n).component))) c.new-leaf.ensures
+    ∙ ap (λ n. l.text.items ++ joined (sharing shared (leaf_of s n).component (opened_among all n all)
+    ++ sections_lines shared (leaf_of s n).component.label (leaf_of s n).component.node.program.sections)) c.new-leaf.ensures
     ∙ ap (λ b. l.text.items ++ joined b) (lines_are s l.number leaf.component shared is_shared))
     l.invariant

@@ -4,10 +4,11 @@ use Rattle.std.specs.Prelude.{IsOkAnd}
 use Rattle.gq_output.specs.Writer_failures.{written_to}
 use Rattle.gq_load.specs.Load.{loaded}
 use Rattle.gq_reports.proofs.Command_text_endings.{reported_text, whole_text}
-use Rattle.gq_races.specs.Races.{IsOrderFree, IsRaceFree}
+use Rattle.gq_races.specs.Races.{IsInputFree, IsOrderFree, IsRaceFree, IsSignalFree}
 use Rattle.gq_races.specs.Race_text.{races_text}
 use Rattle.gq_races.specs.Races_written.{MeansWithout, WroteNothing, races_written}
-use Rattle.gq_races.proofs.Silence_means_raceless.{free_printed, orderless, quiet_printed, raceless}
+use Rattle.gq_races.proofs.Silence_means_raceless.{free_printed, inputless, orderless, quiet_printed, raceless, signalless, unset_printed}
+use Rattle.gq_races.proofs.Silence_means_raceless.{unsignalled_printed}
 use Rattle.gq_races.proofs.races.races.Goals as goal
 
 pub returns-clause-writes : goal.returns-clause-writes
@@ -45,4 +46,36 @@ returns-clause-quiet g c =
     let after = written_to g.W.Write.contents c.put_text.new.out in
     whole_text (WroteNothing before after → IsOkAnd (loaded c.args.scenario.now) IsOrderFree) c.put_text.result
     (λ h. quiet_printed (loaded c.args.scenario.now) c.in_ok-text.text.items before after h c.in_ok-text.ensures.text)
+    (c.put_text.ensures (Ok c.in_ok-text.text.items) (ap Ok (sym c.as_slice.ensures.value)))
+
+pub returns-clause-inputless : goal.returns-clause-inputless
+returns-clause-inputless g c =
+    let before = written_to g.W.Write.contents c.args.out.now in
+    let after = written_to g.W.Write.contents c.put_text.new.out in
+    whole_text (MeansWithout (codes "input ") IsInputFree c.args.scenario.now before after) c.put_text.result
+    (λ h. inputless (loaded c.args.scenario.now) c.in_ok-text.text.items before after h c.in_ok-text.ensures.text)
+    (c.put_text.ensures (Ok c.in_ok-text.text.items) (ap Ok (sym c.as_slice.ensures.value)))
+
+pub returns-clause-unmoved : goal.returns-clause-unmoved
+returns-clause-unmoved g c =
+    let before = written_to g.W.Write.contents c.args.out.now in
+    let after = written_to g.W.Write.contents c.put_text.new.out in
+    whole_text (MeansWithout (codes "signal ") IsSignalFree c.args.scenario.now before after) c.put_text.result
+    (λ h. signalless (loaded c.args.scenario.now) c.in_ok-text.text.items before after h c.in_ok-text.ensures.text)
+    (c.put_text.ensures (Ok c.in_ok-text.text.items) (ap Ok (sym c.as_slice.ensures.value)))
+
+pub returns-clause-unset : goal.returns-clause-unset
+returns-clause-unset g c =
+    let before = written_to g.W.Write.contents c.args.out.now in
+    let after = written_to g.W.Write.contents c.put_text.new.out in
+    whole_text (WroteNothing before after → IsOkAnd (loaded c.args.scenario.now) IsInputFree) c.put_text.result
+    (λ h. unset_printed (loaded c.args.scenario.now) c.in_ok-text.text.items before after h c.in_ok-text.ensures.text)
+    (c.put_text.ensures (Ok c.in_ok-text.text.items) (ap Ok (sym c.as_slice.ensures.value)))
+
+pub returns-clause-still : goal.returns-clause-still
+returns-clause-still g c =
+    let before = written_to g.W.Write.contents c.args.out.now in
+    let after = written_to g.W.Write.contents c.put_text.new.out in
+    whole_text (WroteNothing before after → IsOkAnd (loaded c.args.scenario.now) IsSignalFree) c.put_text.result
+    (λ h. unsignalled_printed (loaded c.args.scenario.now) c.in_ok-text.text.items before after h c.in_ok-text.ensures.text)
     (c.put_text.ensures (Ok c.in_ok-text.text.items) (ap Ok (sym c.as_slice.ensures.value)))

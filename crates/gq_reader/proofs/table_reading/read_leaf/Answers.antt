@@ -7,6 +7,12 @@ use Rattle.gq_reader.proofs.table_reading.read_leaf.Goals as goal
 pub read_quantum-quantum-requires : goal.read_quantum-quantum-requires
 read_quantum-quantum-requires c = (sound_leaf (table_view c.args.table) c.requires).quantum
 
+pub overflow_cast-signals : goal.overflow_cast-signals
+overflow_cast-signals c = omega (arith, c.number_at-signals.ensures, (sound_leaf (table_view c.args.table) c.requires).signals)
+
+pub new-requires : goal.new-requires
+new-requires c = rw c.number_at-signals.ensures (sound_leaf (table_view c.args.table) c.requires).signals
+
 pub read_source-requires : goal.read_source-requires
 read_source-requires c = (sound_leaf (table_view c.args.table) c.requires).source
 

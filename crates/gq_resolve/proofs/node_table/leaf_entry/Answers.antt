@@ -19,4 +19,5 @@ returns c =
     (c.service_of-service.ensures ∙ (λ i. number_named (leaf i).provides (λ name. interface_number 0 name (c.interfaces.ensures i))))
     (c.after_of-after.ensures ∙ ap (λ l. number_named l.after (λ name. numbered 0 name cs)) leaf)
     (c.copied_inputs.ensures ∙ ap (λ l. l.inputs) leaf)
+    (c.signals.ensures.signals ∙ ap (λ l. l.signals) leaf)
     (c.in_ok-servers.ensures ∙ ap (map (λ e. server_at x e.0 routes)) c.interfaces-2.ensures)

@@ -1,12 +1,10 @@
 -- The items of a leaf that lives.
-use Rattle.std.proofs.Common.{IfSome, sym, subst, [], ◌∷◌}
+use Rattle.std.proofs.Common.{IfSome, sym, subst}
 use Rattle.std.specs.Prelude.{slice_get}
-use Rattle.gq_model.specs.machine.Scenario.{Scenario, components, system}
+use Rattle.gq_model.specs.machine.Scenario.{system}
 use Rattle.gq_model.specs.declared.program.OperandSlot.TheVariants.{Own}
-use Rattle.gq_resolve.specs.NodeTables.{IsNodeOf, node_rows}
-use Rattle.gq_traces.specs.Account_state.{Given, item, items_text, slots_items}
+use Rattle.gq_traces.specs.Account_state.{slots_items}
 use Rattle.gq_traces.specs.internal.Slot_items.{HasBank, Prints_items, bank_slots}
-use Rattle.gq_traces.specs.internal.Printed_steps.{Goes}
 use Rattle.gq_traces.specs.declared.items.SlotRow.TheVariants.{OfLeaf}
 use Rattle.gq_traces.proofs.Printed_children.{live_printed, own_slots}
 use Rattle.gq_traces.proofs.Sound_world_leaves.{leaf_bank, leaves_are, peaks_there}

@@ -7,7 +7,7 @@ use Rattle.gq_traces.proofs.Steps_taken_alone.{steps_then, stands_still}
 use Rattle.gq_traces.proofs.alone_steps.steps_alone.Goals as goal
 
 pub loop-done-init : goal.loop-done-init
-loop-done-init c = record { few = omega arith; scenario = refl; stopped = refl; steps = (refl, refl) }
+loop-done-init c = record { few = omega arith; scenario = refl; running = c.requires.running; signals = refl; steps = (refl, refl) }
 
 pub some_alone-taken-requires-clause-programs : goal.some_alone-taken-requires-clause-programs
 some_alone-taken-requires-clause-programs c =
@@ -31,7 +31,8 @@ loop-done-preserved c =
     record {
       few = omega (arith, few, within, test);
       scenario = took.ensures.scenario ∙ l.invariant.scenario;
-      stopped = took.ensures.stopped ∙ l.invariant.stopped;
+      running = took.ensures.running;
+      signals = took.ensures.signals ∙ l.invariant.signals;
       steps = steps_then (system w.scenario) c.args.programs.now c.args.leaf l.done took.result (l.done + took.result) refl w.world l.world.world
           took.new.world.world c.args.aheads.now l.aheads took.new.aheads l.invariant.steps
           (subst (λ (r : Scenario). StepsAlone (system r) c.args.programs.now c.args.leaf took.result l.world.world took.new.world.world l.aheads
@@ -48,6 +49,9 @@ returns-then-taken-eq0-clause-steps c =
     took.new.world.world c.args.aheads.now l.aheads took.new.aheads l.invariant.steps
     (subst (λ (r : Scenario). StepsAlone (system r) c.args.programs.now c.args.leaf took.result l.world.world took.new.world.world l.aheads took.new.aheads)
     l.invariant.scenario took.ensures.steps)
+
+pub returns-then-taken-eq0-clause-signals : goal.returns-then-taken-eq0-clause-signals
+returns-then-taken-eq0-clause-signals c = c.some_alone-taken.ensures.signals ∙ c.loop-done.invariant.signals
 
 pub returns-then-taken-eq0-clause-over : goal.returns-then-taken-eq0-clause-over
 returns-then-taken-eq0-clause-over c less = c.some_alone-taken.ensures.none c.if-taken-eq0.true

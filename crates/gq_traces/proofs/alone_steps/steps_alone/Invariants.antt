@@ -1,4 +1,4 @@
-use Rattle.std.proofs.Common.{◌≡◌, ◌-◌, ◌≤◌}
+use Rattle.std.proofs.Common.{◌≡◌, ◌-◌, ◌≤◌, false}
 use Rattle.gq_model.specs.machine.Scenario.{system}
 use Rattle.gq_traces.specs.internal.Alone_positions.{StepsAlone}
 use Rattle.gq_traces.proofs.alone_steps.steps_alone.Given as goal
@@ -8,7 +8,8 @@ abbrev pub invariant-loop-done : goal.invariant-loop-done
 invariant-loop-done l = record {
   few : l.done ≤ l.most;
   scenario : l.world.scenario ≡ l.fn.world.scenario;
-  stopped : l.world.stopped ≡ l.fn.world.stopped;
+  running : l.world.stopped ≡ false;
+  signals : l.world.signals ≡ l.fn.world.signals;
   steps : StepsAlone (system l.fn.world.scenario) l.programs l.leaf l.done l.fn.world.world l.world.world l.fn.aheads l.aheads;
 }
 

@@ -1,12 +1,12 @@
 -- The next leaf can, and is found, or it can't.
-use Rattle.std.proofs.Common.{◌≡◌, ◌∙◌, ◌≤◌, ◌+◌, ◌++◌, ◌∷◌, [], ℕ, suc, List, Bool, true, false, length, length-append, refl, ap, sym, subst, add-one, arith}
+use Rattle.std.proofs.Common.{◌≡◌, ◌∙◌, ◌≤◌, ◌+◌, ◌++◌, ◌∷◌, [], ℕ, suc, List, Bool, true, false, length, length-append, ap, sym, subst, add-one, arith}
 use Rattle.gq_model.specs.machine.Scenario.{Scenario, components, system}
 use Rattle.gq_model.specs.machine.World.{World}
-use Rattle.gq_laws.specs.Turn_effects.{can_run}
+use Rattle.gq_model.specs.machine.Rest.{can_run}
 use Rattle.gq_traces.proofs.Random_turn_schedule.{FoundSoFar, found_all, found_none, found_one}
 use Rattle.gq_traces.proofs.Leaf_number_bounds.{at_end, below}
 use Rattle.gq_traces.proofs.chance.able.Goals as goal
-use Rattle.gq_traces.proofs.chance.able.Goals.{then-can_take, else-can_take}
+use Rattle.gq_traces.proofs.chance.able.Goals.{then-can_run, else-can_run}
 
 -- the leaves so far, as an invariant
 record Found (s : Scenario) (w : World) (n : ℕ) (leaves : List ℕ) : Type 0 where
@@ -24,23 +24,23 @@ loop-number-preserved c =
     let count = c.leaf_count-number-end in
     let less = below c.table.result.now s c.table.ensures count.result l.number count.ensures.count c.loop-number-test.true in
     let before = l.invariant.few in
-    let next : Found s w.world (l.number + 1) c.if-can_take.leaves.items = elim c.if-can_take.branch [
-      | then-can_take t ↦
-          let can = can_at s w.world l.number c.new.result c.can_take.result true c.new.ensures c.can_take.ensures t.if-can_take.true in
-          let items : c.if-can_take.leaves.items ≡ l.leaves.items ++ l.number ∷ [] = ap (λ v. v.items) t.leaves-is ∙ t.push.ensures.items in
+    let next : Found s w.world (l.number + 1) c.if-can_run.leaves.items = elim c.if-can_run.branch [
+      | then-can_run t ↦
+          let can = can_at s w.world l.number c.new.result c.can_run.result true c.new.ensures c.can_run.ensures t.if-can_run.true in
+          let items : c.if-can_run.leaves.items ≡ l.leaves.items ++ l.number ∷ [] = ap (λ v. v.items) t.leaves-is ∙ t.push.ensures.items in
           let long = ap length items ∙ length-append l.leaves.items (l.number ∷ []) in
           record {
-            found = subst (λ (n : ℕ). FoundSoFar (system s) (components s) n w.world c.if-can_take.leaves.items) (sym (add-one l.number))
+            found = subst (λ (n : ℕ). FoundSoFar (system s) (components s) n w.world c.if-can_run.leaves.items) (sym (add-one l.number))
                 (subst (FoundSoFar (system s) (components s) (suc l.number) w.world) (sym items)
                 (found_one (system s) (components s) l.number w.world l.leaves.items less l.invariant.found can));
             few = omega (arith, before, long);
           }
-      | else-can_take t ↦
-          let can = can_at s w.world l.number c.new.result c.can_take.result false c.new.ensures c.can_take.ensures t.if-can_take.false in
-          let items : c.if-can_take.leaves.items ≡ l.leaves.items = ap (λ v. v.items) t.leaves-is in
+      | else-can_run t ↦
+          let can = can_at s w.world l.number c.new.result c.can_run.result false c.new.ensures c.can_run.ensures t.if-can_run.false in
+          let items : c.if-can_run.leaves.items ≡ l.leaves.items = ap (λ v. v.items) t.leaves-is in
           let long = ap length items in
           record {
-            found = subst (λ (n : ℕ). FoundSoFar (system s) (components s) n w.world c.if-can_take.leaves.items) (sym (add-one l.number))
+            found = subst (λ (n : ℕ). FoundSoFar (system s) (components s) n w.world c.if-can_run.leaves.items) (sym (add-one l.number))
                 (subst (FoundSoFar (system s) (components s) (suc l.number) w.world) (sym items)
                 (found_none (system s) (components s) l.number w.world l.leaves.items less l.invariant.found can));
             few = omega (arith, before, long);
@@ -48,8 +48,8 @@ loop-number-preserved c =
     ] in
     record { found = next.found; few = next.few }
 
-pub returns : goal.returns
-returns c =
+pub returns-clause-able : goal.returns-clause-able
+returns-clause-able c =
     let w = c.args.world.now in
     let l = c.loop-number in
     let count = c.leaf_count-number-end in

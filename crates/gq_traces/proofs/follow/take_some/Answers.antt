@@ -17,7 +17,8 @@ returns-then-alone-most-clause-follows c =
     let took = c.steps_alone-alone in
     let after : Followed = record { programs = f.programs; aheads = with_items f.aheads took.new.aheads } in
     let long = took.auto.aheads ∙ c.as_mut_slice.ensures.len in
-    followed w took.new.world f after c.args.leaf took.result took.ensures.scenario took.ensures.stopped c.requires.leaf c.counted.ensures.leaves
+    followed w took.new.world f after c.args.leaf took.result took.ensures.scenario took.ensures.running took.ensures.signals c.requires.leaf
+    c.counted.ensures.leaves
     c.requires.followed refl
     (steps_as w.scenario c.as_slice.result.now f.programs.items c.as_mut_slice.result.now f.aheads.items took.new.aheads after.aheads.items c.args.leaf
     took.result w.world took.new.world.world c.as_slice.ensures.value c.as_mut_slice.ensures.value (sym (with_items_is f.aheads took.new.aheads long))
@@ -30,7 +31,8 @@ take_turn-requires-clause-followed c =
     let took = c.steps_alone-alone in
     let after : Followed = record { programs = f.programs; aheads = with_items f.aheads took.new.aheads } in
     let long = took.auto.aheads ∙ c.as_mut_slice.ensures.len in
-    (followed w took.new.world f after c.args.leaf took.result took.ensures.scenario took.ensures.stopped c.requires.leaf c.counted.ensures.leaves
+    (followed w took.new.world f after c.args.leaf took.result took.ensures.scenario took.ensures.running took.ensures.signals c.requires.leaf
+    c.counted.ensures.leaves
     c.requires.followed refl
     (steps_as w.scenario c.as_slice.result.now f.programs.items c.as_mut_slice.result.now f.aheads.items took.new.aheads after.aheads.items c.args.leaf
     took.result w.world took.new.world.world c.as_slice.ensures.value c.as_mut_slice.ensures.value (sym (with_items_is f.aheads took.new.aheads long))
@@ -43,13 +45,14 @@ returns-clause-follows c =
     let took = c.steps_alone-alone in
     let after : Followed = record { programs = f.programs; aheads = with_items f.aheads took.new.aheads } in
     let long = took.auto.aheads ∙ c.as_mut_slice.ensures.len in
-    let first = followed w took.new.world f after c.args.leaf took.result took.ensures.scenario took.ensures.stopped c.requires.leaf c.counted.ensures.leaves
+    let first = followed w took.new.world f after c.args.leaf took.result took.ensures.scenario took.ensures.running took.ensures.signals c.requires.leaf
+    c.counted.ensures.leaves
     c.requires.followed refl
     (steps_as w.scenario c.as_slice.result.now f.programs.items c.as_mut_slice.result.now f.aheads.items took.new.aheads after.aheads.items c.args.leaf
     took.result w.world took.new.world.world c.as_slice.ensures.value c.as_mut_slice.ensures.value (sym (with_items_is f.aheads took.new.aheads long))
     took.ensures.steps) in
     let last = c.take_turn in
-    follows_both (after_turns (system w.scenario) c.args.leaf took.result) (after_turn (system w.scenario) c.args.leaf)
+    follows_both 0 0 (after_turns (system w.scenario) c.args.leaf took.result) (after_turn (system w.scenario) c.args.leaf)
     (after_turns (system w.scenario) c.args.leaf (took.result + 1)) w took.new.world last.new.world f after last.new.followed
     (turns_more (system w.scenario) c.args.leaf took.result) first
-    (subst (λ (r : Scenario). Follows (after_turn (system r) c.args.leaf) took.new.world last.new.world after last.new.followed) first.scenario last.ensures)
+    (subst (λ (r : Scenario). Follows 0 (after_turn (system r) c.args.leaf) took.new.world last.new.world after last.new.followed) first.scenario last.ensures)

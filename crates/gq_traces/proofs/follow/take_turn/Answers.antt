@@ -33,7 +33,7 @@ returns-in-Some c =
     one_taken w.scenario c.args.leaf w c.step-event.new.self f
     (record { programs = f.programs; aheads = with_items f.aheads c.go_on.new.aheads }) (event_of c.step-event.result c.step-event.new.line.items)
     c.in-Some._due
-    c.step-event.ensures.scenario c.step-event.ensures.stopped refl c.requires.followed
+    c.step-event.ensures.scenario c.step-event.ensures.stopped c.step-event.ensures.signals refl c.requires.followed
     (due_printed m w c.args.leaf c.as_slice-programs.result.now f.programs.items c.as_slice.result.now f.aheads.items c.next_due.result c.in-Some._due
     c.machine-machine.ensures.is c.as_slice-programs.ensures.value c.as_slice.ensures.value c.in-Some.is c.next_due.ensures)
     c.step-event.ensures.stepped

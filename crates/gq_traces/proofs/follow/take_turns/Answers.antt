@@ -28,10 +28,10 @@ loop-done-preserved c =
     let test = c.loop-done-test.true in
     record {
       few = omega (arith, few, within, test);
-      follows = follows_both (after_turns s c.args.leaf l.done) (after_turns s c.args.leaf took.result) (after_turns s c.args.leaf (l.done + took.result))
+      follows = follows_both 0 0 (after_turns s c.args.leaf l.done) (after_turns s c.args.leaf took.result) (after_turns s c.args.leaf (l.done + took.result))
           c.args.world.now l.world took.new.world c.args.followed.now l.followed took.new.followed (after_sum s c.args.leaf l.done took.result)
           l.invariant.follows
-          (subst (λ (r : Scenario). Follows (after_turns (system r) c.args.leaf took.result) l.world took.new.world l.followed took.new.followed)
+          (subst (λ (r : Scenario). Follows 0 (after_turns (system r) c.args.leaf took.result) l.world took.new.world l.followed took.new.followed)
           l.invariant.follows.scenario took.ensures.follows);
     }
 
@@ -41,5 +41,5 @@ returns c =
     let over = c.loop-done-test.false in
     let few = l.invariant.few in
     let same : l.done ≡ c.args.count = omega (arith, over, few) in
-    subst (λ n. Follows (after_turns (system c.args.world.now.scenario) c.args.leaf n) c.args.world.now l.world c.args.followed.now l.followed) same
+    subst (λ n. Follows 0 (after_turns (system c.args.world.now.scenario) c.args.leaf n) c.args.world.now l.world c.args.followed.now l.followed) same
     l.invariant.follows

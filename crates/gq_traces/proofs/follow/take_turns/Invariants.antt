@@ -8,7 +8,7 @@ use Rattle.gq_traces.proofs.follow.take_turns.Given as goal
 abbrev pub invariant-loop-done : goal.invariant-loop-done
 invariant-loop-done l = record {
   few : l.done ≤ l.count;
-  follows : Follows (after_turns (system l.fn.world.scenario) l.leaf l.done) l.fn.world l.world l.fn.followed l.followed;
+  follows : Follows 0 (after_turns (system l.fn.world.scenario) l.leaf l.done) l.fn.world l.world l.fn.followed l.followed;
 }
 
 abbrev pub decreases-loop-done : goal.decreases-loop-done

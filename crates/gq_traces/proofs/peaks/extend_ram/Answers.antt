@@ -1,6 +1,5 @@
 -- Three words, each with its number.
 use Rattle.std.proofs.Common.{◌∙◌, ◌++◌, ap, codes}
-use Rattle.std.specs.Prelude.{decimal}
 use Rattle.gq_model.specs.machine.Accounts.{entry}
 use Rattle.gq_traces.proofs.Printed_peaks.{entry_put}
 use Rattle.gq_traces.proofs.peaks.extend_ram.Goals as goal
@@ -12,5 +11,5 @@ returns-clause-bytes c =
     let first = c.extend_entry.ensures.bytes ∙ entry_put old (codes "used") p.used in
     let second = c.extend_entry-2.ensures.bytes ∙ entry_put c.extend_entry.new.line.items (codes "quota") p.quota
     ∙ ap (λ l. l ++ entry (codes "quota") p.quota) first in
-    c.extend_entry-3.ensures.bytes ∙ (λ i. c.extend_entry-2.new.line.items ++ codes " turn" ++ codes " " ++ decimal (c.from.ensures i))
+    c.extend_entry-3.ensures.bytes
     ∙ entry_put c.extend_entry-2.new.line.items (codes "turn") p.turn ∙ ap (λ l. l ++ entry (codes "turn") p.turn) second

@@ -8,7 +8,7 @@ use Rattle.gq_traces.proofs.peaks.take_turns.Given as goal
 abbrev pub invariant-loop-done : goal.invariant-loop-done
 invariant-loop-done l = record {
   few : l.done ≤ l.count;
-  peaked : Peaked (λ runs now. HasTurns (system l.fn.world.scenario) l.leaf runs l.turns now l.done) (turns_of (system l.fn.world.scenario) l.leaf l.done)
+  peaked : Peaked 0 (λ runs now. HasTurns (system l.fn.world.scenario) l.leaf runs l.turns now l.done) (turns_of (system l.fn.world.scenario) l.leaf l.done)
       l.turns (l.turns + l.done) l.fn.world l.world l.fn.peaks l.peaks;
 }
 

@@ -8,6 +8,7 @@ abbrev pub invariant-loop-taken : goal.invariant-loop-taken
 invariant-loop-taken l = record {
   scenario : l.world.scenario ≡ l.fn.world.scenario;
   running : l.world.stopped ≡ false;
+  signals : l.world.signals ≡ l.fn.world.signals;
   come : HasCome (system l.fn.world.scenario) l.leaf l.most l.taken l.fn.world.world l.world.world;
 }
 

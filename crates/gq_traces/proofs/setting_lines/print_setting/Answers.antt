@@ -1,5 +1,5 @@
 -- A setting, which is reported or not.
-use Rattle.std.proofs.Common.{◌≡◌, ◌∙◌, ◌<◌, ℕ, ap, length, subst, sym}
+use Rattle.std.proofs.Common.{◌≡◌, ◌∙◌, ◌<◌, ap, subst, sym}
 use Rattle.std.specs.Prelude.{slice_get}
 use Rattle.gq_model.specs.machine.Run.{label_at, set_input}
 use Rattle.gq_model.specs.machine.Scenario.{Scenario, components, system}
@@ -18,6 +18,7 @@ returns-then-is_reported g c turns =
     let i = c.args.input in
     let n = c.args.number in
     setting_printed g.W.Write.contents (prints_all c.args.reporting) x i n w new c.args.tracing.now c.set_input-set.ensures.scenario
+    (c.set_input-set.ensures.stopped ∙ c.requires.can.running) c.set_input-set.ensures.signals
     (subst (λ k. new.world ≡ set_input (system w.scenario) w.world x k n) c.from.ensures c.set_input-set.ensures.set)
     (subst (λ k. x < k) (sym c.counted.ensures.leaves) c.requires.leaf) c.requires.can turns c.args.out.now c.write_setting.new.out c.args.going
     c.write_setting.result c.is_reported.result c.value-before.result c.value-after.result
@@ -34,6 +35,7 @@ returns-else-is_reported g c turns =
     let i = c.args.input in
     let n = c.args.number in
     setting_unprinted g.W.Write.contents (prints_all c.args.reporting) x i n w new c.args.tracing.now c.set_input-set.ensures.scenario
+    (c.set_input-set.ensures.stopped ∙ c.requires.can.running) c.set_input-set.ensures.signals
     (subst (λ k. new.world ≡ set_input (system w.scenario) w.world x k n) c.from.ensures c.set_input-set.ensures.set)
     (subst (λ k. x < k) (sym c.counted.ensures.leaves) c.requires.leaf) c.requires.can turns c.args.out.now c.args.going
     c.is_reported.result c.value-before.result c.value-after.result

@@ -18,6 +18,8 @@ returns g c =
     let reported = c.print_taken.ensures w (record {
       stands = c.machine.ensures.stands;
       scenario = step.ensures.scenario;
+      running = step.ensures.stopped;
+      signals = step.ensures.signals;
       goes = step.ensures.stepped;
       before = use_in c.machine.result.now w h.leaf c.use_of-before.result c.machine.ensures.is c.use_of-before.ensures;
       after = use_in c.machine-2.result.now step.new.self h.leaf c.use_of-after.result c.machine-2.ensures.is c.use_of-after.ensures;
@@ -26,7 +28,8 @@ returns g c =
     }) c.requires.noted in
     record {
       scenario = step.ensures.scenario;
-      stopped = step.ensures.stopped;
+      running = step.ensures.stopped;
+      signals = step.ensures.signals;
       event = event_of step.result step.new.line.items;
       goes = step.ensures.stepped;
       reports = step_printed g.W.Write.contents (prints_all c.args.reporting) w.scenario h _ c.args.out.now c.begin-progress.new.out c.print_taken.new.out

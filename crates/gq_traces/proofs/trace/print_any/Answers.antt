@@ -1,5 +1,5 @@
 -- One turn.
-use Rattle.std.proofs.Common.{[], ◌+◌, sym, refl, subst}
+use Rattle.std.proofs.Common.{[], ◌+◌, arith, sym, refl, subst}
 use Rattle.gq_model.specs.machine.Scenario.{Scenario, system}
 use Rattle.gq_traces.specs.Trace.{after_turn}
 use Rattle.gq_traces.specs.internal.Flat.{AllStand, ArePrograms, programs_of}
@@ -19,6 +19,7 @@ returns-in_default g c =
     let none = subst (λ o. PrintsDue before.programs.items before.aheads.items s w.world c.args.leaf o) c.in_default.is due in
     record {
       scenario = refl;
+      signals = omega arith;
       can = c.requires.can;
       written = λ t on.
           goes_text g.W.Write.contents c.args.out.now c.args.out.now c.args.going c.args.going [] _
@@ -48,10 +49,12 @@ returns g c =
     stands_now in
     record {
       scenario = step.ensures.scenario;
+      signals = (let signals = step.ensures.signals in omega (arith, signals));
       can = record {
         programs = subst (λ (r : Scenario). ArePrograms before.programs.items (programs_of r)) (sym step.ensures.scenario) c.requires.can.programs;
         stands = subst (AllStand before.programs.items) (sym is_now) stands_now;
         noted = step.ensures.noted;
+        running = step.ensures.running;
       };
       written = λ t on.
           goes_text g.W.Write.contents c.args.out.now step.new.out c.args.going step.result _ _

@@ -1,5 +1,5 @@
 -- Turns of which nothing is reported, or one that is reported.
-use Rattle.std.proofs.Common.{◌≡◌, suc, ◌+◌, refl, arith, subst}
+use Rattle.std.proofs.Common.{◌≡◌, suc, ◌+◌, ap, refl, arith, subst}
 use Rattle.gq_model.specs.machine.Scenario.{system}
 use Rattle.gq_traces.specs.Trace.{after_turn, after_turns, turn_text, turns_text}
 use Rattle.gq_traces.specs.Traces_written.{prints_all}
@@ -31,15 +31,16 @@ returns-clause-reported g c =
     let n = none.result in
     let step = c.print_turn-going in
     let silent = none.ensures.silent in
-    let reported = turn_as g.W.Write.contents all s none.new.world.scenario x x (c.args.turns + n) none.new.world step.new.world none.new.tracing
+    let reported = turn_as g.W.Write.contents all s none.new.world.scenario x x (c.args.turns + c.from.result) none.new.world step.new.world none.new.tracing
     step.new.tracing
     c.args.out.now step.new.out c.args.going step.result silent.scenario refl step.ensures.reported in
     let one : suc n ≡ n + 1 = omega arith in
-    subst (λ k. PrintsTurns g.W.Write.contents (turns_text all s b x k) (after_turns (system s) x k) c.args.turns k w step.new.world c.args.tracing.now
+    subst (λ k. PrintsTurns 0 g.W.Write.contents (turns_text all s b x k) (after_turns (system s) x k) c.args.turns k w step.new.world c.args.tracing.now
     step.new.tracing c.args.out.now step.new.out c.args.going step.result) one
-    (turns_both g.W.Write.contents (turns_text all s b x n) (turn_text all s b x) (turns_text all s b x (suc n)) (after_turns (system s) x n)
-    (after_turn (system s) x) (after_turns (system s) x (suc n)) c.args.turns n 1 (suc n) (c.args.turns + n) w none.new.world step.new.world
-    c.args.tracing.now none.new.tracing step.new.tracing c.args.out.now c.args.out.now step.new.out c.args.going c.args.going step.result refl one
+    (turns_both g.W.Write.contents 0 0 (turns_text all s b x n) (turn_text all s b x) (turns_text all s b x (suc n)) (after_turns (system s) x n)
+    (after_turn (system s) x) (after_turns (system s) x (suc n)) c.args.turns n 1 (suc n) (c.args.turns + c.from.result) w none.new.world step.new.world
+    c.args.tracing.now none.new.tracing step.new.tracing c.args.out.now c.args.out.now step.new.out c.args.going c.args.going step.result
+    (ap (λ k. c.args.turns + k) c.from.ensures) one
     (λ u. turns_more all s b x n u) (λ u. after_more (system s) x n u)
     (silent_prints g.W.Write.contents all s x n c.args.turns w none.new.world c.args.tracing.now none.new.tracing c.args.out.now c.args.going refl silent)
     reported)

@@ -1,5 +1,5 @@
 -- A step of a leaf's own, reported.
-use Rattle.std.proofs.Common.{◌+◌, ◌<◌, false, length, subst, sym}
+use Rattle.std.proofs.Common.{◌+◌, ◌<◌, arith, false, length, subst, sym}
 use Rattle.gq_machine.specs.Events.{event_of}
 use Rattle.gq_model.specs.machine.Scenario.{Scenario, components, system}
 use Rattle.gq_traces.specs.Trace.{after_turn}
@@ -64,10 +64,12 @@ returns g c old own =
     let reported = c.print_taken.ensures old taken own.can.noted in
     record {
       scenario = taken.scenario;
+      signals = (let signals = taken.signals in omega (arith, signals));
       can = record {
         programs = subst (λ (r : Scenario). ArePrograms before.programs.items (programs_of r)) (sym taken.scenario) own.can.programs;
         stands = subst (AllStand before.programs.items) (sym is_now) stands_now;
         noted = reported.noted;
+        running = taken.running;
       };
       written = λ t on.
           goes_text g.W.Write.contents c.args.out.now c.print_taken.new.out c.args.going c.print_taken.result.going _ _

@@ -1,9 +1,8 @@
 -- Some turns after the others.
-use Rattle.std.proofs.Common.{◌≡◌, ◌+◌, refl, arith, subst, sym}
+use Rattle.std.proofs.Common.{◌≡◌, ◌+◌, ap, refl, arith}
 use Rattle.gq_model.specs.machine.Scenario.{system}
 use Rattle.gq_traces.specs.Trace.{after_turns, turns_text}
 use Rattle.gq_traces.specs.Traces_written.{prints_all}
-use Rattle.gq_traces.specs.internal.Noted.{IsUse}
 use Rattle.gq_traces.specs.internal.Printed_steps.{budgets_of}
 use Rattle.gq_traces.proofs.Still_noted.{use_in}
 use Rattle.gq_traces.proofs.Turns_going.{no_turns, some_as, turns_both, turns_end}
@@ -37,13 +36,14 @@ loop-done-preserved g c =
     let some = step.ensures.some in
     let within = l.invariant.few in
     let test = c.loop-done-test.true in
-    let reported = some_as g.W.Write.contents all s l.world.scenario x x m (c.args.turns + n) l.world step.new.world l.tracing
+    let reported = some_as g.W.Write.contents all s l.world.scenario x x m (c.args.turns + c.from.result) l.world step.new.world l.tracing
     step.new.tracing l.out step.new.out l.going step.result.0 l.invariant.reported.scenario refl step.ensures.reported in
     record {
       few = omega (arith, few, within, test);
-      reported = turns_both g.W.Write.contents (turns_text all s b x n) (turns_text all s b x m) (turns_text all s b x (n + m)) (after_turns (system s) x n)
-          (after_turns (system s) x m) (after_turns (system s) x (n + m)) c.args.turns n m (n + m) (c.args.turns + n) w l.world step.new.world
-          c.args.tracing.now l.tracing step.new.tracing c.args.out.now l.out step.new.out c.args.going l.going step.result.0 refl refl
+      reported = turns_both g.W.Write.contents 0 0 (turns_text all s b x n) (turns_text all s b x m) (turns_text all s b x (n + m)) (after_turns (system s) x n)
+          (after_turns (system s) x m) (after_turns (system s) x (n + m)) c.args.turns n m (n + m) (c.args.turns + c.from.result) w l.world step.new.world
+          c.args.tracing.now l.tracing step.new.tracing c.args.out.now l.out step.new.out c.args.going l.going step.result.0
+          (ap (λ k. c.args.turns + k) c.from.ensures) refl
           (λ u. turns_sum all s b x n m u) (λ u. after_sum (system s) x n m u) l.invariant.reported reported;
       before = step.ensures.after;
     }

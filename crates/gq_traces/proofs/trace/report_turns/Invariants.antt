@@ -10,7 +10,7 @@ use Rattle.gq_traces.proofs.trace.report_turns.Given as goal
 abbrev pub invariant-loop-done : goal.invariant-loop-done
 invariant-loop-done g l = record {
   few : l.done ≤ l.count;
-  reported : PrintsTurns g.W.Write.contents
+  reported : PrintsTurns 0 g.W.Write.contents
       (turns_text (prints_all l.reporting) l.fn.world.scenario (budgets_of l.fn.world.scenario) l.leaf l.done)
       (after_turns (system l.fn.world.scenario) l.leaf l.done) l.turns l.done l.fn.world l.world l.fn.tracing l.tracing l.fn.out l.out l.fn.going l.going;
   before : IsUse l.world.scenario l.world.world l.leaf l.before;

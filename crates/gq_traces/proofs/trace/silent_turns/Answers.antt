@@ -19,7 +19,8 @@ returns-in-Changes-clause-silent c =
     let after : Tracing = record { programs = t.programs; aheads = with_items t.aheads took.new.aheads; notes = t.notes } in
     let long = took.auto.aheads ∙ c.as_mut_slice.ensures.len in
     subst (λ all. IsSilent all c.args.leaf took.result w took.new.world t after) (sym (ap prints_all c.in-Changes.is))
-    (silent w took.new.world t after c.args.leaf took.result took.ensures.scenario c.requires.leaf c.counted.ensures.stands c.counted.ensures.leaves
+    (silent w took.new.world t after c.args.leaf took.result took.ensures.scenario took.ensures.running took.ensures.signals c.requires.leaf
+    c.counted.ensures.stands c.counted.ensures.leaves
     c.requires.can refl refl
     (steps_as w.scenario c.as_slice.result.now t.programs.items c.as_mut_slice.result.now t.aheads.items took.new.aheads after.aheads.items c.args.leaf
     took.result w.world took.new.world.world c.as_slice.ensures.value c.as_mut_slice.ensures.value (sym (with_items_is t.aheads took.new.aheads long))

@@ -1,10 +1,9 @@
 -- The step that a leaf can take.
-use Rattle.std.proofs.Common.{◌≡◌, [], inl, inr, ◌∙◌, ap, sym, subst, Some, None}
+use Rattle.std.proofs.Common.{◌≡◌, inl, inr, ◌∙◌, sym, subst, Some, None}
 use Rattle.gq_model.specs.declared.phase.Phase.{Phase}
-use Rattle.gq_traces.specs.Step_positions.{place}
 use Rattle.gq_traces.specs.internal.Printed_steps.{IsDue}
 use Rattle.gq_model.specs.declared.phase.Phase.TheVariants.{Pending, Running, Blocked, Serving, Handling, Exited}
-use Rattle.gq_traces.proofs.Leaf_next_step.{due_then, first_asked, no_request, own_due, parts, request_due}
+use Rattle.gq_traces.proofs.Leaf_next_step.{due_then, no_start, own_due, parts, section_read, start_due}
 use Rattle.gq_traces.proofs.tracker.next_due.Goals as goal
 
 pub returns-in-Running : goal.returns-in-Running
@@ -33,27 +32,31 @@ pub returns-in-Some : goal.returns-in-Some
 returns-in-Some c ts aheads =
     let p = parts c.args.machine.now.scenario c.args.machine.now.world c.args.leaf c.requires.leaf c.requires.leaves c.args.programs.now c.args.aheads.now
     c.requires.programs ts aheads in
-    let r = first_asked c.args.machine.now.scenario c.args.machine.now.world c.args.leaf c.requires.leaf c.requires.leaves c.args.programs.now
+    let is = section_read c.args.machine.now.scenario c.args.machine.now.world c.args.leaf c.requires.leaf c.requires.leaves c.args.programs.now
     c.args.aheads.now c.requires.programs ts aheads p
-    c.in-Some.asked (sym c.in-Some.is ∙ c.oldest.ensures) in
-    subst (IsDue (Some c.request_due.result)) (sym (due_then c.args.machine.now.scenario c.args.machine.now.world c.args.leaf c.requires.leaf
-    c.requires.leaves c.args.programs.now c.args.aheads.now c.requires.programs ts aheads p
+    c.next_section.result c.next_section.ensures ∙ c.in-Some.is in
+    subst (IsDue (Some c.start_due.result)) (sym (due_then c.args.machine.now.scenario c.args.machine.now.world c.args.leaf c.requires.leaf c.requires.leaves
+    c.args.programs.now
+    c.args.aheads.now c.requires.programs ts aheads p
     c.phase.result c.phase.ensures Serving c.in-Serving.is
-    ∙ request_due c.args.machine.now.scenario c.args.machine.now.world c.args.leaf c.requires.leaf c.requires.leaves c.args.programs.now c.args.aheads.now
-    c.requires.programs ts aheads p
-    r.0 r.1))
-    (c.request_due.ensures ∙ ap (λ s. place s 0 []) r.2)
+    ∙ start_due c.args.machine.now.scenario c.args.machine.now.world c.args.leaf c.requires.leaf c.requires.leaves c.args.programs.now
+    c.args.aheads.now c.requires.programs ts aheads p
+    c.in-Some.section is))
+    c.start_due.ensures
 
 pub returns-in-None : goal.returns-in-None
 returns-in-None c ts aheads =
     let p = parts c.args.machine.now.scenario c.args.machine.now.world c.args.leaf c.requires.leaf c.requires.leaves c.args.programs.now c.args.aheads.now
     c.requires.programs ts aheads in
+    let is = section_read c.args.machine.now.scenario c.args.machine.now.world c.args.leaf c.requires.leaf c.requires.leaves c.args.programs.now
+    c.args.aheads.now c.requires.programs ts aheads p
+    c.next_section.result c.next_section.ensures ∙ c.in-None.is in
     subst (IsDue None) (sym (due_then c.args.machine.now.scenario c.args.machine.now.world c.args.leaf c.requires.leaf c.requires.leaves c.args.programs.now
     c.args.aheads.now c.requires.programs ts aheads p
     c.phase.result c.phase.ensures Serving c.in-Serving.is
-    ∙ no_request c.args.machine.now.scenario c.args.machine.now.world c.args.leaf c.requires.leaf c.requires.leaves c.args.programs.now c.args.aheads.now
-    c.requires.programs ts aheads p
-    (sym c.in-None.is ∙ c.oldest.ensures))) tt
+    ∙ no_start c.args.machine.now.scenario c.args.machine.now.world c.args.leaf c.requires.leaf c.requires.leaves c.args.programs.now
+    c.args.aheads.now c.requires.programs ts aheads p
+    is)) tt
 
 pub returns-in-Pending : goal.returns-in-Pending
 returns-in-Pending c ts aheads =

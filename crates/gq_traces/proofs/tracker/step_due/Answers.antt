@@ -18,5 +18,7 @@ pub returns : goal.returns
 returns c d l ts t there leaf aheads at =
     let m = c.args.machine.now in
     let current = from_some (slice_get m.world.leaves c.args.leaf) (λ z. current_seen c.current.result ≡ z.current) l leaf c.current.ensures in
+    let reacting = from_some (slice_get m.world.leaves c.args.leaf) (λ z. c.reacting.result ≡ z.reacting) l leaf c.reacting.ensures in
     c.due_in.ensures (components m.scenario) d ts t c.requires.programs there aheads at
-    ∙ ap (λ s. next_place d s t.todo t.loops) (c.section_of.ensures ∙ ap section_of current)
+    ∙ ap (λ s. next_place d s t.todo t.loops)
+    (c.section_of-section.ensures ∙ (ap (λ z. section_of z c.reacting.result) current ∙ ap (section_of l.current) reacting))

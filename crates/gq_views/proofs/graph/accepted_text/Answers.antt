@@ -1,8 +1,9 @@
-use Rattle.std.proofs.Common.{◌∙◌, ap}
-use Rattle.std.proofs.lemmas.Result.{IfOk-weaker}
+use Rattle.std.proofs.Common.{◌≡◌, ◌∙◌, IfOk, subst}
+use Rattle.gq_model.specs.machine.Scenario.{Scenario}
 use Rattle.gq_views.specs.Tree.{graph_text}
 use Rattle.gq_views.proofs.graph.accepted_text.Goals as goal
 
 pub returns : goal.returns
 returns c =
-    IfOk-weaker c.drawn_text-text.result _ _ (λ text e. e ∙ ap graph_text (c.in_ok-drawn.ensures ∙ c.table.ensures)) c.drawn_text-text.ensures
+    subst (λ (s : Scenario). IfOk c.drawn_text-text.result (λ text. text.items ≡ graph_text s)) (c.in_ok-drawn.ensures ∙ c.table.ensures)
+    c.drawn_text-text.ensures

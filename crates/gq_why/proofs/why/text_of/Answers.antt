@@ -30,7 +30,8 @@ verified-verified-requires c =
     let less = leaf_within c.args.scenario.now c.args.free.now cs x r.free r.components r.there in
     let there = at_place cs x component less (c.index-components-index.is ∙ ap (λ k. get_or cs k component) c.index.ensures) in
     let read = c.index-programs-index.is ∙ ap (λ k. get_or c.as_slice-programs.result.now k program) c.index-2.ensures in
-    subst (λ (l : Interfaces). program_fault (subject_of program component.node.provides l component.node.inputs) ≡ _) (sym c.interfaces.ensures)
+    subst (λ (l : Interfaces). program_fault (subject_of program component.node.provides l component.node.inputs component.node.signals) ≡ _)
+    (sym c.interfaces.ensures)
     (breaks_none c.args.free.now cs c.as_slice-programs.result.now x component program r.components (c.as_slice-programs.ensures.value ∙ r.programs) there read
     r.faultless)
 
@@ -50,7 +51,8 @@ returns c =
     let less = leaf_within s free cs x r.free r.components r.there in
     let there = at_place cs x component less (c.index-components-index.is ∙ ap (λ k. get_or cs k component) c.index.ensures) in
     let read = c.index-programs-index.is ∙ ap (λ k. get_or c.as_slice-programs.result.now k program) c.index-2.ensures in
-    let judged = c.verified-verified.ensures ∙ (ap (λ (l : Interfaces). subject_of program component.node.provides l component.node.inputs) c.interfaces.ensures
+    let judged = c.verified-verified.ensures
+    ∙ (ap (λ (l : Interfaces). subject_of program component.node.provides l component.node.inputs component.node.signals) c.interfaces.ensures
     ∙ subject_is free cs c.as_slice-programs.result.now x component program r.components (c.as_slice-programs.ensures.value ∙ r.programs) there read) in
     let node = c.leaf.result.now in
     parts_put s (system free) x component c.verified-verified.result _ c.quantum-quantum.result node.quantum _ _ _ _ c.version.ensures judged

@@ -4,7 +4,7 @@ use Rattle.std.proofs.lemmas.Result.{err_from_is_err_and}
 use Rattle.std.specs.Io.KnownBytes.{Appends}
 use Rattle.gq_model.specs.machine.Accounts.{account_line, account_lines}
 use Rattle.gq_model.specs.rules.Accept.{step_budgets}
-use Rattle.gq_world.specs.Account_lines.{accounts_by}
+use Rattle.gq_world.specs.Account_lines.{accounts_by, stored_budgets}
 use Rattle.gq_output.specs.Writes.{IsPrefix, IsRaised}
 use Rattle.gq_output.proofs.Written_byte_facts.{appends_nothing}
 use Rattle.gq_world.proofs.Line_text_prefixes.{next_line, next_prefix, all_lines}
@@ -19,7 +19,7 @@ line_of-line-requires-clause-node g c = omega (arith, c.new.ensures, c.account_c
 pub returns-in_err-put : goal.returns-in_err-put
 returns-in_err-put g c =
     let m = c.args.machine.now in
-    let all = accounts_by m.scenario m.world (step_budgets c.args.budgets.now) in
+    let all = accounts_by m.scenario m.world (stored_budgets m.world (step_budgets c.args.budgets.now)) in
     let l = c.loop-number in
     let p = err_from_is_err_and c.from_residual.result c.from_residual.ensures.1 in
     let a = g.W.Write.contents c.args.out.now.writer in
@@ -39,7 +39,7 @@ returns-in_err-put g c =
 pub loop-number-preserved : goal.loop-number-preserved
 loop-number-preserved g c =
     let m = c.args.machine.now in
-    let all = accounts_by m.scenario m.world (step_budgets c.args.budgets.now) in
+    let all = accounts_by m.scenario m.world (stored_budgets m.world (step_budgets c.args.budgets.now)) in
     let l = c.loop-number in
     let a = g.W.Write.contents c.args.out.now.writer in
     let b = g.W.Write.contents l.out.writer in
@@ -57,7 +57,7 @@ loop-number-preserved g c =
 pub returns : goal.returns
 returns g c =
     let m = c.args.machine.now in
-    let all = accounts_by m.scenario m.world (step_budgets c.args.budgets.now) in
+    let all = accounts_by m.scenario m.world (stored_budgets m.world (step_budgets c.args.budgets.now)) in
     let l = c.loop-number in
     let a = g.W.Write.contents c.args.out.now.writer in
     let b = g.W.Write.contents l.out.writer in

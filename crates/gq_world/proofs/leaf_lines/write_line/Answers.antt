@@ -1,4 +1,4 @@
-use Rattle.std.proofs.Common.{◌≡◌, ◌∙◌, List, ℕ, Option, IfSome, ap, sym, subst}
+use Rattle.std.proofs.Common.{◌≡◌, ◌∙◌, Option, IfSome, ap, sym, subst}
 use Rattle.std.specs.Prelude.{slice_get}
 use Rattle.gq_model.specs.machine.Doing as doing
 use Rattle.gq_model.specs.machine.Run.{line_of}

@@ -5,16 +5,16 @@ use Rattle.gq_model.specs.machine.Scenario.{Scenario}
 use Rattle.gq_model.specs.machine.World.{World}
 use Rattle.gq_model.specs.rules.Accept.{step_budgets}
 use Rattle.gq_resolve.specs.NodeTables.{node_rows}
-use Rattle.gq_world.specs.Account_lines.{accounts_by}
+use Rattle.gq_world.specs.Account_lines.{accounts_by, stored_budgets}
 use Rattle.gq_world.proofs.World_account_lines.{LeafRead, account_at_node, leaf_within, reported_is}
 use Rattle.gq_world.proofs.node_accounts.account_of.Goals as goal
 use Rattle.gq_world.proofs.node_accounts.account_of.Goals.{in-Some, in-None}
 
-pub leaf_account-requires : goal.leaf_account-requires
-leaf_account-requires c =
+pub leaf_account-requires-clause-leaf : goal.leaf_account-requires-clause-leaf
+leaf_account-requires-clause-leaf c =
     let s = c.args.machine.now.scenario in
     let w = c.args.machine.now.world in
-    let reported = step_budgets c.args.budgets.now in
+    let reported = stored_budgets w (step_budgets c.args.budgets.now) in
     let n = c.args.node in
     let p = account_at_node s w reported c.requires.leaves n c.requires.node in
     let P : Scenario → Type 0 = λ s. IfSome (slice_get (node_rows s) n) (λ r. c.leaf.result ≡ r.leaf) in
@@ -31,11 +31,11 @@ caps_of : (s : Scenario) (w : World) (reported : List ℕ) (n q : ℕ) → IfSom
 unfolding accounts_by
 caps_of s w reported n q h = h
 
-pub returns : goal.returns
-returns c =
+pub returns-clause-reported : goal.returns-clause-reported
+returns-clause-reported c =
     let s = c.args.machine.now.scenario in
     let w = c.args.machine.now.world in
-    let reported = step_budgets c.args.budgets.now in
+    let reported = stored_budgets w (step_budgets c.args.budgets.now) in
     let n = c.args.node in
     let p = account_at_node s w reported c.requires.leaves n c.requires.node in
     let ram = ram_of s w reported n c.quota-quota.result.ram (c.quota-quota.ensures.ram reported) in
@@ -44,7 +44,7 @@ returns c =
     let found = subst P c.table.ensures c.leaf.ensures in
     let leaf = c.match-leaf.leaf in
     let read : LeafRead s w reported c.leaf.result leaf = elim c.match-leaf.branch [
-      | in-Some b ↦ subst (λ (o : Option ℕ). LeafRead s w reported o leaf) (sym b.in-Some.is) (b.leaf_account.result, b.leaf-is, b.leaf_account.ensures)
+      | in-Some b ↦ subst (λ (o : Option ℕ). LeafRead s w reported o leaf) (sym b.in-Some.is) (b.leaf_account.result, b.leaf-is, b.leaf_account.ensures.reports)
       | in-None b ↦ subst (λ (o : Option ℕ). LeafRead s w reported o leaf) (sym b.in-None.is) b.leaf-is
     ] in
     reported_is s w reported (accounts_by s w reported) n p c.quota-quota.result.ram c.quota-quota.result.caps c.leaf.result leaf c.new.result c.new.ensures

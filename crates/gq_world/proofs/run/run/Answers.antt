@@ -1,6 +1,6 @@
 use Rattle.std.proofs.Common.{◌≡◌, ap, sym, subst, List, ℕ, Result, Ok, Err}
 use Rattle.std.specs.Prelude.{OnOk}
-use Rattle.gq_model.specs.machine.Scenario.{Scenario, components}
+use Rattle.gq_model.specs.machine.Scenario.{Scenario}
 use Rattle.gq_model.specs.texts.Turns.{turned}
 use Rattle.gq_load.specs.Load.{loaded}
 use Rattle.gq_world.specs.Headline.{WritesPromised}

@@ -1,10 +1,7 @@
-use Rattle.std.proofs.Common.{◌∙◌, List, ℕ, Option, subst}
 use Rattle.std.proofs.lemmas.Result.{err_from_is_err_and}
-use Rattle.std.specs.Io.KnownBytes.{Appends}
 use Rattle.gq_world.specs.Account_lines.{accounts_text}
-use Rattle.gq_output.specs.Writes.{IsPrefix}
 use Rattle.gq_reports.specs.Whole.{whole_of}
-use Rattle.gq_output.proofs.Written_byte_facts.{on_ok, on_err}
+use Rattle.gq_world.specs.internal.Act_transitions.{acts_of_lines}
 use Rattle.gq_reports.proofs.Command_text_endings.{since}
 use Rattle.gq_world.proofs.Run_text.{complete, cut_lines, cut_turns}
 use Rattle.gq_world.proofs.run.run_world.Goals as goal
@@ -26,7 +23,7 @@ pub returns : goal.returns
 returns g c =
     let old = c.args.world.now in
     let new = c.take_all.new.world in
-    let whole = whole_of old.scenario c.args.turns.now in
+    let whole = whole_of old.scenario (acts_of_lines old.scenario c.args.turns.now) in
     let a = g.W.Write.contents c.args.out.now.writer in
     let b = g.W.Write.contents c.take_all.new.out.writer in
     let d = g.W.Write.contents c.write_accounts.new.out.writer in

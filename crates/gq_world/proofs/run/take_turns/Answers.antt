@@ -17,6 +17,7 @@ returns-in_err-left g c =
     let p = err_from_is_err_and c.from_residual.result c.from_residual.ensures.1 in
     rw (p.1) (record {
       scenario = c.turns.ensures.scenario ∙ l.invariant.scenario;
+      signals = (let same = c.turns.ensures.signals ∙ l.invariant.signals in omega (arith, same));
       ran = tt;
       counted = tt;
       cut = cut_on s x l.left 0 (omega arith) (turns_of (system s) x c.args.count) c.args.world.now l.world c.turns.new.self l.invariant.scenario a b d
@@ -37,6 +38,7 @@ loop-left-preserved g c =
     let less = l.invariant.few in
     record {
       scenario = e.scenario ∙ l.invariant.scenario;
+      signals = c.turns.ensures.signals ∙ l.invariant.signals;
       few = omega (arith, few, less);
       left = goes_on s x l.left c.in_ok-left.left few (turns_of (system s) x c.args.count) c.args.world.now l.world c.turns.new.self l.invariant.scenario a b d
           l.invariant.left e.ran;

@@ -8,6 +8,7 @@ use Rattle.gq_world.proofs.run.take_turns.Given as goal
 abbrev pub invariant-loop-left : goal.invariant-loop-left
 invariant-loop-left g l = record {
   scenario : l.world.scenario ≡ l.fn.world.scenario;
+  signals : l.world.signals ≡ l.fn.world.signals;
   few : l.left ≤ l.count;
   left : HasLeft (turns_of (system l.fn.world.scenario) l.leaf l.left) (turns_of (system l.fn.world.scenario) l.leaf l.count) l.fn.world l.world
       (g.W.Write.contents l.fn.out.writer) (g.W.Write.contents l.out.writer);

@@ -1,7 +1,8 @@
 -- A turn more.
-use Rattle.std.proofs.Common.{◌≡◌, ℕ, ◌+◌, ◌∷◌, ◌++◌, [], None, rules, ap, ◌∙◌}
-use Rattle.gq_model.specs.declared.act.Act.{Act}
+use Rattle.std.proofs.Common.{◌≡◌, ◌+◌, ◌∷◌, ◌++◌, [], None, rules, ap, ◌∙◌}
+use Rattle.gq_model.specs.declared.act.TurnLine.{TurnLine}
 use Rattle.gq_model.specs.declared.act.Act.TheVariants.{Turns}
+use Rattle.gq_model.specs.declared.act.TurnLine.TheVariants.{Gives}
 use Rattle.gq_model.specs.texts.Letters.{lines}
 use Rattle.gq_init.specs.TurnReading.{reported}
 use Rattle.gq_init.specs.internal.Piecewise_lines.{lines_read}
@@ -13,7 +14,7 @@ loop-turn-preserved c =
     let l = c.loop-turn in
     let all = c.args.table.now in
     let count = c.in-Some.turn.1 in
-    let turn : ℕ × Act = (c.in-Some.turn.0, Turns count) in
+    let turn : TurnLine = Gives c.in-Some.turn.0 (Turns count) in
     let after = c.in-Some.after.now in
     let items : c.push.new.self.items ≡ l.self.items.items ++ turn ∷ [] = c.in-Ok.ensures.items ∙ ap (λ t. l.self.items.items ++ t ∷ []) c.new.ensures in
     record {

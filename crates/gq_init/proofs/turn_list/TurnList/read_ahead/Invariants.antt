@@ -1,6 +1,6 @@
 use Rattle.std.proofs.Common.{◌≡◌, ◌≤◌, ◌+◌, ◌++◌, Bool, List, ℕ, None, length}
 use Rattle.gq_model.specs.texts.Letters.{lines}
-use Rattle.gq_model.specs.texts.Turns.{greatest_turns}
+use Rattle.gq_model.specs.machine.Rest.{greatest_turns}
 use Rattle.gq_init.specs.TurnReading.{reported}
 use Rattle.gq_init.specs.internal.Piecewise_lines.{lines_read}
 use Rattle.gq_init.proofs.turn_list.TurnList.read_ahead.Given as goal

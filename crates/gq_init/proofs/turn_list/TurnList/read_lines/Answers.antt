@@ -1,8 +1,9 @@
 -- A line more.
-use Rattle.std.proofs.Common.{◌≡◌, ◌≤◌, ◌+◌, ◌∷◌, ◌++◌, [], ℕ, Some, None, Ok, rules, sym, ap, subst, ◌∙◌}
+use Rattle.std.proofs.Common.{◌≡◌, ◌≤◌, ◌+◌, ◌∷◌, ◌++◌, [], Some, None, Ok, rules, sym, ap, subst, ◌∙◌}
 use Rattle.std.specs.Prelude.{option_map, IfOk, IfSome}
-use Rattle.gq_model.specs.declared.act.Act.{Act}
-use Rattle.gq_model.specs.texts.Turns.{greatest_turns, turns_given}
+use Rattle.gq_model.specs.declared.act.TurnLine.{TurnLine}
+use Rattle.gq_model.specs.texts.Turns.{line_turns}
+use Rattle.gq_model.specs.machine.Rest.{greatest_turns}
 use Rattle.gq_scenario.specs.Text_pieces.{lines_left}
 use Rattle.gq_init.specs.TurnReading.{reported}
 use Rattle.gq_init.specs.internal.Piecewise_lines.{lines_read}
@@ -33,16 +34,16 @@ loop-left-preserved c =
     let l = c.loop-left in
     let r = c.read_ahead.new.self in
     let all = c.args.table.now in
-    let turn : ℕ × Act = (c.in-Ok-Some.leaf, c.in-Ok-Some.act) in
+    let turn : TurnLine = c.in-Ok-Some.turn in
     let found : c.in-Ok-Some.field-0 ≡ Some turn = rw (c.in-Ok-Some.is) at c.in-Ok-Some.field-0-is in
     let said = c.in-Ok-Some.is ∙ ap Ok found in
     let items : c.push.new.self.items ≡ r.items.items ++ turn ∷ [] = c.in-Ok.ensures.items ∙ ap (λ t. r.items.items ++ t ∷ []) c.of.ensures in
-    let given = c.turns_given.ensures in
+    let given = c.line_turns.ensures in
     let rest = lines_read c.args.is_last (lines_left (option_map (λ rest. rest.now) c.next_turn-said.result.1)) in
-    let room = subst (λ s. IfOk s (λ o. IfSome o (λ t. r.total + turns_given t.1 ≤ greatest_turns))) said c.next_turn-said.ensures.few in
+    let room = subst (λ s. IfOk s (λ o. IfSome o (λ t. r.total + line_turns t ≤ greatest_turns))) said c.next_turn-said.ensures.few in
     record {
       reported = λ more.
-          ap (λ ts. reported all ts (r.total + c.turns_given.result) (r.line + 1) None (rest ++ more)) items
+          ap (λ ts. reported all ts (r.total + c.line_turns.result) (r.line + 1) None (rest ++ more)) items
           ∙ (ap (λ n. reported all (r.items.items ++ turn ∷ []) (r.total + n) (r.line + 1) None (rest ++ more)) given
           ∙ (read_some all r.items.items r.total r.line c.args.is_last c.in_ok-rest.rest.now c.next_turn-said.result.0
           c.next_turn-said.result.1 c.next_turn-said.ensures.line (sym c.is_begun.ensures ∙ c.if-is_begun.false) turn said more

@@ -1,6 +1,6 @@
 use Rattle.std.proofs.Common.{◌≡◌, ◌≤◌, ◌+◌, ◌++◌, List, ℕ, None, length, option_map}
 use Rattle.gq_model.specs.texts.Letters.{lines}
-use Rattle.gq_model.specs.texts.Turns.{greatest_turns}
+use Rattle.gq_model.specs.machine.Rest.{greatest_turns}
 use Rattle.gq_scenario.specs.Text_pieces.{lines_left, length_left}
 use Rattle.gq_init.specs.TurnReading.{reported}
 use Rattle.gq_init.specs.internal.Piecewise_lines.{lines_read}

@@ -1,6 +1,7 @@
 -- The first place of a section.
 use Rattle.std.proofs.Common.{ap}
 use Rattle.gq_bytecode.specs.Cores.{Core}
+use Rattle.gq_leaf.proofs.Signal_counts.{one_more}
 use Rattle.gq_leaf.proofs.Sound_program_code.{first_inside}
 use Rattle.gq_leaf.proofs.leaf.Leaf.begin.Goals as goal
 
@@ -11,4 +12,5 @@ invariant_of-self c =
       code = c.self.invariant.code;
       inside = first_inside i.code c.args.current.section c.begin.new.self.position c.self.invariant.code (ap (λ (r : Core). r.position) c.begin.ensures);
       placed = c.place-self-inside.ensures;
+      taken = one_more i.steps i.signals c.self.invariant.taken;
     }

@@ -7,8 +7,9 @@ use Rattle.gq_bytecode.specs.Cores.{Core}
 use Rattle.gq_bytecode.specs.declared.operation.Operation.TheVariants as operation
 use Rattle.gq_leaf.specs.Leaf_states.{stepped}
 use Rattle.gq_statements.specs.Slot_statements.{done}
-use Rattle.gq_leaf.specs.Coded.{Coded, operation_of}
+use Rattle.gq_leaf.specs.Coded.{Coded, operation_of, coded_of}
 use Rattle.gq_leaf.specs.Leaf_steps.{LeadsTo}
+use Rattle.gq_leaf.proofs.Signal_counts.{one_more}
 use Rattle.gq_leaf.proofs.Blocked_leaf_world.{as_it_is, asked_fails, asked_leads}
 use Rattle.gq_leaf.proofs.Operation_leads_step.{inside_then, slot_next, small_then}
 use Rattle.gq_leaf.proofs.leaf.Leaf.close.Goals as goal
@@ -19,33 +20,34 @@ no_end p e = cc
 pub close-requires-clause-place : goal.close-requires-clause-place
 close-requires-clause-place c =
     let i = c.self.inside in
-    let v : Coded = record { state = record { phase = i.phase; current = i.current; registers = i.registers; steps = i.steps }; code = i.code } in
+    let v : Coded = coded_of i.phase i.current i.reacting i.registers i.steps i.signals i.code in
     slot_next v (operation.Close c.args.place) c.self.invariant.code (ap operation_of c.self.view_is ∙ c.requires.due.next) (no_end c.args.place)
     (instruction.Close c.args.place) refl c.args.place refl
 
 pub advance-requires : goal.advance-requires
 advance-requires c =
     let i = c.self.inside in
-    let v : Coded = record { state = record { phase = i.phase; current = i.current; registers = i.registers; steps = i.steps }; code = i.code } in
+    let v : Coded = coded_of i.phase i.current i.reacting i.registers i.steps i.signals i.code in
     small_then v (operation.Close c.args.place) c.self.invariant.code (ap operation_of c.self.view_is ∙ c.requires.due.next) (no_end c.args.place) i.registers
     refl
 
 pub invariant_of-self : goal.invariant_of-self
 invariant_of-self c =
     let i = c.self.inside in
-    let v : Coded = record { state = record { phase = i.phase; current = i.current; registers = i.registers; steps = i.steps }; code = i.code } in
+    let v : Coded = coded_of i.phase i.current i.reacting i.registers i.steps i.signals i.code in
     record {
       code = c.self.invariant.code;
       inside = inside_then v (operation.Close c.args.place) c.self.invariant.code (ap operation_of c.self.view_is ∙ c.requires.due.next) (no_end c.args.place)
           (λ size p h. h) c.advance.new.self
           (ap (λ (r : Core). r.position) c.advance.ensures);
       placed = c.self.invariant.placed;
+      taken = one_more i.steps i.signals c.self.invariant.taken;
     }
 
 pub returns-in-Err-clause-step : goal.returns-in-Err-clause-step
 returns-in-Err-clause-step c bs =
     let i = c.self.inside in
-    let v : Coded = record { state = record { phase = i.phase; current = i.current; registers = i.registers; steps = i.steps }; code = i.code } in
+    let v : Coded = coded_of i.phase i.current i.reacting i.registers i.steps i.signals i.code in
     let P : Coded → Type 0 = λ o. LeadsTo c.args.number bs o o c.args.slots.now c.close.new.slots (done (Err c.in-Err.wrong)) in
     subst P c.self.view_is
     (asked_fails v c.self.invariant.code (operation.Close c.args.place) (ap operation_of c.self.view_is ∙ c.requires.due.next) (no_end c.args.place)
@@ -57,8 +59,8 @@ returns-in-Err-clause-step c bs =
 pub returns-in-Ok-clause-step : goal.returns-in-Ok-clause-step
 returns-in-Ok-clause-step c bs =
     let i = c.self.inside in
-    let v : Coded = record { state = record { phase = i.phase; current = i.current; registers = i.registers; steps = i.steps }; code = i.code } in
-    let n : Coded = record { state = record { phase = phase.Blocked; current = i.current; registers = c.advance.new.self; steps = i.steps + 1 }; code = i.code }
+    let v : Coded = coded_of i.phase i.current i.reacting i.registers i.steps i.signals i.code in
+    let n : Coded = coded_of phase.Blocked i.current i.reacting c.advance.new.self (i.steps + 1) i.signals i.code
     in
     let to : n.state ≡ record (stepped v.state i.registers.operands) { phase = phase.Blocked } =
     ap (λ (r : Core). record n.state { registers = r }) c.advance.ensures

@@ -6,10 +6,11 @@ use Rattle.gq_bytecode.specs.Cores.{Core}
 use Rattle.gq_bytecode.specs.Programs.{code_in}
 use Rattle.gq_leaf.specs.Leaf_states.{section_at, stepped}
 use Rattle.gq_leaf.specs.Leaves_steps.{Does}
+use Rattle.gq_leaf.proofs.Signal_counts.{one_more}
 use Rattle.gq_leaf.proofs.Leaves_stepping.{steps_err, steps_ok}
 use Rattle.gq_statements.specs.declared.actor.Actor.{Actor}
 use Rattle.gq_statements.specs.Slot_statements.{done}
-use Rattle.gq_leaf.specs.Coded.{Coded, operation_of}
+use Rattle.gq_leaf.specs.Coded.{Coded, operation_of, coded_of}
 use Rattle.gq_leaf.specs.Leaf_steps.{LeadsTo}
 use Rattle.gq_leaf.specs.internal.Leaf_invariant.{IsInside}
 use Rattle.gq_leaf.proofs.Operation_leads_step.{inside_after, leading, memory_before, memory_instruction, not_end, ranged_next, small_place}
@@ -18,14 +19,14 @@ use Rattle.gq_leaf.proofs.leaf.Leaf.memory.Goals as goal
 pub do_memory-requires-clause-ranged : goal.do_memory-requires-clause-ranged
 do_memory-requires-clause-ranged c =
     let i = c.self.inside in
-    let v : Coded = record { state = record { phase = i.phase; current = i.current; registers = i.registers; steps = i.steps }; code = i.code } in
+    let v : Coded = coded_of i.phase i.current i.reacting i.registers i.steps i.signals i.code in
     let does = c.args.operation in
     ranged_next v does c.self.invariant.code (ap operation_of c.self.view_is ∙ c.requires.due.next) (not_end does c.requires.memory) c.requires.memory
 
 pub advance-requires : goal.advance-requires
 advance-requires c =
     let i = c.self.inside in
-    let v : Coded = record { state = record { phase = i.phase; current = i.current; registers = i.registers; steps = i.steps }; code = i.code } in
+    let v : Coded = coded_of i.phase i.current i.reacting i.registers i.steps i.signals i.code in
     let does = c.args.operation in
     let same : c.do_memory.new.registers.position ≡ i.registers.position = ap (λ (r : Core). r.position) c.do_memory.ensures.leaves.registers in
     let P : ℕ → Type 0 = λ n. n < 2 ^ 32 in
@@ -35,23 +36,24 @@ advance-requires c =
 pub invariant_of-self-in-Ok : goal.invariant_of-self-in-Ok
 invariant_of-self-in-Ok c =
     let i = c.self.inside in
-    let v : Coded = record { state = record { phase = i.phase; current = i.current; registers = i.registers; steps = i.steps }; code = i.code } in
+    let v : Coded = coded_of i.phase i.current i.reacting i.registers i.steps i.signals i.code in
     let does = c.args.operation in
     let after : c.advance.new.self.position ≡ i.registers.position + 1 =
     ap (λ (r : Core). r.position) c.advance.ensures ∙ ap (λ (r : Core). r.position + 1) c.do_memory.ensures.leaves.registers in
-    let P : ℕ → Type 0 = λ n. IsInside (code_in (section_at i.current) i.code.sections) n in
+    let P : ℕ → Type 0 = λ n. IsInside (code_in (section_at i.current i.reacting) i.code.sections) n in
     record {
       code = c.self.invariant.code;
       inside = subst P (sym after) (inside_after v does c.self.invariant.code (ap operation_of c.self.view_is ∙ c.requires.due.next)
           (not_end does c.requires.memory) (memory_before does c.requires.memory));
       placed = c.self.invariant.placed;
+      taken = one_more i.steps i.signals c.self.invariant.taken;
     }
 
 pub returns-in-Err-clause-step : goal.returns-in-Err-clause-step
 returns-in-Err-clause-step c =
     let i = c.self.inside in
-    let v : Coded = record { state = record { phase = i.phase; current = i.current; registers = i.registers; steps = i.steps }; code = i.code } in
-    let n : Coded = record { state = record { phase = i.phase; current = i.current; registers = c.do_memory.new.registers; steps = i.steps }; code = i.code } in
+    let v : Coded = coded_of i.phase i.current i.reacting i.registers i.steps i.signals i.code in
+    let n : Coded = coded_of i.phase i.current i.reacting c.do_memory.new.registers i.steps i.signals i.code in
     let does = c.args.operation in
     let x = c.args.number in
     let bs = c.args.addresses.now in
@@ -69,8 +71,8 @@ returns-in-Err-clause-step c =
 pub returns-in-Ok-clause-step : goal.returns-in-Ok-clause-step
 returns-in-Ok-clause-step c =
     let i = c.self.inside in
-    let v : Coded = record { state = record { phase = i.phase; current = i.current; registers = i.registers; steps = i.steps }; code = i.code } in
-    let n : Coded = record { state = record { phase = i.phase; current = i.current; registers = c.advance.new.self; steps = i.steps + 1 }; code = i.code } in
+    let v : Coded = coded_of i.phase i.current i.reacting i.registers i.steps i.signals i.code in
+    let n : Coded = coded_of i.phase i.current i.reacting c.advance.new.self (i.steps + 1) i.signals i.code in
     let does = c.args.operation in
     let x = c.args.number in
     let bs = c.args.addresses.now in

@@ -2,6 +2,7 @@
 use Rattle.std.proofs.Common.{ap}
 use Rattle.gq_model.specs.declared.section.Section.TheVariants.{Main}
 use Rattle.gq_bytecode.specs.Cores.{Core}
+use Rattle.gq_leaf.proofs.Signal_counts.{one_more}
 use Rattle.gq_leaf.proofs.Sound_program_code.{first_inside}
 use Rattle.gq_leaf.proofs.leaf.Leaf.serve.Goals as goal
 
@@ -12,4 +13,5 @@ invariant_of-self c =
       code = c.self.invariant.code;
       inside = first_inside i.code Main c.clear.new.self.position c.self.invariant.code (ap (λ (r : Core). r.position) c.clear.ensures);
       placed = c.place-self-inside.ensures;
+      taken = one_more i.steps i.signals c.self.invariant.taken;
     }

@@ -10,4 +10,7 @@ forget_lines-requires c =
     let s = old.world.scenario in
     let w = c.replace.new.dest in
     let same = same_loaded (loaded c.args.scenario.now) c.in_ok-world.world.scenario s c.in_ok-world.ensures.loaded c.requires.loaded in
-    record { walk = walk_moved s old w (ap (λ (w : World). w.scenario) c.replace.ensures.after ∙ same) c.requires.walk }
+    record {
+      walk = walk_moved s old w (ap (λ (w : World). w.scenario) c.replace.ensures.after ∙ same)
+          (ap (λ (w : World). w.stopped) c.replace.ensures.after ∙ c.in_ok-world.ensures.running) c.requires.walk;
+    }

@@ -20,6 +20,7 @@ loop-place-preserved c =
         choices = l.invariant.walk.choices;
         count = count ∙ l.invariant.walk.count;
         turns = l.invariant.walk.turns;
+        running = l.invariant.walk.running;
       };
       world = l.invariant.world;
       past = l.invariant.past;

@@ -11,6 +11,6 @@ returns-in-Ok-clause-walk c =
     let parts = c.in-Ok.parts in
     let table = c.table.ensures in
     begins w.scenario (record { world = w; choices = parts.0; said = parts.1; past = c.new.result }) refl
-    (c.read_laws.ensures.ready c.args.scenario.now w.scenario c.in_ok-world.ensures.loaded) c.in_ok-world.ensures.world
+    (c.read_laws.ensures.ready c.args.scenario.now w.scenario c.in_ok-world.ensures.loaded) c.in_ok-world.ensures.running c.in_ok-world.ensures.world
     (subst (λ s. AreChoices s parts.0) table c.in-Ok.ensures.choices) (c.in-Ok.ensures.none ∙ ap (λ s. no_lines (components s)) table)
     (c.in-Ok.ensures.count ∙ ap (λ s. length (components s)) table) c.new.ensures.items

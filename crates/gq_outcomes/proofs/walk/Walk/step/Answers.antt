@@ -9,6 +9,9 @@ use Rattle.gq_outcomes.specs.internal.Walks.{PutsLine, said_of}
 use Rattle.gq_outcomes.proofs.Walk_facts.{no_line, none_put, on_ok, steps_are}
 use Rattle.gq_outcomes.proofs.walk.Walk.step.Goals as goal
 
+pub step-requires-clause-running : goal.step-requires-clause-running
+step-requires-clause-running c = c.requires.walk.running
+
 pub returns-in-Line-clause-steps : goal.returns-in-Line-clause-steps
 returns-in-Line-clause-steps c =
     let old = c.args.self.now in
@@ -44,6 +47,7 @@ returns-in-Idle c =
         choices = c.requires.walk.choices;
         count = c.requires.walk.count;
         turns = c.requires.walk.turns;
+        running = c.step.ensures.stopped;
       };
       past = refl;
       steps = steps_are old.world.scenario old mid x event c.step.ensures.stepped (none_put (said_of old) x (line_by o event) (no_line o event none));

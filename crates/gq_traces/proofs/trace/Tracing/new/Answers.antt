@@ -19,4 +19,5 @@ returns-clause-can c =
       stands = all_stand all stands (start_aheads (components s))
           (subst (λ (l : List Entries). AreAheads l stands (start_aheads (components s))) c.as_slice.ensures.value first);
       noted = c.in_ok-notes.ensures;
+      running = c.requires.running;
     }

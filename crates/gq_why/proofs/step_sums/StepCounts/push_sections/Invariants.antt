@@ -6,5 +6,5 @@ use Rattle.gq_why.proofs.step_sums.StepCounts.push_sections.Given as goal
 -- the lines so far, with those of the sections that are left, are all
 abbrev pub invariant-loop-part : goal.invariant-loop-part
 invariant-loop-part l =
-    l.text.items ++ section_lines (system l.self) l.leaf l.component (drop l.part l.component.node.program.sections)
-    ≡ l.fn.text.items ++ section_lines (system l.self) l.leaf l.component l.component.node.program.sections
+    l.text.items ++ section_lines l.runs.cause (system l.self) l.leaf l.component (drop l.part l.component.node.program.sections)
+    ≡ l.fn.text.items ++ section_lines l.runs.cause (system l.self) l.leaf l.component l.component.node.program.sections

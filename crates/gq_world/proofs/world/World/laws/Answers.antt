@@ -7,7 +7,7 @@ returns-clause-upheld c =
     let m = c.self.inside.machine in
     let w = c.args.self.now in
     let stands = stands_seen m.scenario w.scenario m.world w.world (ap (λ v. v.scenario) c.self.view_is)
-    (ap (λ v. v.world) c.self.view_is) c.self.invariant.stands in
+    (ap (λ v. v.world) c.self.view_is) c.self.invariant.budgeted.stands in
     upheld_here c.accepted_laws.ensures.promises w.scenario w.world stands
 
 pub returns-clause-goes_on : goal.returns-clause-goes_on
@@ -15,5 +15,5 @@ returns-clause-goes_on c = λ x.
     let m = c.self.inside.machine in
     let w = c.args.self.now in
     let stands = stands_seen m.scenario w.scenario m.world w.world (ap (λ v. v.scenario) c.self.view_is)
-    (ap (λ v. v.world) c.self.view_is) c.self.invariant.stands in
+    (ap (λ v. v.world) c.self.view_is) c.self.invariant.budgeted.stands in
     defined c.accepted_laws.ensures.promises w.scenario w.world x stands

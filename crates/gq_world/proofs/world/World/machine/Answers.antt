@@ -7,4 +7,4 @@ pub returns-clause-stands : goal.returns-clause-stands
 returns-clause-stands c =
     let m = c.self.inside.machine in
     let w = c.args.self.now in
-    stands_seen m.scenario w.scenario m.world w.world (ap (λ v. v.scenario) c.self.view_is) (ap (λ v. v.world) c.self.view_is) c.self.invariant.stands
+    stands_seen m.scenario w.scenario m.world w.world (ap (λ v. v.scenario) c.self.view_is) (ap (λ v. v.world) c.self.view_is) c.self.invariant.budgeted.stands

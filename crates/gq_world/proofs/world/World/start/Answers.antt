@@ -1,5 +1,5 @@
-use Rattle.std.proofs.Common.{rules}
+use Rattle.gq_world.proofs.World_turn_facts.{kept_at_start}
 use Rattle.gq_world.proofs.world.World.start.Goals as goal
 
-pub returns-clause-running : goal.returns-clause-running
-returns-clause-running c = search rules
+pub invariant_of-result : goal.invariant_of-result
+invariant_of-result c = kept_at_start c.args.machine.scenario c.args.machine.world c.args.budgets.items c.requires.stands c.requires.start c.requires.budgets

@@ -1,0 +1,9 @@
+-- The signals of a leaf.
+use Rattle.std.proofs.Common.{refl}
+use Rattle.gq_machine.proofs.Machine_reader_values.{read}
+use Rattle.gq_machine.proofs.machine.Machine.signals.Goals as goal
+
+pub returns : goal.returns
+returns c =
+    read c.self.inside c.args.self.now c.self.view_is c.self.invariant (λ l. l.signals) (λ leaf st ts h. refl) c.args.leaf c.requires c.index.result
+    c.index-2.result.now c.index-2.ensures c.index.ensures c.signals.result.now (λ d. c.signals.ensures)

@@ -1,0 +1,17 @@
+use Rattle.std.proofs.Common.{◌-◌, ◌+◌}
+use Rattle.gq_model.specs.machine.Run.{turns_of}
+use Rattle.gq_model.specs.machine.Scenario.{system}
+use Rattle.gq_traces.specs.internal.Peaking.{HasTurns, Peaked}
+use Rattle.gq_traces.proofs.Repeated_leaf_turns.{HasCome}
+use Rattle.gq_traces.proofs.peaks.take_able.Given as goal
+
+-- the turns so far were taken, each of which is a step
+abbrev pub invariant-loop-done : goal.invariant-loop-done
+invariant-loop-done l = record {
+  come : HasCome (system l.fn.world.scenario) l.leaf l.most l.done l.fn.world.world l.world.world;
+  peaked : Peaked 0 (λ runs now. HasTurns (system l.fn.world.scenario) l.leaf runs l.turns now l.done) (turns_of (system l.fn.world.scenario) l.leaf l.done)
+      l.turns (l.turns + l.done) l.fn.world l.world l.fn.peaks l.peaks;
+}
+
+abbrev pub decreases-loop-done : goal.decreases-loop-done
+decreases-loop-done l = l.most - l.done
