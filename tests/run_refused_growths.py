@@ -95,7 +95,7 @@ def runs():
     for words, _, _, (text, _, status) in tabled(tomllib.loads(RULES.read_text())):
         if status == 0:
             yield " ".join(words), words, b"", text
-    yield "--version", ["--version"], b"", b"trade 1.0.0\n"
+    yield "--version", ["--version"], b"", b"trade 2.0.0\n"
     for name in SOME_CASES + OF_DESIGNERS + OF_SIZES + OF_FITS + OF_RUNS:
         case = CASES / name
         command, *more = (case / "command").read_text().split()

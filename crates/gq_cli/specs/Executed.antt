@@ -131,7 +131,7 @@ rules_written table None = Ok (lines_of_all table)
 
 -- the program and its version
 abbrev pub version_written : Written
-version_written = Ok (codes "trade 1.0.0\n")
+version_written = Ok (codes "trade 2.0.0\n")
 
 -- what fits the text of a scenario
 abbrev pub fits : Fitting → List ℕ → List ℕ → Type 0

@@ -5,7 +5,7 @@ use std::alloc::AllocError;
 use thiserror::Error;
 
 /// The program and its version, as a line.
-pub const VERSION: &str = "trade 1.0.0\n";
+pub const VERSION: &str = "trade 2.0.0\n";
 
 /// What is asked of a scenario alone.
 #[derive(Clone, Copy, Debug, PartialEq, Eq)]

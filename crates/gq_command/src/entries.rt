@@ -119,7 +119,7 @@ const TURNS: CommandEntry<'static> = CommandEntry {
     also: Some(Flag {
         name: "signals",
         kind: FlagKind::Rounds,
-        help: "Then submit each signal N times, and bring all work to rest after each",
+        help: "Then submit all signals, and bring all work to rest, N times",
     }),
     about: "Print turns that bring all work of the scenario in the file SCENARIO to rest",
     usage: "trade turns [--seed <N>] [--signals <N>] <SCENARIO>",

@@ -9,12 +9,12 @@ ghost use Rattle.gq_laws.specs.Reached_worlds.{IsReached};
 ghost use Rattle.gq_laws.specs.Sound_scenarios.{IsSound};
 ghost use Rattle.gq_laws.specs.Stands.{Stands};
 ghost use Rattle.gq_laws.specs.Typing.{IsTyped};
-ghost use Rattle.gq_model.specs.machine.Run.{Acts, set_input};
+ghost use Rattle.gq_model.specs.machine.Run.{Acts, set_input, submit};
 
-/// What holds of every run of a scenario that is as the readers give them and is accepted, whatever the turns and the inputs.
+/// What holds of every run of a scenario that is as the readers give them and is accepted, whatever the turns, inputs and signals.
 ///
-/// `first`, `kept`, `set`, `promises`: there is an invariant of worlds, which speaks of no turns. It holds of the start of such a scenario, and each step and
-/// each setting of an input keeps it. All that is promised of a world follows from it.
+/// `first`, `kept`, `set`, `submitted`, `promises`: there is an invariant of worlds, which speaks of no turns. It holds of the start of such a scenario. Each
+/// step, each setting of an input and each signal that is submitted keeps it. All that is promised of a world follows from it.
 ///
 /// `accounts`: so in each account of such a world a leaf has used no more than its quota, of bytes and of capabilities. It has taken no more steps than its
 /// budget.
@@ -29,12 +29,13 @@ ghost use Rattle.gq_model.specs.machine.Run.{Acts, set_input};
 /// That is at most its quantum and what it has received. The quotas of all nodes sum to what the root was given. A session that ends gives its whole donation
 /// back, and its server holds nothing for it any more; the reply to a close ends it.
 ///
-/// `runs`: over any turns and settings no step is wrong, and the last world and each on the way is such a one. The text is whole: all lines, and then the
+/// `runs`: over any turns, settings and signals no step is wrong, and the last world and each on the way is such a one. The text is whole: all lines, and then the
 /// accounts.
 pub fn accepted_laws()
     ensures first { (s : Scenario) → IsSound s → Stands s (start (system s)) }
     ensures kept { (s : Scenario) (w : World) (x : ℕ) (new : World) (event : Event) → Stands s w → next (system s) w x ≡ Ok (new, event) → Stands s new }
     ensures set { (s : Scenario) (w : World) (x i n : ℕ) → Stands s w → Stands s (set_input (system s) w x i n) }
+    ensures submitted { (s : Scenario) (w : World) (x i : ℕ) → Stands s w → Stands s (submit w x i) }
     ensures promises { (s : Scenario) (w : World) → Stands s w → IsUpheld s w }
     ensures accounts { (s : Scenario) (w : World) → IsUpheld s w → KeepsAccounts s w }
     ensures typed { (s : Scenario) (w : World) → IsSound s → IsReached s w → IsTyped (system s) w }

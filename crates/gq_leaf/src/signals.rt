@@ -5,10 +5,8 @@ ghost use Rattle.gq_model.specs.machine.Step.{first_signal};
 ghost use Rattle.gq_leaf.specs.internal.Signal_lists.{AreTakenWithin, first_from, with_submitted, with_taken};
 
 use arrayvec::ArrayVec;
+use gq_model::limits::SIGNALS;
 use std::marker::Model;
-
-/// The greatest number of signals of a leaf.
-pub const SIGNALS: usize = 3;
 
 /// A signal of a leaf: whether it was submitted and is not taken yet, and how often it was taken.
 #[derive(Clone, Copy, Debug, Default, PartialEq, Eq)]

@@ -8,9 +8,9 @@ ghost use Rattle.gq_machine.specs.internal.Taken_requests.{takes};
 
 use crate::machine_state::{Fixed, MachineState};
 use crate::taken_requests::accept;
-use gq_leaf::signals::SIGNALS;
 use gq_leaf::step_laws::reacts;
 use gq_model::fault::Wrong;
+use gq_model::limits::SIGNALS;
 use gq_model::section::Section;
 use gq_statements::paid_laws::lawful;
 

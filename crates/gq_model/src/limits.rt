@@ -52,6 +52,9 @@ pub const LOCALS: usize = 8;
 /// The inputs of a leaf.
 pub const INPUTS: usize = 8;
 
+/// The signals of a leaf.
+pub const SIGNALS: usize = 3;
+
 /// The slots of a leaf.
 pub const OWN_SLOTS: usize = 64;
 

@@ -41,9 +41,9 @@ What to do: Ask less often, or for more at a time; shorten the section that is a
         "OverCaps",
         "a leaf's `main` may hold and have lent more capabilities at one point than its `caps`",
         "\
-A leaf's `main` may hold and have lent more capabilities at one point than its `caps`. Versions
-2 and 3. Each space, slice, large block and pool costs one, the heap one for each page, and a
-session the `need-caps` and `upgrade-caps` that are given.
+A leaf's `main` may hold and have lent more capabilities at one point than its `caps`. From
+version 2 on. Each space, slice, large block and pool costs one, the heap one for each page, and
+a session the `need-caps` and `upgrade-caps` that are given.
 
 What usually leads to it:
 - `caps` was not raised with a slot or a session more

@@ -31,8 +31,8 @@ that has neither `program` nor `code`, `service` for a route that has neither `s
 `any-service`, `child` for a route without a target.
 
 What usually leads to it:
-- the key is forgotten; versions 2 and 3 need `caps` in the top table and in each node, and
-  `need-caps` in each interface
+- the key is forgotten; from version 2 on the top table and each node need `caps`, and each
+  interface `need-caps`
 - the key stands under another header: each key belongs to the last header above it, so those of
   the top table come before all headers
 
@@ -262,7 +262,7 @@ What to do: Lower the `caps` of a node, or raise those of the init and of each i
         "\
 An init offers a service that has no interface, or that the child named for it does not serve.
 A child serves a service if it is a leaf that provides it, or an init that offers it. The line
-names the init. Version 3.
+names the init. From version 3 on.
 
 What usually leads to it:
 - the service or the child is misspelt, or has another name elsewhere

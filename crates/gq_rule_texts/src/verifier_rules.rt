@@ -285,7 +285,7 @@ What to do: Use fewer rounds, or part the work among calls.",
         "at one point of a server's section a session costs more capabilities than what its client has given for its level",
         "\
 At one point of a server's section a session costs more capabilities than what its client has
-given for its level. Versions 2 and 3. The object, each space and each slice of the session's
+given for its level. From version 2 on. The object, each space and each slice of the session's
 slots cost one, and its links what they give; together at most `need-caps` plus the
 `upgrade-caps` up to the level.
 

@@ -201,9 +201,6 @@ pub fn reported(routes: &Option<Vec<Route>>) -> Option<&[Route]>
     }
 }
 
-/// The greatest number of signals of a leaf.
-pub const GREATEST_SIGNALS: u8 = 3;
-
 /// The greatest value of each input of a leaf, from input 0 on.
 pub type Inputs = ArrayVec<u32, INPUTS>;
 

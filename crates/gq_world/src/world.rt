@@ -60,7 +60,7 @@ pub enum Stop {
 }
 
 // The most signals that are counted: the most lines of a list of turns.
-const SIGNALS: u32 = 16_777_217;
+const COUNTED_SIGNALS: u32 = 16_777_217;
 
 /// The verified bounds of a signal: how many steps it takes at most each time that it is taken.
 #[derive(Clone, Copy, Debug, PartialEq, Eq)]
@@ -344,7 +344,7 @@ impl World {
     {
         accepted_laws();
         self.machine.submit(leaf, signal)?;
-        if self.signals < SIGNALS {
+        if self.signals < COUNTED_SIGNALS {
             self.signals += 1;
         } else {
             self.stopped = true;

@@ -1,5 +1,5 @@
 use Rattle.gq_laws.proofs.typed_worlds.Accepted_run_typed.{reached_typed}
-use Rattle.gq_laws.proofs.upheld_worlds.Standing_world_invariant.{stands_first, stands_next, stands_set, stands_upheld}
+use Rattle.gq_laws.proofs.upheld_worlds.Standing_world_invariant.{stands_first, stands_next, stands_set, stands_submit, stands_upheld}
 use Rattle.gq_laws.proofs.upheld_worlds.Upheld_accounts.{upheld_accounts}
 use Rattle.gq_laws.proofs.upheld_worlds.Upheld_runs.{reached_upheld, run_upholds}
 use Rattle.gq_laws.proofs.accepted_runs.accepted_laws.Goals as goal
@@ -12,6 +12,9 @@ returns-clause-kept c = stands_next
 
 pub returns-clause-set : goal.returns-clause-set
 returns-clause-set c = stands_set
+
+pub returns-clause-submitted : goal.returns-clause-submitted
+returns-clause-submitted c = stands_submit
 
 pub returns-clause-promises : goal.returns-clause-promises
 returns-clause-promises c = stands_upheld
