@@ -6,13 +6,14 @@
         for leaf, line in world.run():
             print(world.label(world.node(leaf)), line)
 
-Leaves and nodes are numbers, from 0 in preorder. A world stays on the thread that loaded it: a call on another thread raises RuntimeError. End a world by
-`close` or a `with` statement. TRADE_LIBRARY in the environment names another library file.
+Leaves and nodes are numbers, from 0 in preorder; what is no whole number raises TypeError. A world stays on the thread that loaded it: a call on another
+thread raises RuntimeError. End a world by `close` or a `with` statement. TRADE_LIBRARY in the environment names another library file. Python 3.8 is enough.
 """
 from __future__ import annotations
 
 import ctypes
 import enum
+import operator
 import os
 import pathlib
 import threading
@@ -179,9 +180,17 @@ def _bytes(text: Union[str, bytes]) -> bytes:
     return text.encode() if isinstance(text, str) else bytes(text)
 
 
+def _whole(value: Any, what: str) -> int:
+    """A whole number. TypeError if it is none: C would cut 0.5, and takes no text."""
+    try:
+        return operator.index(value)
+    except TypeError:
+        raise TypeError(f"{what} is no whole number: {value!r}") from None
+
+
 def _number(value: int, what: str) -> int:
-    """A number that C can take. IndexError if it is none."""
-    if not 0 <= value < _NONE:
+    """A number that C can take. IndexError if it is too large or negative, TypeError if it is no whole number."""
+    if not 0 <= _whole(value, what) < _NONE:
         raise IndexError(f"no {what} {value}")
     return value
 
@@ -306,9 +315,9 @@ class World:
 
     def set_input(self, leaf: int, input: int, number: int) -> None:
         """Gives an input of a leaf another value, from here on. InputError if there is no such leaf or input, or if the number is too large for it."""
-        if not self._has_numbers(leaf, input):
+        if not self._has_numbers(leaf=leaf, input=input):
             raise InputError(f"leaf {leaf} has no input {input}")
-        if not 0 <= number <= _NONE:
+        if not 0 <= _whole(number, "number") <= _NONE:
             raise InputError(f"{number} is not within the values of input {input} of leaf {leaf}")
         status = _calls().trade_set_input(self._at(), leaf, input, number)
         if status == _NO_INPUT:
@@ -319,13 +328,13 @@ class World:
     def reaction(self, leaf: int, signal: int) -> Reaction:
         """The verified bounds of a signal of a leaf. SignalError if there is no such leaf or signal."""
         read = _Reaction()
-        if not self._has_numbers(leaf, signal) or not _calls().trade_read_reaction(self._at(), leaf, signal, ctypes.byref(read)):
+        if not self._has_numbers(leaf=leaf, signal=signal) or not _calls().trade_read_reaction(self._at(), leaf, signal, ctypes.byref(read)):
             raise SignalError(f"leaf {leaf} has no signal {signal}")
         return Reaction(read.steps, read.all)
 
     def signal(self, leaf: int, signal: int) -> None:
         """Submits a signal to a leaf. It counts once until it is taken. SignalError if there is no such leaf or signal."""
-        if not self._has_numbers(leaf, signal) or _calls().trade_signal(self._at(), leaf, signal) != _SUBMITTED:
+        if not self._has_numbers(leaf=leaf, signal=signal) or _calls().trade_signal(self._at(), leaf, signal) != _SUBMITTED:
             raise SignalError(f"leaf {leaf} has no signal {signal}")
 
     def is_at_rest(self) -> bool:
@@ -341,7 +350,7 @@ class World:
 
     def turns(self, leaf: int, most: int) -> Turns:
         """Turns of a leaf, at most so many: until one gives a line or finishes, or the leaf can't take one. IndexError if there is no such leaf."""
-        if not 0 <= most <= _NONE:
+        if not 0 <= _whole(most, "most") <= _NONE:
             raise ValueError(f"no number of turns: {most}")
         held, taken, written = self._at(), ctypes.byref(self._taken), ctypes.byref(self._written)
         event = _calls().trade_turns(held, _number(leaf, "leaf"), most, taken, self._line, _LINE, written)
@@ -364,9 +373,9 @@ class World:
                 yield leaf.value, line
 
     @staticmethod
-    def _has_numbers(*values: int) -> bool:
-        """Whether C can take these numbers."""
-        return all(0 <= value < _NONE for value in values)
+    def _has_numbers(**values: int) -> bool:
+        """Whether C can take these numbers. TypeError if one is no whole number."""
+        return all(0 <= _whole(value, what) < _NONE for what, value in values.items())
 
     def _said(self, event: int) -> Optional[str]:
         """The text of the line that was given, if one was."""

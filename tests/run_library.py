@@ -303,6 +303,17 @@ def try_python_signals(tally, trade):
         tally.expect("python: a large input", ("InputError", fault), refusal_of(lambda: world.set_input(sensor, 0, 1001)))
         numbers = (controller, 1), (controller, -1), (controller, 1 << 40), (sensor, 0), (5, 0), (-1, 0)
         faults = [("SignalError", f"leaf {leaf} has no signal {signal}") for leaf, signal in numbers]
+        calls = {
+            "leaf is no whole number: 0.5": lambda: world.turn(0.5),
+            "leaf is no whole number: '0'": lambda: world.turn("0"),
+            "node is no whole number: None": lambda: world.label(None),
+            "most is no whole number: 1.0": lambda: world.turns(0, 1.0),
+            "number is no whole number: 1.5": lambda: world.set_input(sensor, 0, 1.5),
+            "input is no whole number: 0.0": lambda: world.set_input(sensor, 0.0, 1),
+            "signal is no whole number: '0'": lambda: world.signal(controller, "0"),
+            "leaf is no whole number: b'4'": lambda: world.reaction(b"4", 0),
+        }
+        tally.expect("python: no whole numbers", [("TypeError", text) for text in calls], [refusal_of(call) for call in calls.values()])
         tally.expect("python: no such signal", faults, [refusal_of(lambda: world.signal(*given)) for given in numbers])
         tally.expect("python: no bounds of it", faults, [refusal_of(lambda: world.reaction(*given)) for given in numbers])
         tally.expect("python: nothing of that was a signal", True, world.is_at_rest())

@@ -21,6 +21,7 @@ SCRIPTS = [
     ("refused growths", "run_refused_growths.py", [TRADE]),
     ("refused growths of component memory", "run_refused_growths.py", [BENCHMARK]),
     ("the library for programs in C", "run_library.py", [LIBRARY]),
+    ("the image without an operating system", "run_bare.py", [LIBRARY]),
     ("failing writes", "run_failing_writes.py", [TRADE]),
     ("hostile texts", "run_hostile_texts.py", [TRADE]),
     ("outcomes", "run_outcomes.py", [TRADE]),
