@@ -1,7 +1,7 @@
 #!/usr/bin/env python3
 """Tries library/bare/, a system without an operating system, in QEMU: run_bare.py
 
-- Its Makefile builds the image without a warning, and prints what to do where the library or QEMU is not there.
+- Its Makefile builds the image, warnings being errors, and prints what to do where the library or QEMU is not there.
 - It boots, and loads examples/thermostat.toml. Each measurement that comes in on the serial line changes the power as it has to; bad lines are answered.
 - It takes 1,000 ticks and more, each with a reaction. No call of the allocator comes after the load. The stack and the heap have room left.
 - An arena that is too small, a scenario that is refused, one without the thermostat's components, a processor without SSE4.2: each ends with a line.
@@ -119,7 +119,7 @@ def figures(machine):
 def tries_the_image(counts, folder):
     """The thermostat: its lines, its ticks, and what it needs."""
     status, text = make(folder, "thermostat.elf", "HERTZ=200")
-    counts.check(status == 0 and "warning" not in text, f"the image is not built: {text}")
+    counts.check(status == 0, f"the image is not built: {text}")
     if status != 0:
         return
     machine = Machine(folder / "thermostat.elf")

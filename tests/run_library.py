@@ -1,7 +1,7 @@
 #!/usr/bin/env python3
 """Tries the C library, library/libtrade.a, which `./trade library` or ./check builds: run_library.py
 
-- A C compiler, and a C++ compiler where there is one, take the header with all warnings as errors.
+- A C compiler, and a C++ compiler where there is one, take the header with all warnings as errors. No symbol is global but the functions of the header.
 - tests/run_by_library.c does what `trade run` does: every case of `run`, and every example, has to give the same bytes and the same status. So it does with a
   call for each turn, and under the address and undefined-behaviour sanitizers, where the compiler has them.
 - No case calls the allocator between load and drop, and none leaves a block. Where the n-th call is refused, for each n, the status is 3 and no block is left.
@@ -121,6 +121,16 @@ def try_header(room, tally):
     words = [CXX, "-std=c++11", *WARNINGS, f"-I{LIBRARY}", source, LIBRARY / "libtrade.a", "-o", room / "only"]
     tally.expect("the header in C++", 0, subprocess.run(words).returncode)
     tally.expect("a program in C++", 0, subprocess.run([room / "only"]).returncode)
+
+
+def try_symbols(tally):
+    """No symbol of the archive and of the shared library is global but the functions of the header."""
+    functions = sorted(set(re.findall(r"\b(trade_\w+)\(", (LIBRARY / "trade.h").read_text())))
+    for name, words in ("libtrade.a", ["-g"]), ("libtrade.so", ["-D"]):
+        if (LIBRARY / name).is_file() and shutil.which("nm"):
+            listed = subprocess.run(["nm", *words, "--defined-only", "-f", "posix", LIBRARY / name], capture_output=True, text=True, check=True).stdout
+            found = sorted(line.split()[0] for line in listed.splitlines() if " " in line)
+            tally.expect(f"the symbols of {name}", functions, found)
 
 
 def of_runs():
@@ -387,6 +397,7 @@ def main():
     with tempfile.TemporaryDirectory() as name:
         room = pathlib.Path(name)
         try_header(room, tally)
+        try_symbols(tally)
         try_runs(room, tally, "by trade_turns", compiled(room, "turns", by_library, []))
         try_runs(room, tally, "by trade_turn", compiled(room, "turn", by_library, ["-DONE_BY_ONE"]))
         try_counts(room, tally, compiled(room, "counted", by_library, WRAPPED))

@@ -2,18 +2,33 @@
 """tools/library.py [--at FOLDER]: puts the library for programs in C into library/: libtrade.a, and libtrade.so, which library/trade.py loads.
 
 It takes what `tools/build.py gq_library` built. With --at it proves and builds the crate first, over the libraries of that folder, a copy of the repository in
-which `rt ci` has passed. Without the C compiler `cc` there is no libtrade.so. It ends with 0 where libtrade.a is there.
+which `rt ci` has passed. No symbol of libtrade.a is global but those of trade.h, where `ld` and `objcopy` are there. Without the C compiler `cc` there is no
+libtrade.so. It ends with 0 where libtrade.a is there.
 """
 import argparse
 import os
 import shutil
 import subprocess
 import sys
+import tempfile
 
 sys.dont_write_bytecode = True
 from crates import TOP, Crates  # noqa: E402
 
 NAME, TO = "gq_library", TOP / "library"
+
+
+def keep_own_symbols(made, archive, ar):
+    """Makes an archive of one object of all that another one has, in which no symbol is global but those of the header. Gives whether there are tools for it."""
+    if not shutil.which("ld") or not shutil.which("objcopy"):
+        return False
+    with tempfile.TemporaryDirectory() as room:
+        commands = [
+            ["ld", "-r", "-o", f"{room}/trade.o", "--whole-archive", str(made)],
+            ["objcopy", "--wildcard", "--keep-global-symbol=trade_*", f"{room}/trade.o"],
+            [str(ar), "rcsD", str(archive), f"{room}/trade.o"],
+        ]
+        return all(subprocess.run(command, check=False).returncode == 0 for command in commands)
 
 
 def link_shared(archive, shared):
@@ -37,7 +52,9 @@ def main():
     if not crates.archive(NAME).is_file():
         print(f"{NAME} is not built", file=sys.stderr)
         return 1
-    shutil.copyfile(crates.archive(NAME), archive)
+    if not keep_own_symbols(crates.archive(NAME), archive, crates.kit / "toolchain/bin/llvm-ar"):
+        shutil.copyfile(crates.archive(NAME), archive)
+        print("libtrade.a has global symbols beside those of trade.h: there is no ld or no objcopy", file=sys.stderr)
     if not link_shared(archive, shared):
         shared.unlink(missing_ok=True)
         print("libtrade.so was not linked: there is no C compiler for it", file=sys.stderr)
