@@ -9,7 +9,9 @@ ghost use Rattle.gq_reader.specs.Key_rules.{entries_or_none, rule_of};
 use crate::rules::{GREATEST_NUMBER, KeyRule, ValueRule, either, optional, other, required};
 use crate::value::count_at;
 use arrayvec::ArrayVec;
-use gq_model::limits::{GREATEST_BUFFER, GREATEST_CAPS, GREATEST_OBJECT, GREATEST_QUANTITY, SIGNALS};
+use gq_model::limits::{
+    GREATEST_BUFFER, GREATEST_CAPS, GREATEST_OBJECT, GREATEST_QUANTITY, SIGNALS,
+};
 use gq_scenario::key::Key;
 use gq_scenario::scenario::Version;
 use toml::Table;
@@ -133,10 +135,7 @@ pub fn leaf_rules<'a>(version: Version, interfaces: Option<&'a Table>) -> KeyRul
     let provides = optional(Key::Provides, ValueRule::Declared(interfaces));
     let after = optional(Key::After, ValueRule::NameText);
     let inputs = optional(Key::Inputs, ValueRule::Inputs);
-    let signals = optional(
-        Key::Signals,
-        ValueRule::Number(0, SIGNALS as u64),
-    );
+    let signals = optional(Key::Signals, ValueRule::Number(0, SIGNALS as u64));
     let program = either(Key::Program, &[Key::Code], ValueRule::Text);
     let code = other(Key::Code, &[Key::Program], ValueRule::Hex);
     match version {
