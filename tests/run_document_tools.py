@@ -33,6 +33,7 @@ TEXTS = [
     ("`shapes` of `gq_program`, `shapes` of `gq_asm`", ["shapes of gq_asm"]),
     ("`IsSlots` (`gq_slots`) and `IsSlots` (`gq_pages/specs`)", ["IsSlots of gq_pages"]),
     ("`python3 tools/no_such_tool.py NAME`, `need_ends` and `TRADE_NONE`", ["python3 tools/no_such_tool.py NAME"]),
+    ("`check_processor` and `no_such_handler`, `ARENA` and `NO_SUCH_ARENA`", ["no_such_handler", "NO_SUCH_ARENA"]),
     (ROWS, ["src/shapes of gq_asm", "src/prefixes of gq_asm", "src/operands of gq_rules"]),
     ("```\n`no_such_function`\n```\n    `no_such_function`\n", []),
 ]

@@ -5,7 +5,8 @@ A name is one of these.
 - `gq_x`: a crate. `Type::call` and `gq_x::call`: a call of that type or crate.
 - With a `/` or the ending of a file: the end of the path of a file or a folder, perhaps without `.rt` or `.antt`. A word of capitals stands for any name.
 - With hyphens: a case, or a key of scenarios.
-- Another word: what a crate or the C library declares, a file, or a word of the formats: a key, a statement, a command, a word that is printed.
+- Another word: what a crate, the C library or the image without an operating system declares, a file, or a word of the formats: a key, a statement, a command,
+  a word that is printed.
 
 Where a document says whose a name is, it has to be there: `a` and `b` of `gq_x`, `a` (`gq_x/specs`), and rows of tables whose columns are a crate's folders.
 """
@@ -104,7 +105,10 @@ def known():
     for path in (TOP / "examples").glob("*.toml"):
         found |= set(re.findall(r'^(?:name|provides) = "([\w-]+)"', path.read_text(encoding="utf-8"), re.M))
     found |= set(re.findall(r"\bTRADE_\w+|\btrade_\w+", (TOP / "library/trade.h").read_text(encoding="utf-8")))
-    return found | set(re.findall(r"(?:def|class) (\w+)", (TOP / "library/trade.py").read_text(encoding="utf-8")))
+    found |= set(re.findall(r"(?:def|class) (\w+)", (TOP / "library/trade.py").read_text(encoding="utf-8")))
+    bare = TOP / "library/bare"
+    found |= {name for path in bare.glob("*.c") for name in re.findall(r"^[a-z][\w ]*[ *](\w+)\([^;]*$", path.read_text(encoding="utf-8"), re.M)}
+    return found | set(re.findall(r"^(\w+) \?=", (bare / "Makefile").read_text(encoding="utf-8"), re.M))
 
 
 def is_path(path):

@@ -29,8 +29,8 @@ ghost use Rattle.gq_model.specs.machine.Run.{Acts, set_input, submit};
 /// That is at most its quantum and what it has received. The quotas of all nodes sum to what the root was given. A session that ends gives its whole donation
 /// back, and its server holds nothing for it any more; the reply to a close ends it.
 ///
-/// `runs`: over any turns, settings and signals no step is wrong, and the last world and each on the way is such a one. The text is whole: all lines, and then the
-/// accounts.
+/// `runs`: over any turns, settings and signals no step is wrong, and the last world and each on the way is such a one. The text is whole: all lines, and then
+/// the accounts.
 pub fn accepted_laws()
     ensures first { (s : Scenario) → IsSound s → Stands s (start (system s)) }
     ensures kept { (s : Scenario) (w : World) (x : ℕ) (new : World) (event : Event) → Stands s w → next (system s) w x ≡ Ok (new, event) → Stands s new }
