@@ -28,7 +28,7 @@ OTHERS = {
     *"abbrev collect const invariant libc match record refl staticlib std unfoldable unfolding with".split(),
     *"invariant_of-self loop-X-init loop-X-preserved returns-clause-NAME".split(),
     # Other programs, functions of C, settings of the tools, and what a built library has.
-    *"calloc cc clang memcpy memmove memset nm realloc python3-jsonschema RT_JOBS lang/src lang/antt/specs".split(),
+    *"calloc cc clang memcpy memmove memset nm realloc python3-jsonschema qemu-system-x86 RT_JOBS lang/src lang/antt/specs".split(),
     # Genode's.
     *"Attached_ram_dataspace Parent::upgrade Slab Sliced_heap ram_quota transfer_caps transfer_quota".split(),
 }
