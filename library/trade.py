@@ -7,7 +7,8 @@
             print(world.label(world.node(leaf)), line)
 
 Leaves and nodes are numbers, from 0 in preorder; what is no whole number raises TypeError. A world stays on the thread that loaded it: a call on another
-thread raises RuntimeError. End a world by `close` or a `with` statement. TRADE_LIBRARY in the environment names another library file. Python 3.8 is enough.
+thread raises RuntimeError. End a world by `close` or a `with` statement. The library is the one beside this file, or the one that `./trade install` put into the same PREFIX; TRADE_LIBRARY in the
+environment names another file. Python 3.8 is enough.
 """
 from __future__ import annotations
 
@@ -128,9 +129,17 @@ class _Reaction(ctypes.Structure):
     _fields_ = [(name, ctypes.c_uint64) for name in ("steps", "all")]
 
 
+def _beside() -> str:
+    """The library beside this file; where this file was installed, the one that was installed with it."""
+    here = pathlib.Path(__file__).resolve()
+    installed = here.parents[2] / "libtrade.so" if len(here.parents) > 2 else here
+    beside = here.with_name("libtrade.so")
+    return str(installed if installed.is_file() and not beside.is_file() else beside)
+
+
 def _opened() -> ctypes.CDLL:
     """The library, with the types of its functions, as trade.h has them. OSError if it can't be opened."""
-    path = os.environ.get("TRADE_LIBRARY") or str(pathlib.Path(__file__).resolve().with_name("libtrade.so"))
+    path = os.environ.get("TRADE_LIBRARY") or _beside()
     try:
         library = ctypes.CDLL(path)
     except OSError as fault:

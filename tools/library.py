@@ -1,5 +1,6 @@
 #!/usr/bin/env python3
-"""tools/library.py [--at FOLDER]: puts the library for programs in C into library/: libtrade.a, and libtrade.so, which library/trade.py loads.
+"""tools/library.py [--at FOLDER]: puts the library for programs in C into library/: libtrade.a, and libtrade.so, which library/trade.py loads. The latter is a
+link to libtrade.so.N, where N is the first number of the version of the program.
 
 It takes what `tools/build.py gq_library` built. With --at it proves and builds the crate first, over the libraries of that folder, a copy of the repository in
 which `rt ci` has passed. No symbol of libtrade.a is global but those of trade.h, where `ld` and `objcopy` are there. Without the C compiler `cc` there is no
@@ -7,6 +8,7 @@ libtrade.so. It ends with 0 where libtrade.a is there.
 """
 import argparse
 import os
+import re
 import shutil
 import subprocess
 import sys
@@ -31,13 +33,23 @@ def keep_own_symbols(made, archive, ar):
         return all(subprocess.run(command, check=False).returncode == 0 for command in commands)
 
 
+def numbered(shared):
+    """The name of the shared library with the first number of the version, which programs that are linked with it ask for."""
+    version = re.search(r'VERSION: &str = "trade (\d+)\.', (TOP / "crates/gq_command/src/command.rt").read_text(encoding="utf-8"))
+    return f"{shared.name}.{version[1]}"
+
+
 def link_shared(archive, shared):
-    """Links a shared library of all that an archive has. Gives whether there is a compiler that can."""
+    """Links a shared library of all that an archive has, and makes a link to it. Gives whether there is a compiler that can."""
     compiler = os.environ.get("CC", "cc")
     if not shutil.which(compiler):
         return False
-    whole = ["-Wl,--whole-archive", str(archive), "-Wl,--no-whole-archive", "-Wl,--gc-sections", "-Wl,-soname,libtrade.so"]
-    return subprocess.run([compiler, "-shared", "-o", str(shared), *whole], check=False).returncode == 0
+    name = numbered(shared)
+    whole = ["-Wl,--whole-archive", str(archive), "-Wl,--no-whole-archive", "-Wl,--gc-sections", f"-Wl,-soname,{name}", f"-Wl,--version-script={TO}/trade.map"]
+    if subprocess.run([compiler, "-shared", "-o", str(shared.with_name(name)), *whole], check=False).returncode != 0:
+        return False
+    shared.symlink_to(name)
+    return True
 
 
 def main():
@@ -46,7 +58,8 @@ def main():
     given = words.parse_args()
     crates, archive, shared = Crates(given.at), TO / "libtrade.a", TO / "libtrade.so"
     archive.unlink(missing_ok=True)
-    shared.unlink(missing_ok=True)
+    for old in shared.parent.glob(f"{shared.name}*"):
+        old.unlink()
     if crates.at != TOP and not crates.build(NAME, len(os.sched_getaffinity(0)), sys.stdout):
         return 1
     if not crates.archive(NAME).is_file():
@@ -56,7 +69,6 @@ def main():
         shutil.copyfile(crates.archive(NAME), archive)
         print("libtrade.a has global symbols beside those of trade.h: there is no ld or no objcopy", file=sys.stderr)
     if not link_shared(archive, shared):
-        shared.unlink(missing_ok=True)
         print("libtrade.so was not linked: there is no C compiler for it", file=sys.stderr)
     return 0
 

@@ -30,6 +30,7 @@ SCRIPTS = [
     ("traces and states", "run_traces.py", [TRADE]),
     ("lists of turns", "run_turns.py", [TRADE]),
     ("the page that shows a run", "run_viewer.py", [TRADE]),
+    ("installing", "run_install.py", [LIBRARY]),
     ("the texts of rules", "run_rule_codes.py", [TRADE]),
 ]
 BUILT_BY = {TRADE: "./trade build", BENCHMARK: "./check", LIBRARY: "./trade library"}
