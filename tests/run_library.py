@@ -129,7 +129,7 @@ def try_symbols(tally):
     for name, words in ("libtrade.a", ["-g"]), ("libtrade.so", ["-D"]):
         if (LIBRARY / name).is_file() and shutil.which("nm"):
             listed = subprocess.run(["nm", *words, "--defined-only", "-f", "posix", LIBRARY / name], capture_output=True, text=True, check=True).stdout
-            found = sorted(line.split()[0] for line in listed.splitlines() if " " in line)
+            found = sorted(words[0].partition("@")[0] for line in listed.splitlines() if len(words := line.split()) > 1 and words[1] != "A")
             tally.expect(f"the symbols of {name}", functions, found)
 
 

@@ -136,7 +136,7 @@ def check_commands():
                 yield f"no table of {document} has the command {name}"
         if not re.search(rf"^\|.*`{name}(_of)?`", text_of("docs/PROOFS.md"), re.MULTILINE):
             yield f"the index of docs/PROOFS.md does not have the command {name}"
-    known = {*names, *NO_COMMANDS, "build", "help", "library"}
+    known = {*names, *NO_COMMANDS, "build", "help", "install", "library", "uninstall"}
     for path in [*documents(), *sources()]:
         text = path.read_text(encoding="utf-8")
         comments = text if path.suffix == ".md" else "\n".join(re.findall("//.*", text))

@@ -29,6 +29,8 @@ OTHERS = {
     *"invariant_of-self loop-X-init loop-X-preserved returns-clause-NAME".split(),
     # Other programs, functions of C, settings of the tools, and what a built library has.
     *"calloc cc clang memcpy memmove memset nm realloc python3-jsonschema qemu-system-x86 RT_JOBS lang/src lang/antt/specs".split(),
+    # What is installed.
+    *"trade-view PKG_CONFIG_PATH PREFIX/lib/pkgconfig PREFIX/lib/python3/dist-packages libtrade.so.2".split(),
     # Genode's.
     *"Attached_ram_dataspace Parent::upgrade Slab Sliced_heap ram_quota transfer_caps transfer_quota".split(),
 }
